@@ -13,6 +13,8 @@
 mod jobs;
 mod patch;
 mod patch_scene;
+#[cfg(test)]
+mod tests;
 mod traits;
 mod values;
 

@@ -73,9 +73,8 @@ fn paint_row(rgba: &mut Vec<u8>, squares: &[u8; 256], area: &Area, j: u32) -> Re
 fn shade(squares: &[u8; 256], part: u32, x: u32, y: u32) -> u8
     ensures { result ≡ shade squares.now part x y }
 {
-    if part == 0 && x < 3_840 && y < 3_840 {
-        squares[(y / 240 * 16 + x / 240) as usize]
-    } else {
-        255
+    if part != 0 || x >= 3_840 || y >= 3_840 {
+        return 255;
     }
+    squares[(y / 240 * 16 + x / 240) as usize]
 }
