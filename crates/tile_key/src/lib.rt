@@ -8,9 +8,13 @@
 #![tactic(auto)]
 
 mod areas;
+mod groups;
 mod keys;
+#[cfg(test)]
+mod tests;
 mod zooms;
 
 pub use areas::Area;
+pub use groups::{Group, area_of, single};
 pub use keys::{TileKey, TileWords, key_of, rect_of};
 pub use zooms::Zoom;
