@@ -1,5 +1,7 @@
 -- Keys and areas as plain records of seven numbers.
 use Rattle.std.specs.Prelude.{◌≡◌, ℕ, ◌+◌, ◌%◌, ◌≤◌, Bool, ◌&&◌, nat_le, nat_eq, List, [], ◌∷◌, length, sum_by, Option, Some, None, if◌then◌else◌}
+use Rattle.std.specs.declared.cmp.Ordering.{Ordering}
+use Rattle.std.specs.Ordering.{ordering_then, nat_cmp}
 use Rattle.cool_base.specs.Points.{Rectangle}
 
 -- a tile or an area: its part, its width and height in pixels, and its place and size in twips
@@ -72,6 +74,23 @@ pub record IsArea (p : Place) : Type 0 where
 abbrev pub next_place : Place → Place
 next_place p = record p { posx = p.posx + p.tilewidth }
 
+-- the place with nothing in it, which no key and no area has
+abbrev pub no_place : Place
+no_place = record { part = 0; width = 0; height = 0; posx = 0; posy = 0; tilewidth = 0; tileheight = 0 }
+
+-- key order: by part, tileposy, tileposx, width, height, tilewidth and tileheight, in this order
+abbrev pub key_order : Place → Place → Ordering
+key_order p q =
+    ordering_then (nat_cmp p.part q.part) (ordering_then (nat_cmp p.posy q.posy) (ordering_then (nat_cmp p.posx q.posx)
+    (ordering_then (nat_cmp p.width q.width) (ordering_then (nat_cmp p.height q.height)
+    (ordering_then (nat_cmp p.tilewidth q.tilewidth) (nat_cmp p.tileheight q.tileheight))))))
+
+-- whether two places are one
+abbrev pub same_place : Place → Place → Bool
+same_place p q =
+    (nat_eq p.part q.part && nat_eq p.posy q.posy && nat_eq p.posx q.posx) && (nat_eq p.width q.width && nat_eq p.height q.height)
+    && (nat_eq p.tilewidth q.tilewidth && nat_eq p.tileheight q.tileheight)
+
 -- each key is the place behind the one before it
 abbrev pub IsRun : Place → List Place → Type 0
 IsRun p [] = Unit {0}
@@ -83,9 +102,10 @@ abbrev pub IsGroup : List Place → Type 0
 IsGroup [] = ⊥
 IsGroup (p ∷ ps) = (length ps ≤ 7) × IsRun p ps
 
--- the area of a run of keys: from the first one's place, as wide as all together
-abbrev pub area_of_keys : List Place → Place → Place
-area_of_keys keys first = record first { width = sum_by (λ p. p.width) keys; tilewidth = sum_by (λ p. p.tilewidth) keys }
+-- the place that all keys of a list take together: from the first one's edge, as wide as all of them
+abbrev pub place_of_keys : List Place → Place
+place_of_keys [] = no_place
+place_of_keys (p ∷ ps) = record p { width = sum_by (λ q. q.width) (p ∷ ps); tilewidth = sum_by (λ q. q.tilewidth) (p ∷ ps) }
 
 -- a zoom: the size of a tile in pixels and in twips
 pub record Scale : Type 0 where

@@ -41,22 +41,14 @@ impl Area {
         if !is_area(words) {
             return None;
         }
-        Some(Area {
-            part: words.part,
-            posy: words.tileposy,
-            posx: words.tileposx,
-            width: words.width,
-            height: words.height,
-            tilewidth: words.tilewidth,
-            tileheight: words.tileheight,
-        })
+        Some(Area::of_words(*words))
     }
 
-    /// The area of one key.
-    pub fn of_key(key: &TileKey) -> Area
-        ensures { result ≡ key.now }
+    /// The area that the seven words name, which are within its bounds.
+    pub fn of_words(words: TileWords) -> Area
+        requires { IsArea (place_of words) }
+        ensures { result ≡ place_of words }
     {
-        let words = key.words();
         Area {
             part: words.part,
             posy: words.tileposy,
@@ -66,6 +58,13 @@ impl Area {
             tilewidth: words.tilewidth,
             tileheight: words.tileheight,
         }
+    }
+
+    /// The area of one key.
+    pub fn of_key(key: &TileKey) -> Area
+        ensures { result ≡ key.now }
+    {
+        Area::of_words(key.words())
     }
 
     /// The points of the area in its part.

@@ -4,6 +4,7 @@ ghost use Rattle.tile_key.specs.Places.{is_key, is_key_side, key_at, rect_of_pla
 ghost use Rattle.tile_key.specs.Words.{place_of};
 
 use cool_base::Rect;
+use std::cmp::Ordering;
 use std::marker::Model;
 
 /// The seven words of a tile, as a message has them: any numbers.
@@ -93,9 +94,28 @@ pub fn rect_of(key: &TileKey) -> Rect
     }
 }
 
-impl TileKey {
+/// The key of one pixel and 15 twips at the origin of part 0, for the unused places of a list.
+impl Default for TileKey {
     ghost use Rattle.std.specs.Prelude.{◌≡◌};
-    ghost use Rattle.tile_key.specs.Places.{IsKey};
+
+    ghost is_default = { λ k. k ≡ record { part = 0; width = 1; height = 1; posx = 0; posy = 0; tilewidth = 15; tileheight = 15 } };
+
+    fn default() -> TileKey {
+        TileKey {
+            part: 0,
+            posy: 0,
+            posx: 0,
+            width: 1,
+            height: 1,
+            tilewidth: 15,
+            tileheight: 15,
+        }
+    }
+}
+
+impl TileKey {
+    ghost use Rattle.std.specs.Prelude.{◌≡◌, ◌↔◌, IsTrue};
+    ghost use Rattle.tile_key.specs.Places.{IsKey, key_order, same_place};
     ghost use Rattle.tile_key.specs.Words.{place_of};
 
     /// The part.
@@ -152,6 +172,21 @@ impl TileKey {
         ensures form { IsKey self.now }
     {
         self.tileheight
+    }
+
+    /// How the two keys stand in key order.
+    pub fn compare(&self, other: &TileKey) -> Ordering
+        ensures { result ≡ key_order self.now other.now }
+    {
+        self.cmp(other)
+    }
+
+    /// Whether the two keys are one.
+    pub fn is_same(&self, other: &TileKey) -> bool
+        ensures value { result ≡ same_place self.now other.now }
+        ensures same { IsTrue result ↔ (self.now ≡ other.now) }
+    {
+        self == other
     }
 
     /// The seven words that name the key.

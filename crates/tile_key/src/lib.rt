@@ -8,9 +8,11 @@
 #![tactic(auto)]
 
 mod areas;
+mod groups;
 mod keys;
 mod zooms;
 
 pub use areas::Area;
+pub use groups::{Group, area_of, single};
 pub use keys::{TileKey, TileWords, key_of, rect_of};
 pub use zooms::Zoom;
