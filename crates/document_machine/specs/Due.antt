@@ -2,6 +2,7 @@
 use Rattle.std.specs.Prelude.{ℕ, zero, suc, ◌+◌, Bool, true, false, not, ◌&&◌, ◌||◌, nat_eq, nat_lt, nat_le, List, [], ◌∷◌, ◌++◌, length, filter, slice_get, Option, None, Some, if◌then◌else◌}
 use Rattle.std.specs.List.{list_any}
 use Rattle.std.specs.Option.{option_map_or}
+use Rattle.std.specs.Ordering.{is_lt}
 use Rattle.cool_base.specs.Points.{do_meet, Extent}
 use Rattle.cool_base.specs.declared.ids.ViewId.{ViewId}
 use Rattle.cool_frame.specs.declared.frame.Frame.{Frame}
@@ -9,8 +10,8 @@ use Rattle.cool_frame.specs.declared.frame.Frame.TheVariants.{Tile}
 use Rattle.kit_trait.specs.Rules.{Rules, doc, picture}
 use Rattle.kit_trait.specs.declared.inputs.Damage.{Damage}
 use Rattle.kit_trait.specs.declared.inputs.Input.{Input}
-use Rattle.tile_key.specs.Places.{Place, rect_of_place}
-use Rattle.document_machine.specs.Keys.{same_key, key_before, is_among, ordered}
+use Rattle.tile_key.specs.Places.{Place, rect_of_place, key_order, same_place}
+use Rattle.document_machine.specs.Keys.{is_among, ordered}
 use Rattle.document_machine.specs.Outputs.{named}
 use Rattle.document_machine.specs.State.{Shown, Sent, View, Job, Document}
 
@@ -53,7 +54,7 @@ keys rules d view = ordered view.asked (visible rules d view)
 -- the version of the key on a screen
 abbrev pub version_of : List Shown → Place → Option ℕ
 version_of [] key = None
-version_of (shown ∷ screen) key = if same_key shown.key key then Some shown.version else version_of screen key
+version_of (shown ∷ screen) key = if same_place shown.key key then Some shown.version else version_of screen key
 
 -- a screen lacks the key, or an input above its version damaged it
 abbrev pub is_lacking : {C B S : Type 0} → Rules C B → Document S → Place → Option ℕ → Bool
@@ -81,18 +82,18 @@ is_current rules d version key = not (touched rules d.base d.journal version key
 abbrev pub with_version : List Shown → Place → ℕ → List Shown
 with_version [] key version = record { key = key; version = version } ∷ []
 with_version (shown ∷ screen) key version =
-    if key_before key shown.key then record { key = key; version = version } ∷ (shown ∷ screen)
+    if is_lt (key_order key shown.key) then record { key = key; version = version } ∷ (shown ∷ screen)
     else
-      (if same_key key shown.key then record { key = key; version = version } ∷ screen
+      (if same_place key shown.key then record { key = key; version = version } ∷ screen
       else shown ∷ with_version screen key version)
 
 -- a screen without the key
 abbrev pub without_version : List Shown → Place → List Shown
-without_version screen key = filter (λ shown. not (same_key shown.key key)) screen
+without_version screen key = filter (λ shown. not (same_place shown.key key)) screen
 
 -- the keys asked for once a tile of one of them was sent: a present tile ends the asking
 abbrev pub asked_after : List Place → Place → (current : Bool) → List Place
-asked_after asked key current = if current then filter (λ other. not (same_key other key)) asked else asked
+asked_after asked key current = if current then filter (λ other. not (same_place other key)) asked else asked
 
 -- a screen once a tile was sent: it keeps the version of a key that the view still sees or asks for
 abbrev pub screen_after : List Shown → Place → ℕ → (wanted : Bool) → List Shown

@@ -38,5 +38,5 @@ next_pair rules kept d = next_among rules kept d d.views
 -- a turn behind the last input serves the pair that is next, by a job of its key alone, and is Idle where there is none
 abbrev pub IsFirst : {C B S : Type 0} → Rules C B → (Place → Bool) → Document S → Turned S → Type 0
 IsFirst rules kept d (Worked outs) =
-    (id : ℕ) × (key : Place) × (next_pair rules kept d ≡ Some (id, key)) × (map (λ job. job.key) outs.jobs ≡ key ∷ [])
+    (id : ℕ) × (key : Place) × (next_pair rules kept d ≡ Some (id, key)) × (map (λ job. job.group) outs.jobs ≡ (key ∷ []) ∷ [])
 IsFirst rules kept d Idle = next_pair rules kept d ≡ None

@@ -8,7 +8,7 @@ use Rattle.kit_trait.specs.Rules.{Rules, doc, picture}
 use Rattle.kit_trait.specs.declared.inputs.Damage.{Damage}
 use Rattle.kit_trait.specs.declared.inputs.Input.{Input}
 use Rattle.kit_trait.specs.declared.jobs.PaintJob.{PaintJob}
-use Rattle.tile_key.specs.Places.{Place, IsGroup, area_of_keys}
+use Rattle.tile_key.specs.Places.{Place, IsGroup, place_of_keys}
 use Rattle.document_machine.specs.Due.{parts_of, size_of, is_due, has_room, is_out, keys, sent, takes, tile_frame}
 use Rattle.document_machine.specs.Event.{Event, Joined, Said, Turned, Painted, Processed}
 use Rattle.document_machine.specs.Message.{effect, reply, took}
@@ -55,11 +55,6 @@ pub record Applies {C B S : Type 0} (rules : Rules C B) (old : Document S) (outs
   pub new_is : new ≡ record old { applied = old.applied + 1 }
   pub outs_are : outs ≡ frames_only (told old.views (rules.hurt (doc rules old.base old.journal old.applied) input))
 
--- one to eight keys side by side fill the area
-abbrev pub Fills : List Place → Place → Type 0
-Fills [] area = ⊥
-Fills (key ∷ others) area = IsGroup (key ∷ others) × (area ≡ area_of_keys (key ∷ others) key)
-
 -- some view is owed the key
 abbrev pub is_owed : {C B S : Type 0} → Rules C B → Document S → Place → Bool
 is_owed rules d key = list_any (λ view. is_due rules d view key) d.views
@@ -70,7 +65,7 @@ is_wanted rules d key = list_any (λ view. has_room view && is_due rules d view 
 
 -- a job as it is given to a painter
 abbrev pub given : {S : Type 0} → Job S → PaintJob S
-given job = record { ticket = record { 0 = job.ticket }; number = job.number; key = job.area; scene = job.scene }
+given job = record { ticket = record { 0 = job.ticket }; number = job.number; group = job.keys; scene = job.scene }
 
 -- a turn cuts a job: all inputs are applied, fewer than 64 jobs are out, none of them of these keys, each
 -- key is owed, one of them to a view with room; the scene shows the document as it is now
@@ -80,7 +75,8 @@ pub record Cuts {C B S : Type 0} (rules : Rules C B) (paints : S → List ℕ) (
   pub few : length old.jobs < 64
   pub ticket_is : job.ticket ≡ old.next_ticket
   pub number_is : job.number ≡ old.applied
-  pub fills : Fills job.keys job.area
+  pub group : IsGroup job.keys
+  pub area_is : job.area ≡ place_of_keys job.keys
   pub free : AllByRecursion (λ key. is_out old.jobs key ≡ false) job.keys
   pub owed : AllByRecursion (λ key. is_owed rules old key ≡ true) job.keys
   pub wanted : list_any (is_wanted rules old) job.keys ≡ true
