@@ -2,6 +2,7 @@
 use Rattle.std.specs.Prelude.{◌≡◌, ◌<◌, ℕ, List, [], ◌∷◌, ◌++◌, map, Option, None, Some}
 use Rattle.cool_base.specs.declared.ids.ViewId.{ViewId}
 use Rattle.cool_frame.specs.declared.frame.Frame.{Frame}
+use Rattle.kit_trait.specs.declared.values.Pixels.{Pixels}
 use Rattle.kit_trait.specs.Rules.{Rules}
 use Rattle.kit_trait.specs.declared.jobs.PaintJob.{PaintJob}
 use Rattle.document_machine.specs.Quiet.{left_to_do}
@@ -17,7 +18,7 @@ painted_all jobs = map (λ job. Painted job.ticket.0 job.scene) jobs
 
 -- a turn that does a work, and directly behind it the answers to the jobs that it cut: no job is left out,
 -- less is left to do than before, and these are all the frames
-pub record WorksAtOnce {C B S : Type 0} (rules : Rules C B) (paints : S → List ℕ) (old : Document S) (frames : List (ViewId × Frame)) (new : Document S) : Type 0 where
+pub record WorksAtOnce {C B S : Type 0} (rules : Rules C B) (paints : S → Pixels) (old : Document S) (frames : List (ViewId × Frame)) (new : Document S) : Type 0 where
   pub mid : Document S
   pub first : Outs S
   pub later : Outs S
@@ -28,12 +29,12 @@ pub record WorksAtOnce {C B S : Type 0} (rules : Rules C B) (paints : S → List
   pub less : left_to_do new < left_to_do old
 
 -- the same, or there is nothing to do
-abbrev pub TurnsAtOnce : {C B S : Type 0} → Rules C B → (S → List ℕ) → Document S → Option (List (ViewId × Frame)) → Document S → Type 0
+abbrev pub TurnsAtOnce : {C B S : Type 0} → Rules C B → (S → Pixels) → Document S → Option (List (ViewId × Frame)) → Document S → Type 0
 TurnsAtOnce rules paints old (Some frames) new = WorksAtOnce rules paints old frames new
 TurnsAtOnce rules paints old None new = Rests rules old × (new ≡ old)
 
 -- the same of a broker that can be spent: it wasn't, and it isn't
-abbrev pub GoesAtOnce : {C B S : Type 0} → Rules C B → (S → List ℕ) → Option (Document S) → Option (List (ViewId × Frame)) → Option (Document S) → Type 0
+abbrev pub GoesAtOnce : {C B S : Type 0} → Rules C B → (S → Pixels) → Option (Document S) → Option (List (ViewId × Frame)) → Option (Document S) → Type 0
 GoesAtOnce rules paints (Some old) frames (Some new) = TurnsAtOnce rules paints old frames new
 GoesAtOnce rules paints (Some old) frames None = ⊥
 GoesAtOnce rules paints None frames new = ⊥

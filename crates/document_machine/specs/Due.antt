@@ -7,9 +7,9 @@ use Rattle.cool_base.specs.Points.{do_meet, Extent}
 use Rattle.cool_base.specs.declared.ids.ViewId.{ViewId}
 use Rattle.cool_frame.specs.declared.frame.Frame.{Frame}
 use Rattle.cool_frame.specs.declared.frame.Frame.TheVariants.{Tile}
-use Rattle.kit_trait.specs.Rules.{Rules, doc, picture}
-use Rattle.kit_trait.specs.declared.inputs.Damage.{Damage}
-use Rattle.kit_trait.specs.declared.inputs.Input.{Input}
+use Rattle.kit_trait.specs.Rules.{Rules, doc, shown}
+use Rattle.kit_trait.specs.declared.values.Damage.{Damage}
+use Rattle.kit_trait.specs.declared.values.Input.{Input}
 use Rattle.tile_key.specs.Places.{Place, rect_of_place, key_order, same_place}
 use Rattle.document_machine.specs.Keys.{is_among, ordered}
 use Rattle.document_machine.specs.Outputs.{named}
@@ -113,7 +113,7 @@ sent rules d version key view =
 -- the frame of a tile: its pixels are those of the document after as many inputs as its version says
 abbrev pub tile_frame : {C B S : Type 0} → Rules C B → Document S → ℕ → Place → View → ViewId × Frame
 tile_frame rules d version key view =
-    (named view.id, Tile key version (record { 0 = view.next_wid }) (picture rules (doc rules d.base d.journal version) key))
+    (named view.id, Tile key version (record { 0 = view.next_wid }) ((shown rules (doc rules d.base d.journal version) key).rgba))
 
 -- a screen never goes back to an older version; the one that it has comes again only where it is asked for
 abbrev pub is_newer : Option ℕ → ℕ → (asked : Bool) → Bool

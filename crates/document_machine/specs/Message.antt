@@ -11,9 +11,9 @@ use Rattle.cool_message.specs.declared.message.ClientMessage.{ClientMessage}
 use Rattle.cool_message.specs.declared.message.ClientMessage.TheVariants.{Mouse, Tile}
 use Rattle.cool_message.specs.declared.message.MouseKind.TheVariants.{ButtonDown}
 use Rattle.kit_trait.specs.Rules.{Rules}
-use Rattle.kit_trait.specs.declared.inputs.Input.{Input}
-use Rattle.kit_trait.specs.declared.inputs.What.{What}
-use Rattle.kit_trait.specs.declared.inputs.What.TheVariants.{Mouse as Pressed}
+use Rattle.kit_trait.specs.declared.values.Input.{Input}
+use Rattle.kit_trait.specs.declared.values.What.{What}
+use Rattle.kit_trait.specs.declared.values.What.TheVariants.{Mouse as Pressed}
 use Rattle.tile_key.specs.Places.{Place, key_at}
 use Rattle.tile_key.specs.Words.{place_of}
 use Rattle.document_machine.specs.Due.{parts_of}

@@ -1,7 +1,7 @@
 -- When nothing is left to do, and what is right then.
 use Rattle.std.specs.Prelude.{◌≡◌, ℕ, ◌+◌, ◌-◌, ◌*◌, Bool, not, ◌&&◌, nat_eq, List, [], length, Option, Some, None}
 use Rattle.std.specs.List.{list_any, list_all, sum_by, AllByRecursion}
-use Rattle.kit_trait.specs.Rules.{Rules, doc, picture}
+use Rattle.kit_trait.specs.Rules.{Rules, doc, shown}
 use Rattle.tile_key.specs.Places.{Place}
 use Rattle.document_machine.specs.Due.{is_due, keys, visible, version_of}
 use Rattle.document_machine.specs.State.{View, Document}
@@ -29,8 +29,8 @@ is_quiet rules d =
 abbrev pub IsRight : {C B S : Type 0} → Rules C B → Document S → View → Place → Type 0
 IsRight rules d view key =
     (version : ℕ) × (version_of view.screen key ≡ Some version)
-      × (picture rules (doc rules d.base d.journal version) key
-        ≡ picture rules (doc rules d.base d.journal (length d.journal)) key)
+      × (shown rules (doc rules d.base d.journal version) key
+        ≡ shown rules (doc rules d.base d.journal (length d.journal)) key)
 
 -- every pair of a view and a key that it sees or asked for is right
 abbrev pub AllRight : {C B S : Type 0} → Rules C B → Document S → Type 0

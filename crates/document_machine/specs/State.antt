@@ -1,7 +1,7 @@
 -- What a document is between two events.
 use Rattle.std.specs.Prelude.{ℕ, List, [], ◌∷◌, Option, Some, None, nat_eq, if◌then◌else◌}
 use Rattle.document_machine.specs.declared.rights.Rights.{Rights}
-use Rattle.kit_trait.specs.declared.inputs.Input.{Input}
+use Rattle.kit_trait.specs.declared.values.Input.{Input}
 use Rattle.tile_key.specs.Places.{Place}
 
 -- a key on a view's screen, with the version last sent to it

@@ -4,9 +4,10 @@ use Rattle.std.specs.List.{list_any, flat_map, AllByRecursion}
 use Rattle.cool_base.specs.declared.ids.ViewId.{ViewId}
 use Rattle.cool_frame.specs.declared.frame.Frame.{Frame}
 use Rattle.cool_frame.specs.declared.frame.Frame.TheVariants.{Status, Invalidate}
-use Rattle.kit_trait.specs.Rules.{Rules, doc, picture}
-use Rattle.kit_trait.specs.declared.inputs.Damage.{Damage}
-use Rattle.kit_trait.specs.declared.inputs.Input.{Input}
+use Rattle.kit_trait.specs.declared.values.Pixels.{Pixels}
+use Rattle.kit_trait.specs.Rules.{Rules, doc, shown}
+use Rattle.kit_trait.specs.declared.values.Damage.{Damage}
+use Rattle.kit_trait.specs.declared.values.Input.{Input}
 use Rattle.kit_trait.specs.declared.jobs.PaintJob.{PaintJob}
 use Rattle.tile_key.specs.Places.{Place, IsGroup, place_of_keys}
 use Rattle.document_machine.specs.Due.{parts_of, size_of, is_due, has_room, is_out, keys, sent, takes, tile_frame}
@@ -69,7 +70,7 @@ given job = record { ticket = record { 0 = job.ticket }; number = job.number; gr
 
 -- a turn cuts a job: all inputs are applied, fewer than 64 jobs are out, none of them of these keys, each
 -- key is owed, one of them to a view with room; the scene shows the document as it is now
-pub record Cuts {C B S : Type 0} (rules : Rules C B) (paints : S → List ℕ) (old : Document S) (outs : Outs S) (new : Document S) : Type 0 where
+pub record Cuts {C B S : Type 0} (rules : Rules C B) (paints : S → Pixels) (old : Document S) (outs : Outs S) (new : Document S) : Type 0 where
   pub job : Job S
   pub level : old.applied ≡ length old.journal
   pub few : length old.jobs < 64
@@ -80,12 +81,12 @@ pub record Cuts {C B S : Type 0} (rules : Rules C B) (paints : S → List ℕ) (
   pub free : AllByRecursion (λ key. is_out old.jobs key ≡ false) job.keys
   pub owed : AllByRecursion (λ key. is_owed rules old key ≡ true) job.keys
   pub wanted : list_any (is_wanted rules old) job.keys ≡ true
-  pub shows : paints job.scene ≡ picture rules (doc rules old.base old.journal old.applied) job.area
+  pub shows : paints job.scene ≡ shown rules (doc rules old.base old.journal old.applied) job.area
   pub outs_are : outs ≡ record { frames = []; jobs = given job ∷ [] }
   pub new_is : new ≡ record old { jobs = old.jobs ++ job ∷ []; next_ticket = old.next_ticket + 1 }
 
 -- a turn that does a work: it applies an input, or it cuts a job
-abbrev pub Works : {C B S : Type 0} → Rules C B → (S → List ℕ) → Document S → Outs S → Document S → Type 0
+abbrev pub Works : {C B S : Type 0} → Rules C B → (S → Pixels) → Document S → Outs S → Document S → Type 0
 Works rules paints old outs new = Applies rules old outs new ⊎ Cuts rules paints old outs new
 
 -- what a view with room is owed is under way, or 64 jobs are out
@@ -101,7 +102,7 @@ pub record Rests {C B S : Type 0} (rules : Rules C B) (d : Document S) : Type 0 
   pub served : AllByRecursion (IsServed rules d) d.views
 
 -- a turn is Worked where it did a work, and Idle where there was nothing to do
-abbrev pub TurnsTo : {C B S : Type 0} → Rules C B → (S → List ℕ) → Document S → TurnAnswer S → Document S → Type 0
+abbrev pub TurnsTo : {C B S : Type 0} → Rules C B → (S → Pixels) → Document S → TurnAnswer S → Document S → Type 0
 TurnsTo rules paints old (Worked outs) new = Works rules paints old outs new
 TurnsTo rules paints old Idle new = Rests rules old × (new ≡ old)
 
@@ -143,7 +144,7 @@ abbrev pub acknowledged : List ℕ → View → View
 acknowledged wids view = record view { window = filter (λ tile. not (list_any (nat_eq tile.wid) wids)) view.window }
 
 -- the one thing that a step of the machine is
-abbrev pub Step : {C B S : Type 0} → Rules C B → (S → List ℕ) → Document S → Event S → Outs S → Document S → Type 0
+abbrev pub Step : {C B S : Type 0} → Rules C B → (S → Pixels) → Document S → Event S → Outs S → Document S → Type 0
 Step rules paints old (Joined rights) outs new = Joins rules old rights outs new
 Step rules paints old (Said view text) outs new = Says rules old view text outs new
 Step rules paints old Turned outs new = Works rules paints old outs new ⊎ (Rests rules old × (outs ≡ nothing) × (new ≡ old))
@@ -152,7 +153,7 @@ Step rules paints old (Processed view wids) outs new =
     (outs ≡ nothing) × (new ≡ record old { views = with_view old.views view (acknowledged wids) })
 
 -- the step of a broker that can be spent: only a broker that isn't makes one, and it isn't spent after it
-abbrev pub Goes : {C B S : Type 0} → Rules C B → (S → List ℕ) → Option (Document S) → Event S → Outs S → Option (Document S) → Type 0
+abbrev pub Goes : {C B S : Type 0} → Rules C B → (S → Pixels) → Option (Document S) → Event S → Outs S → Option (Document S) → Type 0
 Goes rules paints (Some old) event outs (Some new) = Step rules paints old event outs new
 Goes rules paints (Some old) event outs None = ⊥
 Goes rules paints None event outs new = ⊥
