@@ -61,10 +61,10 @@ abbrev pub is_lacking : {C B S : Type 0} → Rules C B → Document S → Place 
 is_lacking rules d key None = true
 is_lacking rules d key (Some version) = touched rules d.base d.journal version key d.applied
 
--- a pair is due where the view asked for the key, or sees it and its screen lacks the present tile
+-- a pair is due where the view sees the key and its screen lacks the present tile, or where it asked for it
 abbrev pub is_due : {C B S : Type 0} → Rules C B → Document S → View → Place → Bool
 is_due rules d view key =
-    is_among view.asked key || (is_among (visible rules d view) key && is_lacking rules d key (version_of view.screen key))
+    (is_among (visible rules d view) key && is_lacking rules d key (version_of view.screen key)) || is_among view.asked key
 
 -- a view has room for one more tile that it has not acknowledged, of 64
 abbrev pub has_room : View → Bool
@@ -105,7 +105,7 @@ sent rules d version key view =
     let asked = asked_after view.asked key (is_current rules d version key) in
     record view {
       asked = asked;
-      screen = screen_after view.screen key version (is_among asked key || is_among (visible rules d view) key);
+      screen = screen_after view.screen key version (is_among (visible rules d view) key || is_among asked key);
       window = view.window ++ record { wid = view.next_wid; key = key } ∷ [];
       next_wid = view.next_wid + 1;
     }
@@ -120,8 +120,8 @@ abbrev pub is_newer : Option ℕ → ℕ → (asked : Bool) → Bool
 is_newer None version asked = true
 is_newer (Some had) version asked = nat_lt had version || (asked && nat_le had version)
 
--- whether a painted tile of the key goes to a view: the pair is due, there is room, and it is no step back
+-- whether a painted tile of the key goes to a view: it is no step back, the pair is due, and there is room
 abbrev pub takes : {C B S : Type 0} → Rules C B → Document S → ℕ → Place → View → Bool
 takes rules d version key view =
-    is_due rules d view key
-      && (has_room view && is_newer (version_of view.screen key) version (is_among view.asked key))
+    is_newer (version_of view.screen key) version (is_among view.asked key)
+      && (is_due rules d view key && has_room view)

@@ -29,10 +29,10 @@ pub data Effect : Type 0 where
   Asks : (keys : List Place) → Effect
 
 -- an input is refused where the view may not write, and then where the journal has 524,288 inputs
-abbrev pub input_effect : {S : Type 0} → Document S → View → List ℕ → What → Effect
-input_effect d view command what =
+abbrev pub input_effect : (count : ℕ) → View → List ℕ → What → Effect
+input_effect count view command what =
     if view.rights.can_write then
-      (if nat_le 524288 (length d.journal) then Refuses command InputsFull
+      (if nat_le 524288 count then Refuses command InputsFull
       else Inputs (record { view = named view.id; part = view.part; what = what }))
     else Refuses command ReadOnly
 
@@ -47,24 +47,28 @@ asked_with_all asked (key ∷ keys) = asked_with_all (asked_with asked key) keys
 
 -- an asked tile is refused where its words are no key or its part is none of the document's, and then
 -- where the asked keys would be more than 1,024
-abbrev pub tile_effect : {C B S : Type 0} → Rules C B → Document S → View → List ℕ → Option Place → Effect
-tile_effect rules d view command None = Refuses command BadTile
-tile_effect rules d view command (Some key) =
-    if nat_lt key.part (parts_of rules d.base) then
+abbrev pub tile_effect : (parts : ℕ) → View → List ℕ → Option Place → Effect
+tile_effect parts view command None = Refuses command BadTile
+tile_effect parts view command (Some key) =
+    if nat_lt key.part parts then
       (if nat_lt 1024 (length (asked_with_all view.asked (key ∷ []))) then Refuses command AskedFull
       else Asks (key ∷ []))
     else Refuses command BadTile
 
 -- a text that is no message is refused; so is every message that the document doesn't know yet
-abbrev pub message_effect : {C B S : Type 0} → Rules C B → Document S → View → List ℕ → Option ClientMessage → Effect
-message_effect rules d view text (Some (Mouse ButtonDown x y count buttons modifier)) =
-    input_effect d view (codes "mouse") (Pressed x y count buttons modifier)
-message_effect rules d view text (Some (Tile words)) = tile_effect rules d view (codes "tile") (key_at (place_of words))
-message_effect rules d view text _ = Refuses (command_name text) BadMessage
+abbrev pub message_effect : (count parts : ℕ) → View → List ℕ → Option ClientMessage → Effect
+message_effect count parts view text (Some (Mouse ButtonDown x y clicks buttons modifier)) =
+    input_effect count view (codes "mouse") (Pressed x y clicks buttons modifier)
+message_effect count parts view text (Some (Tile words)) = tile_effect parts view (codes "tile") (key_at (place_of words))
+message_effect count parts view text _ = Refuses (command_name text) BadMessage
 
--- the effect of a text that a view says
+-- the effect of a text that a view says, where so many inputs are accepted and there are so many parts
+abbrev pub effect_of : (count parts : ℕ) → View → List ℕ → Effect
+effect_of count parts view text = message_effect count parts view text (message_of text)
+
+-- the same in a document
 abbrev pub effect : {C B S : Type 0} → Rules C B → Document S → View → List ℕ → Effect
-effect rules d view text = message_effect rules d view text (message_of text)
+effect rules d view text = effect_of (length d.journal) (parts_of rules d.base) view text
 
 -- the frames of an effect: one error frame for a refusal, else none
 abbrev pub reply : {S : Type 0} → ℕ → Effect → Outs S

@@ -19,7 +19,7 @@ can_serve kept jobs key = kept key || (nat_lt (length jobs) 64 && not (is_out jo
 -- the first key, in key order, that a view with room is owed and that can be served
 abbrev pub next_key : {C B S : Type 0} → Rules C B → (Place → Bool) → Document S → View → Option Place
 next_key rules kept d view =
-    if has_room view then find (λ key. is_due rules d view key && can_serve kept d.jobs key) (keys rules d view) else None
+    if has_room view then find (λ key. can_serve kept d.jobs key && is_due rules d view key) (keys rules d view) else None
 
 -- this one's, or else a later one's
 abbrev pub or_later : ℕ → Option Place → Option (ℕ × Place) → Option (ℕ × Place)

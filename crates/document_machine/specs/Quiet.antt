@@ -13,11 +13,11 @@ pub record IsQuiet {C B S : Type 0} (rules : Rules C B) (d : Document S) : Type 
   pub no_job : d.jobs ≡ []
   pub empty : AllByRecursion (λ view. view.window ≡ []) d.views
 
--- a view's window is empty and nothing is owed to it
+-- a view's window is empty, no pair that it sees is due, and it asks for nothing
 abbrev pub is_still : {C B S : Type 0} → Rules C B → Document S → View → Bool
 is_still rules d view =
     nat_eq (length view.window) 0
-      && (not (list_any (is_due rules d view) view.asked) && not (list_any (is_due rules d view) (visible rules d view)))
+      && (not (list_any (is_due rules d view) (visible rules d view)) && nat_eq (length view.asked) 0)
 
 -- the same as a test
 abbrev pub is_quiet : {C B S : Type 0} → Rules C B → Document S → Bool

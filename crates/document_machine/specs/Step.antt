@@ -141,7 +141,7 @@ Paints rules old ticket scene outs new (Some job) =
 
 -- a view once these numbers were acknowledged: the tiles so numbered leave its window, others change nothing
 abbrev pub acknowledged : List ℕ → View → View
-acknowledged wids view = record view { window = filter (λ tile. not (list_any (nat_eq tile.wid) wids)) view.window }
+acknowledged wids view = record view { window = filter (λ tile. not (list_any (λ wid. nat_eq wid tile.wid) wids)) view.window }
 
 -- the one thing that a step of the machine is
 abbrev pub Step : {C B S : Type 0} → Rules C B → (S → Pixels) → Document S → Event S → Outs S → Document S → Type 0
