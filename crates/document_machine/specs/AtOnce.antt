@@ -1,5 +1,6 @@
 -- A turn whose jobs are painted at once.
-use Rattle.std.specs.Prelude.{◌≡◌, ◌<◌, ℕ, List, [], ◌∷◌, ◌++◌, map, Option, None, Some}
+use Rattle.std.specs.Prelude.{◌≡◌, ◌<◌, ℕ, Bool, true, false, List, [], ◌∷◌, ◌++◌, map, Option, None, Some}
+use Rattle.std.specs.List.{AllByRecursion}
 use Rattle.cool_base.specs.declared.ids.ViewId.{ViewId}
 use Rattle.cool_frame.specs.declared.frame.Frame.{Frame}
 use Rattle.kit_trait.specs.declared.values.Pixels.{Pixels}
@@ -7,9 +8,9 @@ use Rattle.kit_trait.specs.Rules.{Rules}
 use Rattle.kit_trait.specs.declared.jobs.PaintJob.{PaintJob}
 use Rattle.document_machine.specs.Quiet.{left_to_do}
 use Rattle.document_machine.specs.Run.{Segment}
-use Rattle.document_machine.specs.State.{Document}
+use Rattle.document_machine.specs.State.{Document, with_view}
 use Rattle.document_machine.specs.Event.{Event, Painted}
-use Rattle.document_machine.specs.Step.{Works, Rests}
+use Rattle.document_machine.specs.Step.{Works, Rests, acknowledged}
 use Rattle.document_machine.specs.declared.outs.Outs.{Outs}
 
 -- these jobs come back painted, in order
@@ -38,3 +39,20 @@ abbrev pub GoesAtOnce : {C B S : Type 0} → Rules C B → (S → Pixels) → Op
 GoesAtOnce rules paints (Some old) frames (Some new) = TurnsAtOnce rules paints old frames new
 GoesAtOnce rules paints (Some old) frames None = ⊥
 GoesAtOnce rules paints None frames new = ⊥
+
+-- a view acknowledges all that it has: its window is empty after it, and where it had a tile there less is
+-- left to do; where it had none nothing changes
+pub record Empties {S : Type 0} (old : Document S) (had : Bool) (new : Document S) : Type 0 where
+  pub id : ℕ
+  pub wids : List ℕ
+  pub new_is : new ≡ record old { views = with_view old.views id (acknowledged wids) }
+  pub empty : AllByRecursion (λ view. view.window ≡ []) new.views
+  pub none_out : new.jobs ≡ []
+  pub less : had ≡ true → left_to_do new < left_to_do old
+  pub same : had ≡ false → new ≡ old
+
+-- the same of a broker that can be spent: a spent one has nothing and stays as it is
+abbrev pub GoesEmpty : {S : Type 0} → Option (Document S) → Bool → Option (Document S) → Type 0
+GoesEmpty (Some old) had (Some new) = Empties old had new
+GoesEmpty (Some old) had None = ⊥
+GoesEmpty None had new = (had ≡ false) × (new ≡ None)

@@ -1,7 +1,7 @@
 //! `Broker`: the calls of a document, each a step of the document machine.
 ghost use Rattle.std.specs.Prelude.{◌≡◌, ℕ, [], length, true, false, None, Some, IsSome, IfOk, OnOk, OnErr};
 ghost use Rattle.std.specs.Option.{ForSome, option_map_or};
-ghost use Rattle.document_machine.specs.AtOnce.{GoesAtOnce};
+ghost use Rattle.document_machine.specs.AtOnce.{GoesAtOnce, GoesEmpty};
 ghost use Rattle.document_machine.specs.Event.{Joined, Said, Processed};
 ghost use Rattle.document_machine.specs.Outputs.{frames_only, nothing};
 ghost use Rattle.document_machine.specs.Quiet.{is_quiet};
@@ -95,6 +95,19 @@ impl<K: Kit> Broker<K> {
         if let Some(core) = self.core.take() {
             self.core = Some(core.processed(view.0, wids));
         }
+    }
+
+    /// The view acknowledges all tiles that were sent to it. Whether there was one: less is left to do
+    /// then, and else nothing changes. A spent broker has none.
+    pub fn empty_window(&mut self) -> bool
+        ensures { GoesEmpty self.old result self.new }
+    {
+        let Some(core) = self.core.take() else {
+            return false;
+        };
+        let (core, had) = core.empty();
+        self.core = Some(core);
+        had
     }
 
     /// Whether nothing is left to do and every window is empty; false where the broker is spent.

@@ -148,7 +148,7 @@ impl Session {
 
     /// All tiles leave the window.
     pub(crate) fn acknowledge_all(&mut self)
-        ensures { self.new ≡ acknowledged (map (λ tile. tile.wid) self.old.window) self.old }
+        ensures { self.new ≡ record self.old { window = [] } }
     {
         self.window.clear();
     }

@@ -1,5 +1,6 @@
 //! The view acknowledges tiles, and whether anything is left to do.
 ghost use Rattle.std.specs.Prelude.{◌≡◌, ℕ, true, false, length, option_to_list, nat_eq, ◌&&◌, None, IfSome};
+ghost use Rattle.document_machine.specs.AtOnce.{Empties};
 ghost use Rattle.document_machine.specs.Quiet.{is_quiet};
 ghost use Rattle.document_machine.specs.State.{with_view};
 ghost use Rattle.document_machine.specs.Step.{acknowledged};
@@ -47,6 +48,51 @@ impl<K: Kit> Core<K> {
             view,
             next_view,
             next_ticket,
+        }
+    }
+
+    /// All tiles leave the view's window. Whether there was one.
+    pub(crate) fn empty(self) -> (Core<K>, bool)
+        ensures { Empties self result.1 result.0 }
+    {
+        let Core {
+            kit,
+            base,
+            journal,
+            applied,
+            view,
+            next_view,
+            next_ticket,
+        } = self;
+        match view {
+            None => (
+                Core {
+                    kit,
+                    base,
+                    journal,
+                    applied,
+                    view: None,
+                    next_view,
+                    next_ticket,
+                },
+                false,
+            ),
+            Some(mut session) => {
+                let done = session.is_acknowledged();
+                session.acknowledge_all();
+                (
+                    Core {
+                        kit,
+                        base,
+                        journal,
+                        applied,
+                        view: Some(session),
+                        next_view,
+                        next_ticket,
+                    },
+                    !done,
+                )
+            }
         }
     }
 
