@@ -7,12 +7,19 @@
 //! - `Pixels`, `Input`, `What`, `Damage`, `KitName`, `LoadFault` (`values`) go in and out.
 //! - `PaintJob`, `Done`, `paint` (`jobs`): a scene on its way to a painter, and its picture on the way
 //!   back.
+//! - `PatchKit` (`patch`): the patch document, the smallest kind.
 #![tactic(auto)]
 
 mod jobs;
+mod patch;
+mod patch_scene;
+#[cfg(test)]
+mod tests;
 mod traits;
 mod values;
 
 pub use jobs::{Done, PaintJob, paint};
+pub use patch::PatchKit;
+pub use patch_scene::PatchScene;
 pub use traits::{Kit, Scene};
 pub use values::{Damage, Input, KitName, LoadFault, Pixels, What};

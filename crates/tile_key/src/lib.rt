@@ -10,6 +10,8 @@
 mod areas;
 mod groups;
 mod keys;
+#[cfg(test)]
+mod tests;
 mod zooms;
 
 pub use areas::Area;
