@@ -34,7 +34,7 @@ pub find_holds : {X : Type 0} (p : X → Bool) (xs : List X) (x : X) → find p 
 find_holds p [] x e = cc
 find_holds p (y ∷ ys) x e =
     let go : (b : Bool) → p y ≡ b → cond b (Some y) (find p ys) ≡ Some x → p x ≡ true = elim [
-      true ↦ λ is some. let same : y ≡ x = cc in rw (← same) is
+      | true ↦ λ is some. let same : y ≡ x = cc in rw (← same) is
       | false ↦ λ is some. find_holds p ys x some
     ] in
     go (p y) refl e
@@ -44,7 +44,7 @@ pub find_fails : {X : Type 0} (P : X → Type 0) (p : X → Bool) (xs : List X) 
 find_fails P p [] e = tt
 find_fails P p (y ∷ ys) e =
     let go : (b : Bool) → p y ≡ b → cond b (Some y) (find p ys) ≡ None → (p y ≡ true → P y) × AllByRecursion (λ x. p x ≡ true → P x) ys = elim [
-      true ↦ λ is none. absurd (cc)
+      | true ↦ λ is none. absurd (cc)
       | false ↦ λ is none. ((λ yes. absurd (cc)), find_fails P p ys none)
     ] in
     go (p y) refl e
@@ -54,7 +54,7 @@ pub holds_among : (P : Place → Type 0) (keys : List Place) (key : Place) → (
 holds_among P [] key move all e = absurd (cc)
 holds_among P (other ∷ others) key move all e =
     let go : (b : Bool) → same_place other key ≡ b → (b || list_any (λ k. same_place k key) others) ≡ true → P key = elim [
-      true ↦ λ is some. move other key is all.0
+      | true ↦ λ is some. move other key is all.0
       | false ↦ λ is some. holds_among P others key move all.1 some
     ] in
     go (same_place other key) refl e
@@ -69,7 +69,7 @@ pub filter_le : {X : Type 0} (p : X → Bool) (xs : List X) → length (filter p
 filter_le p [] = omega arith
 filter_le p (x ∷ xs) =
     let go : (b : Bool) → length (cond b (x ∷ filter p xs) (filter p xs)) ≤ length (x ∷ xs) = elim [
-      true ↦ omega (arith, filter_le p xs)
+      | true ↦ omega (arith, filter_le p xs)
       | false ↦ omega (arith, filter_le p xs)
     ] in
     go (p x)
@@ -79,7 +79,7 @@ pub fewer : (keys : List Place) (key : Place) → is_among keys key ≡ true →
 fewer [] key e = absurd (cc)
 fewer (other ∷ others) key e =
     let go : (b : Bool) → (b || list_any (λ k. same_place k key) others) ≡ true → length (cond (not b) (other ∷ filter (λ k. not (same_place k key)) others) (filter (λ k. not (same_place k key)) others)) < length (other ∷ others) = elim [
-      true ↦ λ some. omega (arith, filter_le (λ k. not (same_place k key)) others)
+      | true ↦ λ some. omega (arith, filter_le (λ k. not (same_place k key)) others)
       | false ↦ λ some. omega (arith, fewer others key some)
     ] in
     go (same_place other key) e

@@ -67,7 +67,7 @@ pub all_filter : {X : Type 0} (P : X → Type 0) (p : X → Bool) (xs : List X) 
 all_filter P p [] all = tt
 all_filter P p (x ∷ xs) all =
     elim (p x) as (λ b. AllByRecursion P (cond b (x ∷ filter p xs) (filter p xs))) [
-      true ↦ (all.0, all_filter P p xs all.1)
+      | true ↦ (all.0, all_filter P p xs all.1)
       | false ↦ all_filter P p xs all.1
     ]
 
@@ -86,7 +86,7 @@ after_push rules c (i ∷ is) input = after_push rules (rules.step c i) is input
 pub doc_more : {C B : Type 0} (rules : Rules C B) (base : List ℕ) (journal : List Input) (n : ℕ) (input : Input) → n < length journal → get_or journal n input ≡ input → doc rules base journal (n + 1) ≡ rules.step (doc rules base journal n) input
 doc_more rules base journal n input lt is =
     ap (λ inputs. after rules (rules.start base) inputs) (take_more journal n input lt ∙ ap (λ i. take n journal ++ i ∷ []) is)
-      ∙ after_push rules (rules.start base) (take n journal) input
+    ∙ after_push rules (rules.start base) (take n journal) input
 
 -- the view with this id is the one that is there
 pub live_is : (view : View) (id : ℕ) → IsSome (find_view (view ∷ []) id) → nat_eq view.id id ≡ true
@@ -112,7 +112,7 @@ picked id (Some k) key e = e
 pub next_gives : {C B : Type 0} (S : Type 0) (rules : Rules C B) (base : List ℕ) (journal : List Input) (applied : ℕ) (view : View) (next_view next_ticket : ℕ) (key : Place) → option_map (λ (pair : ℕ × Place). pair.1) (next_pair rules none_kept (parts {S = S} base journal applied (Some view) next_view next_ticket)) ≡ Some key → (has_room view ≡ true) × (is_among view.asked key ≡ true)
 next_gives S rules base journal applied view next_view next_ticket key e =
     let go : (b : Bool) → has_room view ≡ b → option_map (λ (pair : ℕ × Place). pair.1) (or_later view.id (cond b (find (is_among view.asked) (ordered view.asked [])) None) None) ≡ Some key → (has_room view ≡ true) × (is_among view.asked key ≡ true) = elim [
-      true ↦ λ room is. (room, find_holds (is_among view.asked) (ordered view.asked []) key (picked view.id (find (is_among view.asked) (ordered view.asked [])) key is))
+      | true ↦ λ room is. (room, find_holds (is_among view.asked) (ordered view.asked []) key (picked view.id (find (is_among view.asked) (ordered view.asked [])) key is))
       | false ↦ λ room is. absurd (cc)
     ] in
     go (has_room view) refl e
@@ -123,7 +123,7 @@ place_alone key =
     let w : key.width ≡ sum_by (λ (q : Place). q.width) (key ∷ []) = omega arith in
     let t : key.tilewidth ≡ sum_by (λ (q : Place). q.tilewidth) (key ∷ []) = omega arith in
     ap (λ (n : ℕ). record key { width = n }) w
-      ∙ ap (λ (n : ℕ). record key { width = sum_by (λ (q : Place). q.width) (key ∷ []); tilewidth = n }) t
+    ∙ ap (λ (n : ℕ). record key { width = sum_by (λ (q : Place). q.width) (key ∷ []); tilewidth = n }) t
 
 -- a turn cuts a job of the key, and its answer brings the tile to the view
 pub served : {C B S : Type 0} (rules : Rules C B) (paints : S → Pixels) (base : List ℕ) (journal : List Input) (applied : ℕ) (view : View) (next_view ticket : ℕ) (key : Place) (scene : S) → applied ≡ length journal → view.screen ≡ [] → has_room view ≡ true → is_among view.asked key ≡ true → paints scene ≡ shown rules (doc rules base journal applied) key → WorksAtOnce rules paints (parts base journal applied (Some view) next_view ticket) (tile_frame rules (parts {S = S} base journal applied (Some view) next_view ticket) applied key view ∷ []) (parts base journal applied (Some (sent rules (parts {S = S} base journal applied (Some view) next_view ticket) applied key view)) next_view (ticket + 1))
@@ -183,7 +183,7 @@ all_any P (x ∷ xs) f = (f x, all_any P xs f)
 pub serves_none : {C B : Type 0} (S : Type 0) (rules : Rules C B) (base : List ℕ) (journal : List Input) (applied : ℕ) (views : List View) (next_view next_ticket : ℕ) (view : View) → next_key {S = S} rules none_kept (record { base = base; journal = journal; applied = applied; views = views; next_view = next_view; jobs = []; next_ticket = next_ticket }) view ≡ None → IsServed {S = S} rules (record { base = base; journal = journal; applied = applied; views = views; next_view = next_view; jobs = []; next_ticket = next_ticket }) view
 serves_none S rules base journal applied views next_view next_ticket view none =
     let go : (b : Bool) → cond b (find (is_among view.asked) (ordered view.asked [])) None ≡ None → AllByRecursion (λ key. (b && is_among view.asked key) ≡ true → (false ≡ true) ⊎ (64 ≤ 0)) (ordered view.asked []) = elim [
-      true ↦ λ e. find_fails (λ _. (false ≡ true) ⊎ (64 ≤ 0)) (is_among view.asked) (ordered view.asked []) e
+      | true ↦ λ e. find_fails (λ _. (false ≡ true) ⊎ (64 ≤ 0)) (is_among view.asked) (ordered view.asked []) e
       | false ↦ λ e. all_any (λ key. false ≡ true → (false ≡ true) ⊎ (64 ≤ 0)) (ordered view.asked []) (λ key. inl)
     ] in
     go (has_room view) none
@@ -233,11 +233,11 @@ empties_by {S} base journal applied before view now next_view next_ticket had ol
       empty = (ap (λ v. v.window) now_is, tt);
       none_out = refl;
       less = λ yes.
-        let asked_is : length now.asked ≡ length view.asked = ap (λ v. length v.asked) now_is in
-        let window_is : length now.window ≡ 0 = ap (λ v. length v.window) now_is in
-        let had_some : nat_eq (length view.window) 0 ≡ false = not_true (nat_eq (length view.window) 0) (sym had_is ∙ yes) in
-        let some_there : 0 < length view.window = grind (arith, nat_tests) in
-        omega (arith, asked_is, window_is, some_there);
+          let asked_is : length now.asked ≡ length view.asked = ap (λ v. length v.asked) now_is in
+          let window_is : length now.window ≡ 0 = ap (λ v. length v.window) now_is in
+          let had_some : nat_eq (length view.window) 0 ≡ false = not_true (nat_eq (length view.window) 0) (sym had_is ∙ yes) in
+          let some_there : 0 < length view.window = grind (arith, nat_tests) in
+          omega (arith, asked_is, window_is, some_there);
       same = λ lacks. ap (λ v. parts base journal applied (Some v) next_view next_ticket) (now_is ∙ was_empty view had had_is lacks);
     } in
     subst (λ o. Empties o had (parts base journal applied (Some now) next_view next_ticket)) there empties

@@ -41,7 +41,7 @@ abbrev pub touched : {C B : Type 0} → Rules C B → List ℕ → List Input �
 touched rules base journal version key zero = false
 touched rules base journal version key (suc n) =
     touched rules base journal version key n
-      || (nat_le version n && is_hurt (damage_of rules base journal n) key)
+    || (nat_le version n && is_hurt (damage_of rules base journal n) key)
 
 -- the keys that a view sees. No message gives a view an area yet, so it sees none
 abbrev pub visible : {C B S : Type 0} → Rules C B → Document S → View → List Place
@@ -84,8 +84,8 @@ with_version [] key version = record { key = key; version = version } ∷ []
 with_version (shown ∷ screen) key version =
     if is_lt (key_order key shown.key) then record { key = key; version = version } ∷ (shown ∷ screen)
     else
-      (if same_place key shown.key then record { key = key; version = version } ∷ screen
-      else shown ∷ with_version screen key version)
+    (if same_place key shown.key then record { key = key; version = version } ∷ screen
+    else shown ∷ with_version screen key version)
 
 -- a screen without the key
 abbrev pub without_version : List Shown → Place → List Shown
@@ -124,4 +124,4 @@ is_newer (Some had) version asked = nat_lt had version || (asked && nat_le had v
 abbrev pub takes : {C B S : Type 0} → Rules C B → Document S → ℕ → Place → View → Bool
 takes rules d version key view =
     is_newer (version_of view.screen key) version (is_among view.asked key)
-      && (is_due rules d view key && has_room view)
+    && (is_due rules d view key && has_room view)

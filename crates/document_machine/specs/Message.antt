@@ -32,8 +32,8 @@ pub data Effect : Type 0 where
 abbrev pub input_effect : (count : ℕ) → View → List ℕ → What → Effect
 input_effect count view command what =
     if view.rights.can_write then
-      (if nat_le 524288 count then Refuses command InputsFull
-      else Inputs (record { view = named view.id; part = view.part; what = what }))
+    (if nat_le 524288 count then Refuses command InputsFull
+    else Inputs (record { view = named view.id; part = view.part; what = what }))
     else Refuses command ReadOnly
 
 -- the asked keys with one more behind them, where it isn't asked for yet
@@ -51,8 +51,8 @@ abbrev pub tile_effect : (parts : ℕ) → View → List ℕ → Option Place �
 tile_effect parts view command None = Refuses command BadTile
 tile_effect parts view command (Some key) =
     if nat_lt key.part parts then
-      (if nat_lt 1024 (length (asked_with_all view.asked (key ∷ []))) then Refuses command AskedFull
-      else Asks (key ∷ []))
+    (if nat_lt 1024 (length (asked_with_all view.asked (key ∷ []))) then Refuses command AskedFull
+    else Asks (key ∷ []))
     else Refuses command BadTile
 
 -- a text that is no message is refused; so is every message that the document doesn't know yet

@@ -17,7 +17,7 @@ pub record IsQuiet {C B S : Type 0} (rules : Rules C B) (d : Document S) : Type 
 abbrev pub is_still : {C B S : Type 0} → Rules C B → Document S → View → Bool
 is_still rules d view =
     nat_eq (length view.window) 0
-      && (not (list_any (is_due rules d view) (visible rules d view)) && nat_eq (length view.asked) 0)
+    && (not (list_any (is_due rules d view) (visible rules d view)) && nat_eq (length view.asked) 0)
 
 -- the same as a test
 abbrev pub is_quiet : {C B S : Type 0} → Rules C B → Document S → Bool
@@ -29,8 +29,8 @@ is_quiet rules d =
 abbrev pub IsRight : {C B S : Type 0} → Rules C B → Document S → View → Place → Type 0
 IsRight rules d view key =
     (version : ℕ) × (version_of view.screen key ≡ Some version)
-      × (shown rules (doc rules d.base d.journal version) key
-        ≡ shown rules (doc rules d.base d.journal (length d.journal)) key)
+    × (shown rules (doc rules d.base d.journal version) key
+    ≡ shown rules (doc rules d.base d.journal (length d.journal)) key)
 
 -- every pair of a view and a key that it sees or asked for is right
 abbrev pub AllRight : {C B S : Type 0} → Rules C B → Document S → Type 0
@@ -41,4 +41,4 @@ AllRight rules d = AllByRecursion (λ view. AllByRecursion (IsRight rules d view
 abbrev pub left_to_do : {S : Type 0} → Document S → ℕ
 left_to_do d =
     2 * ((length d.journal - d.applied) + sum_by (λ view. length view.asked) d.views)
-      + sum_by (λ view. length view.window) d.views
+    + sum_by (λ view. length view.window) d.views

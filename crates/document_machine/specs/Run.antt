@@ -13,7 +13,7 @@ abbrev pub Segment : {C B S : Type 0} → Rules C B → (S → Pixels) → Docum
 Segment rules paints old [] outs new = (outs ≡ nothing) × (new ≡ old)
 Segment {C} {B} {S} rules paints old (event ∷ events) outs new =
     (mid : Document S) × (first : Outs S) × (later : Outs S)
-      × Step rules paints old event first mid × Segment rules paints mid events later new × (outs ≡ joined first later)
+    × Step rules paints old event first mid × Segment rules paints mid events later new × (outs ≡ joined first later)
 
 -- the same of a broker that can be spent: it wasn't, and it isn't
 abbrev pub Runs : {C B S : Type 0} → Rules C B → (S → Pixels) → Option (Document S) → List (Event S) → Outs S → Option (Document S) → Type 0

@@ -29,10 +29,10 @@ status rules d id rights =
 abbrev pub JoinsWhere : {C B S : Type 0} → Bool → Rules C B → Document S → Rights → Outs S → Document S → Type 0
 JoinsWhere true rules old rights outs new =
     (outs ≡ one_frame old.next_view (status rules old old.next_view rights))
-      × (new ≡ record old {
-        views = old.views ++ opening_view old.next_view rights ∷ [];
-        next_view = old.next_view + 1;
-      })
+    × (new ≡ record old {
+      views = old.views ++ opening_view old.next_view rights ∷ [];
+      next_view = old.next_view + 1;
+    })
 JoinsWhere false rules old rights outs new = (outs ≡ nothing) × (new ≡ old)
 
 abbrev pub Joins : {C B S : Type 0} → Rules C B → Document S → Rights → Outs S → Document S → Type 0
@@ -93,8 +93,8 @@ Works rules paints old outs new = Applies rules old outs new ⊎ Cuts rules pain
 abbrev pub IsServed : {C B S : Type 0} → Rules C B → Document S → View → Type 0
 IsServed rules d view =
     AllByRecursion
-      (λ key. (has_room view && is_due rules d view key) ≡ true → (is_out d.jobs key ≡ true) ⊎ (64 ≤ length d.jobs))
-      (keys rules d view)
+    (λ key. (has_room view && is_due rules d view key) ≡ true → (is_out d.jobs key ≡ true) ⊎ (64 ≤ length d.jobs))
+    (keys rules d view)
 
 -- there is nothing that a turn could do
 pub record Rests {C B S : Type 0} (rules : Rules C B) (d : Document S) : Type 0 where
@@ -125,7 +125,7 @@ abbrev pub tiles_for : {C B S : Type 0} → Rules C B → Document S → ℕ →
 tiles_for rules d number [] views = []
 tiles_for rules d number (key ∷ others) views =
     flat_map (tile_for rules d number key) views
-      ++ tiles_for rules d number others (map (offered rules d number key) views)
+    ++ tiles_for rules d number others (map (offered rules d number key) views)
 
 -- a painted result is taken where its ticket is out and its scene is the one kept for it: the job goes and
 -- its tiles are offered; another result changes nothing
@@ -133,11 +133,11 @@ abbrev pub Paints : {C B S : Type 0} → Rules C B → Document S → ℕ → S 
 Paints rules old ticket scene outs new None = (outs ≡ nothing) × (new ≡ old)
 Paints rules old ticket scene outs new (Some job) =
     ((scene ≢ job.scene) × (outs ≡ nothing) × (new ≡ old))
-      ⊎ ((scene ≡ job.scene) × (outs ≡ frames_only (tiles_for rules old job.number job.keys old.views))
-        × (new ≡ record old {
-          jobs = without_job old.jobs ticket;
-          views = views_offered rules old job.number job.keys old.views;
-        }))
+    ⊎ ((scene ≡ job.scene) × (outs ≡ frames_only (tiles_for rules old job.number job.keys old.views))
+    × (new ≡ record old {
+      jobs = without_job old.jobs ticket;
+      views = views_offered rules old job.number job.keys old.views;
+    }))
 
 -- a view once these numbers were acknowledged: the tiles so numbered leave its window, others change nothing
 abbrev pub acknowledged : List ℕ → View → View
