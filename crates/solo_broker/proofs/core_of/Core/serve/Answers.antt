@@ -3,7 +3,7 @@ use Rattle.solo_broker.proofs.Steps.{holds_view, part_fits, fits_sent, serves_by
 use Rattle.solo_broker.proofs.core_of.Core.serve.Goals as goal
 
 pub paint_now-requires-after_bounds : goal.paint_now-requires-after_bounds
-paint_now-requires-after_bounds g c =
+paint_now-requires-after_bounds g c = λ _.
     part_fits g.K.Kit.rules g.K.Kit.IsSound (g.K.Kit.contents c.self.inside.kit) c.self.inside.base c.self.inside.journal.items c.self.inside.applied c.self.inside.view c.in-Some.session c.self.inside.next_view c.self.inside.next_ticket c.args.key.now c.args.self
       c.self.invariant c.self.view_is c.in-Some.is c.requires.next
 
