@@ -1,0 +1,21 @@
+//! What every other crate stands on: ids, rectangles, decimal numbers, file ids, tokens, lists that
+//! contracts see as lists, and `Memory`, the answer for want of memory. It reads no input and keeps
+//! no state.
+//!
+//! - `Memory` (`want`): no memory was left.
+//! - `ListOf`, `TextOf` (`lists`): a `Vec` and a `String` that contracts see as plain lists.
+//! - `DocId`, `ViewId`, `LinkId`, `Wid`, `Ticket`, `Wids` (`ids`).
+//! - `Rect`, `Size`, `meets`, `cut` (`points`): rectangles as sets of points.
+//! - `read_u31`, `read_u64` (`numbers`): decimal numbers.
+//! - `FileId` (`files`), `Token` (`tokens`): text whose type keeps its form.
+#![tactic(auto)]
+
+mod ids;
+mod lists;
+mod points;
+mod want;
+
+pub use ids::{DocId, LinkId, Ticket, ViewId, Wid, Wids};
+pub use lists::{ListOf, TextOf};
+pub use points::{Rect, Size};
+pub use want::Memory;
