@@ -1,5 +1,5 @@
 -- What a read takes off a source and what a write adds to a sink, where they tell it.
-use Rattle.std.specs.Prelude.{ℕ, ◌≡◌, ◌<◌, ◌≤◌, Bool, true, false, List, [], ◌++◌, length, take, Option, None, Some}
+use Rattle.std.specs.Prelude.{ℕ, ◌≡◌, ◌<◌, ◌≤◌, Bool, true, false, List, [], ◌++◌, length, take, Option}
 use Rattle.std.specs.Option.{option_map, IfSome}
 use Rattle.outside.specs.declared.streams.ReadStep.{ReadStep}
 use Rattle.outside.specs.declared.streams.ReadStep.TheVariants.{Read, End, Failed}

@@ -3,7 +3,8 @@ ghost use Rattle.std.specs.Prelude.{◌≡◌, ◌<◌, ◌≤◌, ◌+◌, List
 ghost use Rattle.outside.specs.Causes.{HasCause};
 ghost use Rattle.outside.specs.Streams.{Reads, Writes, read_failed, write_failed};
 
-use std::alloc::{AllocError, Global};
+use cool_base::Memory;
+use std::alloc::Global;
 use std::marker::Model;
 
 /// The answer of a read.
@@ -134,7 +135,7 @@ impl MemorySink {
     ghost use Rattle.std.specs.Prelude.{◌≡◌, [], IfOk};
 
     /// An empty sink with room for so many bytes in all.
-    pub fn new(alloc: Global, room: usize) -> Result<MemorySink, AllocError>
+    pub fn new(alloc: Global, room: usize) -> Result<MemorySink, Memory>
         ensures { IfOk result (λ s. s ≡ record { bytes = []; room = room; faults = 0 }) }
     {
         let bytes = Vec::with_capacity(alloc, room)?;
