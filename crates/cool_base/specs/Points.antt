@@ -1,5 +1,5 @@
 -- Rectangles as sets of points, and sizes.
-use Rattle.std.specs.Prelude.{◌≡◌, ℕ, ◌+◌, ◌-◌, ◌<◌, ◌≤◌, min, max, Bool, ◌&&◌, nat_lt, nat_le, IsTrue, if◌then◌else◌}
+use Rattle.std.specs.Prelude.{ℕ, ◌+◌, ◌-◌, min, max, Bool, ◌&&◌, nat_lt, nat_le, IsTrue, if◌then◌else◌}
 
 -- a rectangle by its least point, its width and its height
 pub record Rectangle : Type 0 where

@@ -10,12 +10,18 @@
 //! - `FileId` (`files`), `Token` (`tokens`): text whose type keeps its form.
 #![tactic(auto)]
 
+mod files;
 mod ids;
 mod lists;
+mod numbers;
 mod points;
+mod tokens;
 mod want;
 
+pub use files::FileId;
 pub use ids::{DocId, LinkId, Ticket, ViewId, Wid, Wids};
 pub use lists::{ListOf, TextOf};
-pub use points::{Rect, Size};
+pub use numbers::{read_number, read_u31, read_u64};
+pub use points::{Rect, Size, cut, meets};
+pub use tokens::Token;
 pub use want::Memory;
