@@ -1,5 +1,5 @@
 -- What a read takes off a source and what a write adds to a sink, where they tell it.
-use Rattle.std.specs.Prelude.{ℕ, ◌≡◌, ◌<◌, ◌≤◌, Bool, true, false, List, [], ◌++◌, length, take, Option}
+use Rattle.std.specs.Prelude.{ℕ, ◌≡◌, ◌<◌, ◌≤◌, List, [], ◌++◌, length, take, Option}
 use Rattle.std.specs.Option.{option_map, IfSome}
 use Rattle.outside.specs.declared.streams.ReadStep.{ReadStep}
 use Rattle.outside.specs.declared.streams.ReadStep.TheVariants.{Read, End, Failed}
@@ -29,15 +29,6 @@ Reads old new Failed into = new ≡ old
 abbrev pub Writes : Option (List ℕ) → Option (List ℕ) → WriteStep → List ℕ → Type 0
 Writes old new (Wrote count) piece = (count ≤ length piece) × (0 < length piece → 0 < count) × Adds old (take count piece) new
 Writes old new NotWritten piece = new ≡ old
-
-abbrev pub read_failed : ReadStep → Bool
-read_failed (Read _) = false
-read_failed End = false
-read_failed Failed = true
-
-abbrev pub write_failed : WriteStep → Bool
-write_failed (Wrote _) = false
-write_failed NotWritten = true
 
 -- A sink in memory: the bytes that it took, how many it has room for in all, and its count of faults.
 pub record Taken : Type 0 where

@@ -1,7 +1,7 @@
 // Streams of bytes: a source is read, a sink is written. Each counts its faults.
 ghost use Rattle.std.specs.Prelude.{◌≡◌, ◌<◌, ◌≤◌, ◌+◌, List, ℕ, length, Some, Option};
 ghost use Rattle.outside.specs.Causes.{HasCause};
-ghost use Rattle.outside.specs.Streams.{Reads, Writes, read_failed, write_failed};
+ghost use Rattle.outside.specs.Streams.{Reads, Writes};
 
 use cool_base::Memory;
 use std::alloc::Global;
@@ -39,7 +39,7 @@ pub trait Source {
     fn read(&mut self, into: &mut [u8]) -> ReadStep
         requires { 0 < length into.old }
         ensures reads { Reads (left self.old) (left self.new) result into.new }
-        ensures cause { HasCause (faults self.old) (faults self.new) (read_failed result) };
+        ensures cause { HasCause (faults self.old) (faults self.new) (result ≡ ReadStep.Failed) };
 }
 
 /// A place for bytes.
@@ -53,7 +53,7 @@ pub trait Sink {
     /// Writes a front of the piece.
     fn write(&mut self, piece: &[u8]) -> WriteStep
         ensures writes { Writes (written self.old) (written self.new) result piece.now }
-        ensures cause { HasCause (faults self.old) (faults self.new) (write_failed result) };
+        ensures cause { HasCause (faults self.old) (faults self.new) (result ≡ WriteStep.Failed) };
 }
 
 /// A source over bytes in memory. It never fails.
@@ -87,7 +87,7 @@ impl<'a> MemorySource<'a> {
 impl<'a> Source for MemorySource<'a> {
     ghost use Rattle.std.specs.Prelude.{◌≡◌, ◌≢◌, ◌<◌, min, length, [], Some};
     ghost use Rattle.outside.specs.Causes.{HasCause};
-    ghost use Rattle.outside.specs.Streams.{Reads, read_failed};
+    ghost use Rattle.outside.specs.Streams.{Reads};
 
     ghost left = { λ s. Some s };
 
@@ -96,7 +96,7 @@ impl<'a> Source for MemorySource<'a> {
     fn read(&mut self, into: &mut [u8]) -> ReadStep
         requires { 0 < length into.old }
         ensures reads { Reads (Some self.old) (Some self.new) result into.new }
-        ensures cause { HasCause 0 0 (read_failed result) }
+        ensures cause { HasCause 0 0 (result ≡ ReadStep.Failed) }
 
         // It gives as many bytes as there are and fit.
         ensures end { self.old ≡ [] → result ≡ ReadStep.End }
@@ -164,7 +164,7 @@ impl MemorySink {
 impl Sink for MemorySink {
     ghost use Rattle.std.specs.Prelude.{◌≡◌, ◌≤◌, ◌<◌, ◌+◌, ◌-◌, ◌^◌, ◌++◌, min, nat_le, length, Some, if◌then◌else◌};
     ghost use Rattle.outside.specs.Causes.{HasCause};
-    ghost use Rattle.outside.specs.Streams.{Writes, write_failed};
+    ghost use Rattle.outside.specs.Streams.{Writes};
 
     ghost written = { λ s. Some s.bytes };
 
@@ -172,7 +172,7 @@ impl Sink for MemorySink {
 
     fn write(&mut self, piece: &[u8]) -> WriteStep
         ensures writes { Writes (Some self.old.bytes) (Some self.new.bytes) result piece.now }
-        ensures cause { HasCause self.old.faults self.new.faults (write_failed result) }
+        ensures cause { HasCause self.old.faults self.new.faults (result ≡ WriteStep.Failed) }
 
         // It fails exactly where the piece goes beyond the room, and else takes it whole.
         ensures within { length self.old.bytes + length piece.now ≤ self.old.room → self.new ≡ record self.old { bytes = self.old.bytes ++ piece.now } }
