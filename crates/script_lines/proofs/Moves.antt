@@ -58,10 +58,11 @@ pub too_long : (old mid new : Option (List ℕ)) (line into : List ℕ) (count r
     → (x : List ℕ) × Takes old x new × (room - 1 + length x ≡ whole) × (IsUnbroken x × (length x ≡ 70001))
 too_long old mid new line into count room whole first later some within one not unbroken long left used =
     let byte : Takes mid (get_or into 0 0 ∷ []) new = rw (one_byte into count some within one) at later in
-    let l : length (line ++ get_or into 0 0 ∷ []) ≡ length line + 1 = length-append line (get_or into 0 0 ∷ []) in
-    ( line ++ get_or into 0 0 ∷ []
-    , takes_more old mid new line (get_or into 0 0 ∷ []) first byte
-    , omega (arith, l)
-    , (unbroken_more line (get_or into 0 0) unbroken not, omega (arith, l)) )
+    let l : length (line ++ get_or into 0 0 ∷ []) ≡ length line + 1 = length-append line (get_or into 0 0 ∷ []) in (
+      line ++ get_or into 0 0 ∷ [],
+      takes_more old mid new line (get_or into 0 0 ∷ []) first byte,
+      omega (arith, l),
+      (unbroken_more line (get_or into 0 0) unbroken not, omega (arith, l)),
+    )
 
 pub ruleset moves = (takes_more, adds_more, takes_nothing, adds_nothing, unbroken_more)

@@ -7,6 +7,8 @@
 mod grammar;
 mod line;
 mod output;
+#[cfg(test)]
+mod tests;
 
 pub use grammar::{Place, ScriptLine, Verdict, judge, read_line};
 pub use line::{LineStep, next_line};

@@ -45,7 +45,11 @@ pub fn next_line<S: Source>(source: &mut S, line: &mut Vec<u8>, room: &mut u64) 
         match source.read(&mut byte) {
             ReadStep::Failed => return LineStep::Failed,
             ReadStep::End => {
-                return if line.is_empty() { LineStep::End } else { LineStep::Last };
+                return if line.is_empty() {
+                    LineStep::End
+                } else {
+                    LineStep::Last
+                };
             }
             ReadStep::Read(_) => {}
         }

@@ -10,7 +10,7 @@ invariant-loop-room g l = record {
   unbroken : IsUnbroken l.line.items;
   short : length l.line.items ≤ 70000;
   used : l.room + length l.line.items ≡ l.initial.room;
-  faults : g.S.Source.faults l.source ≡ g.S.Source.faults l.initial.source
+  faults : g.S.Source.faults l.source ≡ g.S.Source.faults l.initial.source;
 }
 
 abbrev pub decreases-loop-room : goal.decreases-loop-room

@@ -7,7 +7,7 @@ abbrev pub invariant-loop-done : goal.invariant-loop-done
 invariant-loop-done g l = record {
   within : l.done ≤ length l.bytes;
   added : Adds (g.T.Sink.written l.initial.sink) (take l.done l.bytes) (g.T.Sink.written l.sink);
-  faults : g.T.Sink.faults l.sink ≡ g.T.Sink.faults l.initial.sink
+  faults : g.T.Sink.faults l.sink ≡ g.T.Sink.faults l.initial.sink;
 }
 
 abbrev pub decreases-loop-done : goal.decreases-loop-done
