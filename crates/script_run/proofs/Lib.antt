@@ -1,0 +1,4 @@
+pub mod Moves
+pub mod Exits
+pub mod Splits
+pub mod OneStatus
