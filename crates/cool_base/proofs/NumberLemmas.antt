@@ -1,13 +1,16 @@
 -- What a digit, or a number grown too large, says of the whole text.
-use Rattle.std.proofs.Common.{◌≡◌, ℕ, ◌+◌, ◌*◌, ◌<◌, ◌≤◌, true, false, nat_lt, List, length, get_or, take, Some, None, arith, le-ltb, lt-ltb}
+use Rattle.std.proofs.Common.{◌≡◌, ℕ, ◌+◌, ◌*◌, ◌<◌, ◌≤◌, true, false, nat_lt, List, length, get_or, take, Some, None, arith, le-ltb, lt-ltb, ◌^◌, nat_le, le-leb, refl, rules}
 use Rattle.std.specs.Char.{is_ascii_digit, digit_value}
 use Rattle.std.specs.List.{list_all}
 use Rattle.std.proofs.lemmas.List.Folds.{list_all_at, list_all_more}
 use Rattle.std.proofs.lemmas.Int.Digits.{digits_value_more}
-use Rattle.std.proofs.lemmas.Str.Parse.{digits_value-take-le}
+use Rattle.std.specs.Fmt.{decimal}
+use Rattle.std.specs.Str.Parse.{digits_value}
+use Rattle.std.proofs.lemmas.Fmt.{digits_decimal, digits_value-decimal, decimal_nonempty, length-decimal-le}
+use Rattle.std.proofs.lemmas.Str.Parse.{digits_value-take-le, IsDigitsTest, IsNumeralModel, numerals_by_value}
 use Rattle.std.proofs.lemmas.List.{take_all}
 use Rattle.std.proofs.lemmas.Grind.{common_steps}
-use Rattle.cool_base.specs.Numbers.{decimal_value, value_below}
+use Rattle.cool_base.specs.Numbers.{decimal_value, value_below, number}
 
 pub no_digit : (end : ℕ) (text : List ℕ) (i : ℕ) → i < length text → is_ascii_digit (get_or text i 0) ≡ false → value_below end text ≡ None
 no_digit end text i here none = let e : list_all is_ascii_digit text ≡ false = list_all_at is_ascii_digit text i 0 here none in grind (arith, common_steps)
@@ -34,3 +37,19 @@ all_read end text v i whole is digits small =
     grind (arith, common_steps)
 
 pub ruleset readings = (no_digit, too_large, one_more_value, one_more_digit, all_read)
+
+tells_digits : IsDigitsTest (λ ds. list_all is_ascii_digit ds ≡ true)
+tells_digits = search rules
+
+own_digits : IsNumeralModel (λ ds. list_all is_ascii_digit ds ≡ true) (digits_value 10)
+own_digits = numerals_by_value (λ ds. list_all is_ascii_digit ds ≡ true) tells_digits
+
+-- what is written of a number is read as that number
+pub number-decimal : (most limit n : ℕ) → 0 < most → n < 10 ^ most → n < 2 ^ 64 → n ≤ limit → number most limit (decimal n) ≡ Some n
+number-decimal most limit n some fits small within =
+    let digits : list_all is_ascii_digit (decimal n) ≡ true = digits_decimal own_digits n small in
+    let value : decimal_value (decimal n) ≡ n = digits_value-decimal own_digits n small in
+    let long : nat_lt 0 (length (decimal n)) ≡ true = lt-ltb 0 (length (decimal n)) (decimal_nonempty n small) in
+    let short : nat_le (length (decimal n)) most ≡ true = le-leb (length (decimal n)) most (length-decimal-le most n some fits small) in
+    let low : nat_le n limit ≡ true = le-leb n limit within in
+    rw (long, digits, short, value, low) refl

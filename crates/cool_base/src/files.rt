@@ -1,5 +1,5 @@
 //! `FileId`.
-ghost use Rattle.std.specs.Prelude.{◌≡◌, IsTrue, ◌&&◌, nat_le, length};
+ghost use Rattle.std.specs.Prelude.{◌≡◌, IsTrue, ◌&&◌, nat_le, length, ◌↔◌};
 ghost use Rattle.std.specs.List.{list_all};
 ghost use Rattle.cool_base.specs.Words.{file_id, is_file_id, is_file_character};
 
@@ -45,6 +45,13 @@ impl FileId {
         ensures form { IsTrue (is_file_id self.now) }
     {
         self.text.as_str()
+    }
+
+    /// Whether the two are one file id.
+    pub fn is_same(&self, other: &FileId) -> bool
+        ensures { IsTrue result ↔ (self.now ≡ other.now) }
+    {
+        self.text.as_str() == other.text.as_str()
     }
 
     /// An equal file id. It takes no memory.

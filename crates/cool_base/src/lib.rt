@@ -15,13 +15,15 @@ mod ids;
 mod lists;
 mod numbers;
 mod points;
+#[cfg(test)]
+mod tests;
 mod tokens;
 mod want;
 
 pub use files::FileId;
 pub use ids::{DocId, LinkId, Ticket, ViewId, Wid, Wids};
 pub use lists::{ListOf, TextOf};
-pub use numbers::{read_number, read_u31, read_u64};
+pub use numbers::{read_number, read_u31, read_u64, written_numbers_are_read};
 pub use points::{Rect, Size, cut, meets};
 pub use tokens::Token;
 pub use want::Memory;

@@ -1,5 +1,5 @@
 //! Decimal numbers.
-ghost use Rattle.std.specs.Prelude.{◌≡◌, ◌+◌, ◌*◌, ◌^◌, ◌<◌, ◌≤◌, true, MatchOption};
+ghost use Rattle.std.specs.Prelude.{◌≡◌, ◌+◌, ◌*◌, ◌^◌, ◌<◌, ◌≤◌, true, MatchOption, ℕ, Some, decimal};
 ghost use Rattle.std.specs.Char.{is_ascii_digit, digit_value};
 ghost use Rattle.cool_base.specs.Numbers.{value_below, number, number_31, number_64};
 
@@ -53,3 +53,9 @@ fn one_more(value: u64, digit: u8) -> Option<u64>
 {
     value.checked_mul(10)?.checked_add(u64::from(digit - b'0'))
 }
+
+/// What is written of a number, without leading zeros, is read as that number.
+pub fn written_numbers_are_read()
+    ensures small { (n : ℕ) → n ≤ 2147483647 → number_31 (decimal n) ≡ Some n }
+    ensures large { (n : ℕ) → n < 2 ^ 64 → number_64 (decimal n) ≡ Some n }
+{}

@@ -1,2 +1,4 @@
 pub mod Causes
 pub mod Streams
+pub mod Wires
+pub mod Stores

@@ -1,0 +1,19 @@
+//! The messages of a client: what a text says, and why a text says nothing.
+//!
+//! `ClientMessage` is the value of a text, `read_message` reads it, and `command_of` gives the word
+//! that an error frame names where a text is refused. A text is at most 65,536 bytes of UTF-8, its
+//! words stand apart by blanks, the first word is the command.
+#![tactic(auto)]
+
+mod command;
+mod fault;
+mod forms;
+mod message;
+
+pub use command::command_of;
+pub use fault::{MessageFault, Word};
+pub use forms::read_message;
+pub use message::{ClientMessage, CombineWords, KeyKind, MouseKind};
+
+#[cfg(test)]
+mod tests;

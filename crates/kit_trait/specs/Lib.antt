@@ -1,0 +1,5 @@
+pub mod Patch
+pub mod PatchLaws
+pub mod PatchSeen
+pub mod Pictures
+pub mod Rules

@@ -1,0 +1,18 @@
+//! The raw texts of a sheet document by cell, and how the texts of cells are read where no formula is
+//! needed: names of cells, numbers and plain texts.
+//!
+//! - `Cells` (`cells`): the raw texts of 1 to 16 parts, by `CellRef`.
+//! - `read_ref`, `place_of` (`references`): the cell that a name as `B12` names.
+//! - `read_plain` (`plains`): what a raw text is that holds no formula.
+#![tactic(auto)]
+
+mod cells;
+mod plains;
+mod references;
+
+pub use cells::{CellRef, Cells};
+pub use plains::{Plain, is_digit, read_plain};
+pub use references::{is_letter, leading_letters, place_of, read_ref};
+
+#[cfg(test)]
+mod tests;

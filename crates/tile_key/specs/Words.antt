@@ -1,0 +1,8 @@
+-- The seven words of a tile as a place.
+use Rattle.tile_key.specs.declared.keys.TileWords.{TileWords}
+use Rattle.tile_key.specs.Places.{Place}
+
+-- the place that the seven words name
+abbrev pub place_of : TileWords → Place
+place_of w =
+    record { part = w.part; width = w.width; height = w.height; posx = w.tileposx; posy = w.tileposy; tilewidth = w.tilewidth; tileheight = w.tileheight }
