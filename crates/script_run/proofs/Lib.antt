@@ -2,3 +2,4 @@ pub mod Moves
 pub mod Exits
 pub mod Splits
 pub mod OneStatus
+pub mod Ending

@@ -30,12 +30,12 @@ run_place place step follows s (line ∷ lines) out t ran =
     followed_as (verdict (place s) line) (λ next. place_after next lines) (place ran.0) (follows s line ran.1 ran.0 ran.3)
     ∙ run_place place step follows ran.0 lines ran.2 t ran.4
 
-ends_stop : (v : Verdict) → v ≡ Ends → (f : Place → Option Place) → followed v f ≡ None
+pub ends_stop : (v : Verdict) → v ≡ Ends → (f : Place → Option Place) → followed v f ≡ None
 ends_stop (Acts line place) is f = absurd (cc)
 ends_stop Ends is f = refl
 ends_stop Refused is f = refl
 
-refused_stop : (v : Verdict) → v ≡ Refused → (f : Place → Option Place) → followed v f ≡ None
+pub refused_stop : (v : Verdict) → v ≡ Refused → (f : Place → Option Place) → followed v f ≡ None
 refused_stop (Acts line place) is f = absurd (cc)
 refused_stop Ends is f = refl
 refused_stop Refused is f = refl

@@ -75,7 +75,7 @@ too_many k m l more one other is =
     let h : (l ≡ k) × ([] ≡ joined more ++ (m ++ 10 ∷ [])) = first_break l k [] (joined more ++ (m ++ 10 ∷ [])) other one (is ∙ append_assoc k (10 ∷ joined more) (m ++ 10 ∷ [])) in
     no_room (joined more) m h.1
 
-each_behind : (ls more : List (List ℕ)) (ms : List (List ℕ)) → ms ≡ ls ++ more → AllByRecursion IsLine ms → AllByRecursion IsLine more
+pub each_behind : (ls more : List (List ℕ)) (ms : List (List ℕ)) → ms ≡ ls ++ more → AllByRecursion IsLine ms → AllByRecursion IsLine more
 each_behind [] more ms is all = subst (λ (xs : List (List ℕ)). AllByRecursion IsLine xs) is all
 each_behind (l ∷ ls) more [] is all = absurd (cc)
 each_behind (l ∷ ls) more (m ∷ ms) is all = each_behind ls more ms (cc) all.1
