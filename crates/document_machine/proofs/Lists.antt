@@ -1,0 +1,85 @@
+-- Keys in lists.
+use Rattle.std.proofs.Common.{◌≡◌, ℕ, suc, ◌+◌, ◌<◌, ◌≤◌, Bool, true, false, not, ◌&&◌, ◌||◌, cond, List, [], ◌∷◌, ◌++◌, length, take, drop, map, filter, find, get_or, Option, None, Some, refl, sym, ap, ◌∙◌, arith, rules, nat_eq}
+use Rattle.std.specs.List.{list_any, insert, AllByRecursion}
+use Rattle.std.specs.Ordering.{is_lt}
+use Rattle.std.proofs.lemmas.List.{drop_more, take-append-drop, take_all, drop_all}
+use Rattle.std.proofs.lemmas.Map.Views.{any-filter_same}
+use Rattle.tile_key.specs.Places.{Place, key_order, same_place}
+use Rattle.document_machine.specs.Keys.{is_among, inserted}
+
+-- a number is itself
+pub nat_eq_self : (n : ℕ) → nat_eq n n ≡ true
+nat_eq_self n = grind arith
+
+-- a place is itself
+pub same_self : (p : Place) → same_place p p ≡ true
+same_self p =
+    rw (nat_eq_self p.part, nat_eq_self p.posy, nat_eq_self p.posx, nat_eq_self p.width, nat_eq_self p.height, nat_eq_self p.tilewidth, nat_eq_self p.tileheight) refl
+
+-- where the key belongs in front of the one at the place, it is put there
+pub put_here : (keys : List Place) (i : ℕ) (key other : Place) → i < length keys → get_or keys i other ≡ other → is_lt (key_order key other) ≡ true → take i keys ++ inserted (drop i keys) key ≡ insert keys i key
+put_here keys i key other here is less =
+    let e : drop i keys ≡ other ∷ drop (i + 1) keys = drop_more keys i other here ∙ ap (λ k. k ∷ drop (i + 1) keys) is in
+    rw e (rw less refl)
+
+-- where the key is there already, nothing is put
+pub put_not : (keys : List Place) (i : ℕ) (key other : Place) → i < length keys → get_or keys i other ≡ other → is_lt (key_order key other) ≡ false → same_place key other ≡ true → take i keys ++ inserted (drop i keys) key ≡ keys
+put_not keys i key other here is more same =
+    let e : drop i keys ≡ other ∷ drop (i + 1) keys = drop_more keys i other here ∙ ap (λ k. k ∷ drop (i + 1) keys) is in
+    let t : inserted (drop i keys) key ≡ drop i keys = rw e (rw (more, same) refl) in
+    ap (λ ks. take i keys ++ ks) t ∙ take-append-drop i keys
+
+-- a test holds of what it finds
+pub find_holds : {X : Type 0} (p : X → Bool) (xs : List X) (x : X) → find p xs ≡ Some x → p x ≡ true
+find_holds p [] x e = cc
+find_holds p (y ∷ ys) x e =
+    let go : (b : Bool) → p y ≡ b → cond b (Some y) (find p ys) ≡ Some x → p x ≡ true = elim [
+      | true ↦ λ is some. let same : y ≡ x = cc in rw (← same) is
+      | false ↦ λ is some. find_holds p ys x some
+    ] in
+    go (p y) refl e
+
+-- where nothing is found the test holds of nothing
+pub find_fails : {X : Type 0} (P : X → Type 0) (p : X → Bool) (xs : List X) → find p xs ≡ None → AllByRecursion (λ x. p x ≡ true → P x) xs
+find_fails P p [] e = tt
+find_fails P p (y ∷ ys) e =
+    let go : (b : Bool) → p y ≡ b → cond b (Some y) (find p ys) ≡ None → (p y ≡ true → P y) × AllByRecursion (λ x. p x ≡ true → P x) ys = elim [
+      | true ↦ λ is none. absurd (cc)
+      | false ↦ λ is none. ((λ yes. absurd (cc)), find_fails P p ys none)
+    ] in
+    go (p y) refl e
+
+-- what holds of all keys holds of one of them
+pub holds_among : (P : Place → Type 0) (keys : List Place) (key : Place) → ((p q : Place) → same_place p q ≡ true → P p → P q) → AllByRecursion P keys → is_among keys key ≡ true → P key
+holds_among P [] key move all e = absurd (cc)
+holds_among P (other ∷ others) key move all e =
+    let go : (b : Bool) → same_place other key ≡ b → (b || list_any (λ k. same_place k key) others) ≡ true → P key = elim [
+      | true ↦ λ is some. move other key is all.0
+      | false ↦ λ is some. holds_among P others key move all.1 some
+    ] in
+    go (same_place other key) refl e
+
+-- what is taken out is not there
+pub taken_out : (keys : List Place) (key : Place) → is_among (filter (λ other. not (same_place other key)) keys) key ≡ false
+taken_out keys key =
+    any-filter_same (λ other. same_place other key) (λ other. not (same_place other key)) false (λ other is. rw is refl) keys
+
+-- a filter keeps at most all
+pub filter_le : {X : Type 0} (p : X → Bool) (xs : List X) → length (filter p xs) ≤ length xs
+filter_le p [] = omega arith
+filter_le p (x ∷ xs) =
+    let go : (b : Bool) → length (cond b (x ∷ filter p xs) (filter p xs)) ≤ length (x ∷ xs) = elim [
+      | true ↦ omega (arith, filter_le p xs)
+      | false ↦ omega (arith, filter_le p xs)
+    ] in
+    go (p x)
+
+-- fewer keys are left once one of them is taken out
+pub fewer : (keys : List Place) (key : Place) → is_among keys key ≡ true → length (filter (λ other. not (same_place other key)) keys) < length keys
+fewer [] key e = absurd (cc)
+fewer (other ∷ others) key e =
+    let go : (b : Bool) → (b || list_any (λ k. same_place k key) others) ≡ true → length (cond (not b) (other ∷ filter (λ k. not (same_place k key)) others) (filter (λ k. not (same_place k key)) others)) < length (other ∷ others) = elim [
+      | true ↦ λ some. omega (arith, filter_le (λ k. not (same_place k key)) others)
+      | false ↦ λ some. omega (arith, fewer others key some)
+    ] in
+    go (same_place other key) e

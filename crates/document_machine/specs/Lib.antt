@@ -1,0 +1,11 @@
+pub mod Keys
+pub mod State
+pub mod Outputs
+pub mod Due
+pub mod Message
+pub mod Event
+pub mod Step
+pub mod Next
+pub mod Run
+pub mod Quiet
+pub mod AtOnce

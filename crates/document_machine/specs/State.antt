@@ -1,0 +1,92 @@
+-- What a document is between two events.
+use Rattle.std.specs.Prelude.{ℕ, List, [], ◌∷◌, Option, Some, None, nat_eq, if◌then◌else◌}
+use Rattle.document_machine.specs.declared.rights.Rights.{Rights}
+use Rattle.kit_trait.specs.declared.values.Input.{Input}
+use Rattle.tile_key.specs.Places.{Place}
+
+-- a key on a view's screen, with the version last sent to it
+pub record Shown : Type 0 where
+  pub key : Place
+  pub version : ℕ
+
+-- a tile that was sent and not yet acknowledged: its number and its key
+pub record Sent : Type 0 where
+  pub wid : ℕ
+  pub key : Place
+
+-- one view: who it is and what it may do, its part of the document, the keys that it asked for in the
+-- order asked, what it was last sent of each key, in key order, what it has not acknowledged, in the
+-- order sent, and the number of its next tile
+pub record View : Type 0 where
+  pub id : ℕ
+  pub rights : Rights
+  pub part : ℕ
+  pub asked : List Place
+  pub screen : List Shown
+  pub window : List Sent
+  pub next_wid : ℕ
+
+-- one job that is out: its ticket, the number of inputs that its picture shows, its keys in order, the
+-- area that they fill, and the scene of that area
+pub record Job (S : Type 0) : Type 0 where
+  pub ticket : ℕ
+  pub number : ℕ
+  pub keys : List Place
+  pub area : Place
+  pub scene : S
+
+-- one document: the bytes that it was loaded from, the accepted inputs and how many of them are
+-- applied, the views in the order of their ids, the id of the next view, the jobs out, the next ticket
+pub record Document (S : Type 0) : Type 0 where
+  pub base : List ℕ
+  pub journal : List Input
+  pub applied : ℕ
+  pub views : List View
+  pub next_view : ℕ
+  pub jobs : List (Job S)
+  pub next_ticket : ℕ
+
+-- a document as it is loaded
+abbrev pub opening : {S : Type 0} → List ℕ → Document S
+opening base = record {
+  base = base;
+  journal = [];
+  applied = 0;
+  views = [];
+  next_view = 0;
+  jobs = [];
+  next_ticket = 1;
+}
+
+-- a view as it joins
+abbrev pub opening_view : ℕ → Rights → View
+opening_view id rights = record {
+  id = id;
+  rights = rights;
+  part = 0;
+  asked = [];
+  screen = [];
+  window = [];
+  next_wid = 1;
+}
+
+-- the view with this id
+abbrev pub find_view : List View → ℕ → Option View
+find_view [] id = None
+find_view (view ∷ views) id = if nat_eq view.id id then Some view else find_view views id
+
+-- the views, the one with this id changed
+abbrev pub with_view : List View → ℕ → (View → View) → List View
+with_view [] id change = []
+with_view (view ∷ views) id change =
+    if nat_eq view.id id then change view ∷ views else view ∷ with_view views id change
+
+-- the job with this ticket
+abbrev pub find_job : {S : Type 0} → List (Job S) → ℕ → Option (Job S)
+find_job [] ticket = None
+find_job (job ∷ jobs) ticket = if nat_eq job.ticket ticket then Some job else find_job jobs ticket
+
+-- the jobs without the one with this ticket
+abbrev pub without_job : {S : Type 0} → List (Job S) → ℕ → List (Job S)
+without_job [] ticket = []
+without_job (job ∷ jobs) ticket = if nat_eq job.ticket ticket then jobs else job ∷ without_job jobs ticket

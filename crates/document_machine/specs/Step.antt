@@ -1,0 +1,159 @@
+-- The machine: which outputs and which document may follow an event.
+use Rattle.std.specs.Prelude.{◌≡◌, ◌≢◌, ⊤, ℕ, ◌+◌, ◌<◌, ◌≤◌, Bool, true, false, not, ◌&&◌, nat_eq, nat_lt, List, [], ◌∷◌, ◌++◌, length, map, filter, slice_get, Option, None, Some, ◌⊎◌, if◌then◌else◌}
+use Rattle.std.specs.List.{list_any, flat_map, AllByRecursion}
+use Rattle.cool_base.specs.declared.ids.ViewId.{ViewId}
+use Rattle.cool_frame.specs.declared.frame.Frame.{Frame}
+use Rattle.cool_frame.specs.declared.frame.Frame.TheVariants.{Status, Invalidate}
+use Rattle.kit_trait.specs.declared.values.Pixels.{Pixels}
+use Rattle.kit_trait.specs.Rules.{Rules, doc, shown}
+use Rattle.kit_trait.specs.declared.values.Damage.{Damage}
+use Rattle.kit_trait.specs.declared.values.Input.{Input}
+use Rattle.kit_trait.specs.declared.jobs.PaintJob.{PaintJob}
+use Rattle.tile_key.specs.Places.{Place, IsGroup, place_of_keys}
+use Rattle.document_machine.specs.Due.{parts_of, size_of, is_due, has_room, is_out, keys, sent, takes, tile_frame}
+use Rattle.document_machine.specs.Event.{Event, Joined, Said, Turned, Painted, Processed}
+use Rattle.document_machine.specs.Message.{effect, reply, took}
+use Rattle.document_machine.specs.Outputs.{named, nothing, frames_only, one_frame, outs_of}
+use Rattle.document_machine.specs.State.{View, Sent, Job, Document, opening_view, find_view, with_view, find_job, without_job}
+use Rattle.document_machine.specs.declared.outs.Outs.{Outs}
+use Rattle.document_machine.specs.declared.outs.Turned.{Turned as TurnAnswer}
+use Rattle.document_machine.specs.declared.outs.Turned.TheVariants.{Worked, Idle}
+use Rattle.document_machine.specs.declared.rights.Rights.{Rights}
+
+-- the first frame of a view
+abbrev pub status : {C B S : Type 0} → Rules C B → Document S → ℕ → Rights → Frame
+status rules d id rights =
+    Status rules.name (parts_of rules d.base) (size_of rules d.base 0) (named id) (not rights.can_write)
+
+-- a view joins where fewer than 64 are there: it has the next id and gets its status; else nothing changes
+abbrev pub JoinsWhere : {C B S : Type 0} → Bool → Rules C B → Document S → Rights → Outs S → Document S → Type 0
+JoinsWhere true rules old rights outs new =
+    (outs ≡ one_frame old.next_view (status rules old old.next_view rights))
+    × (new ≡ record old {
+      views = old.views ++ opening_view old.next_view rights ∷ [];
+      next_view = old.next_view + 1;
+    })
+JoinsWhere false rules old rights outs new = (outs ≡ nothing) × (new ≡ old)
+
+abbrev pub Joins : {C B S : Type 0} → Rules C B → Document S → Rights → Outs S → Document S → Type 0
+Joins rules old rights outs new = JoinsWhere (nat_lt (length old.views) 64) rules old rights outs new
+
+-- a view says a text: its one effect, and the frame of a refusal
+pub record Says {C B S : Type 0} (rules : Rules C B) (old : Document S) (id : ℕ) (text : List ℕ) (outs : Outs S) (new : Document S) : Type 0 where
+  pub view : View
+  pub live : find_view old.views id ≡ Some view
+  pub outs_are : outs ≡ reply id (effect rules old view text)
+  pub new_is : new ≡ took old id (effect rules old view text)
+
+-- every view, in order of ids, is told each damaged rectangle, in the kit's order
+abbrev pub told : List View → List Damage → List (ViewId × Frame)
+told views damage = flat_map (λ view. map (λ d. (named view.id, Invalidate d.part d.rect)) damage) views
+
+-- a turn applies the next input
+pub record Applies {C B S : Type 0} (rules : Rules C B) (old : Document S) (outs : Outs S) (new : Document S) : Type 0 where
+  pub input : Input
+  pub behind : slice_get old.journal old.applied ≡ Some input
+  pub new_is : new ≡ record old { applied = old.applied + 1 }
+  pub outs_are : outs ≡ frames_only (told old.views (rules.hurt (doc rules old.base old.journal old.applied) input))
+
+-- some view is owed the key
+abbrev pub is_owed : {C B S : Type 0} → Rules C B → Document S → Place → Bool
+is_owed rules d key = list_any (λ view. is_due rules d view key) d.views
+
+-- some view with room is owed the key
+abbrev pub is_wanted : {C B S : Type 0} → Rules C B → Document S → Place → Bool
+is_wanted rules d key = list_any (λ view. has_room view && is_due rules d view key) d.views
+
+-- a job as it is given to a painter
+abbrev pub given : {S : Type 0} → Job S → PaintJob S
+given job = record { ticket = record { 0 = job.ticket }; number = job.number; group = job.keys; scene = job.scene }
+
+-- a turn cuts a job: all inputs are applied, fewer than 64 jobs are out, none of them of these keys, each
+-- key is owed, one of them to a view with room; the scene shows the document as it is now
+pub record Cuts {C B S : Type 0} (rules : Rules C B) (paints : S → Pixels) (old : Document S) (outs : Outs S) (new : Document S) : Type 0 where
+  pub job : Job S
+  pub level : old.applied ≡ length old.journal
+  pub few : length old.jobs < 64
+  pub ticket_is : job.ticket ≡ old.next_ticket
+  pub number_is : job.number ≡ old.applied
+  pub group : IsGroup job.keys
+  pub area_is : job.area ≡ place_of_keys job.keys
+  pub free : AllByRecursion (λ key. is_out old.jobs key ≡ false) job.keys
+  pub owed : AllByRecursion (λ key. is_owed rules old key ≡ true) job.keys
+  pub wanted : list_any (is_wanted rules old) job.keys ≡ true
+  pub shows : paints job.scene ≡ shown rules (doc rules old.base old.journal old.applied) job.area
+  pub outs_are : outs ≡ record { frames = []; jobs = given job ∷ [] }
+  pub new_is : new ≡ record old { jobs = old.jobs ++ job ∷ []; next_ticket = old.next_ticket + 1 }
+
+-- a turn that does a work: it applies an input, or it cuts a job
+abbrev pub Works : {C B S : Type 0} → Rules C B → (S → Pixels) → Document S → Outs S → Document S → Type 0
+Works rules paints old outs new = Applies rules old outs new ⊎ Cuts rules paints old outs new
+
+-- what a view with room is owed is under way, or 64 jobs are out
+abbrev pub IsServed : {C B S : Type 0} → Rules C B → Document S → View → Type 0
+IsServed rules d view =
+    AllByRecursion
+    (λ key. (has_room view && is_due rules d view key) ≡ true → (is_out d.jobs key ≡ true) ⊎ (64 ≤ length d.jobs))
+    (keys rules d view)
+
+-- there is nothing that a turn could do
+pub record Rests {C B S : Type 0} (rules : Rules C B) (d : Document S) : Type 0 where
+  pub level : d.applied ≡ length d.journal
+  pub served : AllByRecursion (IsServed rules d) d.views
+
+-- a turn is Worked where it did a work, and Idle where there was nothing to do
+abbrev pub TurnsTo : {C B S : Type 0} → Rules C B → (S → Pixels) → Document S → TurnAnswer S → Document S → Type 0
+TurnsTo rules paints old (Worked outs) new = Works rules paints old outs new
+TurnsTo rules paints old Idle new = Rests rules old × (new ≡ old)
+
+-- a view once the painted tile of a key was offered to it
+abbrev pub offered : {C B S : Type 0} → Rules C B → Document S → ℕ → Place → View → View
+offered rules d number key view = if takes rules d number key view then sent rules d number key view else view
+
+-- the views once the painted tiles of these keys were offered to them, key by key
+abbrev pub views_offered : {C B S : Type 0} → Rules C B → Document S → ℕ → List Place → List View → List View
+views_offered rules d number [] views = views
+views_offered rules d number (key ∷ others) views =
+    views_offered rules d number others (map (offered rules d number key) views)
+
+-- the frame that a view gets of a painted tile, if it takes it
+abbrev pub tile_for : {C B S : Type 0} → Rules C B → Document S → ℕ → Place → View → List (ViewId × Frame)
+tile_for rules d number key view = if takes rules d number key view then tile_frame rules d number key view ∷ [] else []
+
+-- the frames of painted tiles: for each key in order, the views in order of ids
+abbrev pub tiles_for : {C B S : Type 0} → Rules C B → Document S → ℕ → List Place → List View → List (ViewId × Frame)
+tiles_for rules d number [] views = []
+tiles_for rules d number (key ∷ others) views =
+    flat_map (tile_for rules d number key) views
+    ++ tiles_for rules d number others (map (offered rules d number key) views)
+
+-- a painted result is taken where its ticket is out and its scene is the one kept for it: the job goes and
+-- its tiles are offered; another result changes nothing
+abbrev pub Paints : {C B S : Type 0} → Rules C B → Document S → ℕ → S → Outs S → Document S → Option (Job S) → Type 0
+Paints rules old ticket scene outs new None = (outs ≡ nothing) × (new ≡ old)
+Paints rules old ticket scene outs new (Some job) =
+    ((scene ≢ job.scene) × (outs ≡ nothing) × (new ≡ old))
+    ⊎ ((scene ≡ job.scene) × (outs ≡ frames_only (tiles_for rules old job.number job.keys old.views))
+    × (new ≡ record old {
+      jobs = without_job old.jobs ticket;
+      views = views_offered rules old job.number job.keys old.views;
+    }))
+
+-- a view once these numbers were acknowledged: the tiles so numbered leave its window, others change nothing
+abbrev pub acknowledged : List ℕ → View → View
+acknowledged wids view = record view { window = filter (λ tile. not (list_any (λ wid. nat_eq wid tile.wid) wids)) view.window }
+
+-- the one thing that a step of the machine is
+abbrev pub Step : {C B S : Type 0} → Rules C B → (S → Pixels) → Document S → Event S → Outs S → Document S → Type 0
+Step rules paints old (Joined rights) outs new = Joins rules old rights outs new
+Step rules paints old (Said view text) outs new = Says rules old view text outs new
+Step rules paints old Turned outs new = Works rules paints old outs new ⊎ (Rests rules old × (outs ≡ nothing) × (new ≡ old))
+Step rules paints old (Painted ticket scene) outs new = Paints rules old ticket scene outs new (find_job old.jobs ticket)
+Step rules paints old (Processed view wids) outs new =
+    (outs ≡ nothing) × (new ≡ record old { views = with_view old.views view (acknowledged wids) })
+
+-- the step of a broker that can be spent: only a broker that isn't makes one, and it isn't spent after it
+abbrev pub Goes : {C B S : Type 0} → Rules C B → (S → Pixels) → Option (Document S) → Event S → Outs S → Option (Document S) → Type 0
+Goes rules paints (Some old) event outs (Some new) = Step rules paints old event outs new
+Goes rules paints (Some old) event outs None = ⊥
+Goes rules paints None event outs new = ⊥

@@ -1,0 +1,17 @@
+//! What one document does, said from scratch: its state, its events, and which outputs and which
+//! state may follow an event. The brokers are proved to be steps of this machine, and every layer
+//! above speaks of a document by these words alone. It has definitions, and laws of them, and two
+//! types that brokers answer with; it runs nothing.
+//!
+//! - `Document` (specs/State): the accepted inputs and how many of them are applied, the views with
+//!   what they asked for, what was sent to them and what they have not acknowledged, the jobs out.
+//! - `Step` (specs/Step): the machine. A run of events is a `Segment` (specs/Run).
+//! - `IsQuiet`, `AllRight` (specs/Quiet): nothing is left to do; every tile is the present one.
+//! - `Rights`, `Outs`, `Turned` (here): what a broker is told and what it answers.
+#![tactic(auto)]
+
+mod outs;
+mod rights;
+
+pub use outs::{Outs, Turned};
+pub use rights::Rights;
