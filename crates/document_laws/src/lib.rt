@@ -2,8 +2,13 @@
 //! kits alone, whatever broker runs it. Each is a function with an empty body whose contract is the law.
 #![tactic(auto)]
 
+ghost use Rattle.std.specs.Prelude.{◌≡◌, ℕ, ◌≤◌, false, List};
+ghost use Rattle.document_machine.specs.Due.{touched};
 ghost use Rattle.document_machine.specs.Quiet.{IsQuiet, AllRight};
 ghost use Rattle.document_machine.specs.State.{Document};
+ghost use Rattle.kit_trait.specs.Rules.{doc, shown};
+ghost use Rattle.kit_trait.specs.declared.values.Input.{Input as Typed};
+ghost use Rattle.tile_key.specs.Places.{Place};
 
 use kit_trait::Kit;
 
@@ -11,4 +16,11 @@ use kit_trait::Kit;
 /// accepted inputs.
 pub fn quiet_is_right<K: Kit>()
     ensures { (d : Document K.Scene) → IsQuiet K.rules d → AllRight K.rules d }
+{}
+
+/// A place looks the same after the first `n` inputs as after the first `version` of them, where no input
+/// between damaged a rectangle that meets it. The place is any of at least one twip each way, as every key
+/// and every area is.
+pub fn untouched_is_unchanged<K: Kit>()
+    ensures { (base : List ℕ) (journal : List Typed) (version n : ℕ) (place : Place) → 1 ≤ place.tilewidth → 1 ≤ place.tileheight → version ≤ n → touched K.rules base journal version place n ≡ false → shown K.rules (doc K.rules base journal n) place ≡ shown K.rules (doc K.rules base journal version) place }
 {}
