@@ -31,7 +31,7 @@ all_inserted P (other ∷ others) key here all =
     go (is_lt (key_order key other)) (same_place key other)
 
 -- what holds of the keys of two lists holds once they are in one
-all_ordered : (P : Place → Type 0) (keys list : List Place) → AllByRecursion P keys → AllByRecursion P list → AllByRecursion P (ordered keys list)
+pub all_ordered : (P : Place → Type 0) (keys list : List Place) → AllByRecursion P keys → AllByRecursion P list → AllByRecursion P (ordered keys list)
 all_ordered P [] list all more = more
 all_ordered P (key ∷ keys) list all more = all_ordered P keys (inserted list key) all.1 (all_inserted P list key all.0 more)
 
@@ -45,7 +45,7 @@ among_more key other list e =
     go (same_place other key)
 
 -- a list has each of its keys
-all_among : (list : List Place) → AllByRecursion (λ key. is_among list key ≡ true) list
+pub all_among : (list : List Place) → AllByRecursion (λ key. is_among list key ≡ true) list
 all_among [] = tt
 all_among (other ∷ others) =
     let here : is_among (other ∷ others) other ≡ true = rw (same_self other) refl in
@@ -53,19 +53,19 @@ all_among (other ∷ others) =
     both (λ key. is_among others key ≡ true) (λ key. is_among others key ≡ true) (λ key. is_among (other ∷ others) key ≡ true) keys (λ key p q. among_more key other others p) all all in
     (here, weaker others (all_among others))
 
--- a key that is owed to a view with room is in a job, which is not so where none is out
-none_owed : {C B S : Type 0} (rules : Rules C B) (d : Document S) (view : View) (key : Place)
+-- where no job is out, a key asked for by a view with room is not served
+pub owed_none : {C B S : Type 0} (rules : Rules C B) (d : Document S) (view : View) (key : Place)
     → d.jobs ≡ [] → view.window ≡ [] → is_among view.asked key ≡ true
-    → ((has_room view && is_due rules d view key) ≡ true → (is_out d.jobs key ≡ true) ⊎ (64 ≤ length d.jobs)) → IsRight rules d view key
-none_owed rules d view key no_job empty asked served =
+    → ((has_room view && is_due rules d view key) ≡ true → (is_out d.jobs key ≡ true) ⊎ (64 ≤ length d.jobs)) → ⊥
+owed_none rules d view key no_job empty asked served =
     let room : has_room view ≡ true = ap (λ window. nat_lt (length window) 64) empty in
     let due : is_due rules d view key ≡ true = rw asked refl in
     let out : is_out d.jobs key ≡ false = ap (λ jobs. is_out jobs key) no_job in
     let few : length d.jobs ≡ 0 = ap length no_job in
     let wanted : (has_room view && is_due rules d view key) ≡ true = rw (room, due) refl in
     elim (served wanted) [
-      | inl is ↦ absurd (cc)
-      | inr many ↦ absurd (omega arith)
+      | inl is ↦ (cc)
+      | inr many ↦ (omega arith)
     ]
 
 pub quiet_is_right : {C B S : Type 0} (rules : Rules C B) (d : Document S) → IsQuiet rules d → AllRight rules d
@@ -75,7 +75,7 @@ quiet_is_right rules d quiet =
     both (λ key. is_among view.asked key ≡ true)
     (λ key. (has_room view && is_due rules d view key) ≡ true → (is_out d.jobs key ≡ true) ⊎ (64 ≤ length d.jobs))
     (IsRight rules d view) (keys rules d view)
-    (λ key asked owed. none_owed rules d view key quiet.no_job empty asked owed)
+    (λ key asked owed. absurd (owed_none rules d view key quiet.no_job empty asked owed))
     (all_ordered (λ key. is_among view.asked key ≡ true) view.asked [] (all_among view.asked) tt)
     served)
     quiet.rests.served quiet.empty

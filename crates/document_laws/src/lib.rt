@@ -2,9 +2,9 @@
 //! kits alone, whatever broker runs it. Each is a function with an empty body whose contract is the law.
 #![tactic(auto)]
 
-ghost use Rattle.std.specs.Prelude.{◌≡◌, ℕ, ◌≤◌, false, List};
+ghost use Rattle.std.specs.Prelude.{◌≡◌, ℕ, ◌≤◌, true, false, List};
 ghost use Rattle.document_machine.specs.Due.{touched};
-ghost use Rattle.document_machine.specs.Quiet.{IsQuiet, AllRight};
+ghost use Rattle.document_machine.specs.Quiet.{IsQuiet, is_quiet, AllRight};
 ghost use Rattle.document_machine.specs.State.{Document};
 ghost use Rattle.kit_trait.specs.Rules.{doc, shown};
 ghost use Rattle.kit_trait.specs.declared.values.Input.{Input as Typed};
@@ -23,4 +23,10 @@ pub fn quiet_is_right<K: Kit>()
 /// and every area is.
 pub fn untouched_is_unchanged<K: Kit>()
     ensures { (base : List ℕ) (journal : List Typed) (version n : ℕ) (place : Place) → 1 ≤ place.tilewidth → 1 ≤ place.tileheight → version ≤ n → touched K.rules base journal version place n ≡ false → shown K.rules (doc K.rules base journal n) place ≡ shown K.rules (doc K.rules base journal version) place }
+{}
+
+/// The test of a quiet document passes exactly where the document is quiet.
+pub fn quiet_test<K: Kit>()
+    ensures passed { (d : Document K.Scene) → is_quiet K.rules d ≡ true → IsQuiet K.rules d }
+    ensures passes { (d : Document K.Scene) → IsQuiet K.rules d → is_quiet K.rules d ≡ true }
 {}
