@@ -1,5 +1,5 @@
 -- A line that the grammar lets act, done or stopped, as an answer to it.
-use Rattle.std.proofs.Common.{◌≡◌, ◌⊎◌, ℕ, List, [], Option, None, Some, inl, inr, refl, ap, sym, subst}
+use Rattle.std.proofs.Common.{◌≡◌, ◌⊎◌, ℕ, List, Option, Some, inl, inr, refl, sym, subst}
 use Rattle.document_machine.specs.declared.rights.Rights.{Rights}
 use Rattle.kit_trait.specs.Rules.{Rules}
 use Rattle.kit_trait.specs.declared.values.Pixels.{Pixels}
@@ -8,7 +8,7 @@ use Rattle.script_lines.specs.Grammar.{verdict}
 use Rattle.script_lines.specs.declared.grammar.Place.{Place}
 use Rattle.script_lines.specs.declared.grammar.ScriptLine.{ScriptLine}
 use Rattle.script_lines.specs.declared.grammar.Verdict.{Verdict}
-use Rattle.script_lines.specs.declared.grammar.Verdict.TheVariants.{Acts, Ends, Refused}
+use Rattle.script_lines.specs.declared.grammar.Verdict.TheVariants.{Acts, Refused}
 use Rattle.script_lines.specs.declared.output.Stop.{Stop}
 use Rattle.script_lines.specs.declared.output.Stop.TheVariants.{Sink, Memory as NoMemory}
 use Rattle.script_lines.specs.Records.{fault_text}
