@@ -1,2 +1,3 @@
-pub mod World
 pub mod Script
+pub mod Follows
+pub mod Replay

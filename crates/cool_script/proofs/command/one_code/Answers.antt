@@ -1,0 +1,8 @@
+use Rattle.std.proofs.Common.{ap}
+use Rattle.cool_script.specs.Replay.{code_of}
+use Rattle.cool_script.specs.Script.{first}
+use Rattle.cool_script.proofs.command.one_code.Goals as goal
+
+pub returns : goal.returns
+returns c left left_now sink sink_now other other_now reads reads_now writes writes_now a b read_below write_below this that no_want no_other_want =
+    ap code_of (c.one_status.ensures first left left_now sink sink_now other other_now reads reads_now writes writes_now a b read_below write_below this that no_want no_other_want)

@@ -1,0 +1,29 @@
+-- The words and the exit statuses of `replay`, and what a script on a patch document comes to.
+use Rattle.std.specs.Prelude.{ℕ, ◌≡◌, List, [], ◌∷◌, codes, Option}
+use Rattle.kit_trait.specs.Patch.{patch_rules}
+use Rattle.kit_trait.specs.PatchSeen.{scene_picture}
+use Rattle.script_run.specs.Outcome.{Outcome}
+use Rattle.script_run.specs.declared.status.Status.{Status}
+use Rattle.script_run.specs.declared.status.Status.TheVariants.{Done, WrongWords, FaultLine, ReadFault, WriteFault, Memory, NoEnd}
+use Rattle.script_world.specs.World.{writer}
+use Rattle.cool_script.specs.Script.{first, Acting, UnderWay}
+
+-- the words of the command line are `replay patch`
+abbrev pub PlaysPatch : List (List ℕ) → Type 0
+PlaysPatch words = words ≡ codes "replay" ∷ codes "patch" ∷ []
+
+-- A script was played on a patch document from its first line on, over a source and a sink that hold these
+-- bytes and counts of faults before and after, and ended with this status.
+abbrev pub Plays : (source_then source_now sink_then sink_now : Option (List ℕ)) (reads reads_now writes writes_now : ℕ) → Status → Type 0
+Plays source_then source_now sink_then sink_now reads reads_now writes writes_now status =
+    Outcome (λ s. s.place) (Acting patch_rules scene_picture writer) (UnderWay patch_rules scene_picture writer) first source_then source_now sink_then sink_now reads reads_now writes writes_now status
+
+-- the exit status
+abbrev pub code_of : Status → ℕ
+code_of Done = 0
+code_of WrongWords = 2
+code_of FaultLine = 3
+code_of ReadFault = 4
+code_of WriteFault = 5
+code_of Memory = 6
+code_of NoEnd = 7

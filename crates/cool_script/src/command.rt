@@ -1,0 +1,99 @@
+//! The command `replay`.
+ghost use Rattle.std.specs.Prelude.{◌≡◌, ◌≢◌, ◌↔◌, ◌<◌, ◌⊎◌, ◌∷◌, [], ℕ, List, Option, Some, map, string_bytes, IsTrue};
+ghost use Rattle.outside.specs.Causes.{HasCause, Rose};
+ghost use Rattle.script_lines.specs.Grammar.{start};
+ghost use Rattle.script_run.specs.Complete.{HasEnd};
+ghost use Rattle.script_run.specs.declared.status.Status.{Status};
+ghost use Rattle.cool_script.specs.Replay.{PlaysPatch, Plays, code_of};
+
+use crate::script::Script;
+use kit_trait::PatchKit;
+use outside::{Sink, Source};
+use script_run::{Status, comes_to_its_end, one_status, run};
+use std::alloc::Global;
+
+/// Plays the script of the source on a patch document, and writes the transcript to the sink. The words
+/// are those of the command line without the program's name. The exit status is 0 at the line `end`, 2
+/// where the words are not `replay patch`, 3 at a refused line, 4 and 5 where the source or the sink
+/// failed, 6 for want of memory, and 7 where no line `end` came in time.
+pub fn replay<S: Source, T: Sink>(
+    alloc: Global,
+    words: &[String],
+    source: &mut S,
+    sink: &mut T,
+) -> u8
+    ensures transcript { PlaysPatch (map string_bytes words.now) → (status : Status)
+        × Plays (S.left source.old) (S.left source.new) (T.written sink.old) (T.written sink.new) (S.faults source.old) (S.faults source.new) (T.faults sink.old) (T.faults sink.new) status
+        × (result ≡ code_of status) }
+
+    // Other words, and they alone, are answered by 2, and then nothing is read or written.
+    ensures words { result ≡ 2 ↔ (PlaysPatch (map string_bytes words.now) → ⊥) }
+    ensures untouched { result ≡ 2 → (source.new ≡ source.old) × (sink.new ≡ sink.old) }
+
+    // A count of faults rises exactly where the status says who failed.
+    ensures read { HasCause (S.faults source.old) (S.faults source.new) (result ≡ 4) }
+    ensures write { HasCause (T.faults sink.old) (T.faults sink.new) (result ≡ 5) }
+
+    // A script with its end in time comes to it, or there was no memory.
+    ensures complete { (left : List ℕ) → PlaysPatch (map string_bytes words.now) → S.left source.old ≡ Some left → HasEnd start left
+        → (Rose (S.faults source.old) (S.faults source.new) → ⊥) → (Rose (T.faults sink.old) (T.faults sink.new) → ⊥)
+        → (result ≡ 0) ⊎ (result ≡ 6) }
+{
+    comes_to_its_end::<Script<PatchKit>>();
+    if !plays_patch(words) {
+        return 2;
+    }
+    code(played(alloc, source, sink))
+}
+
+/// For one told input and one pair of counts of faults one exit status is right, want of memory aside.
+pub fn one_code()
+    ensures { (left left_now : List ℕ) (sink sink_now other other_now : Option (List ℕ)) (reads reads_now writes writes_now : ℕ) (a b : Status)
+        → reads < 18446744073709551615 → writes < 18446744073709551615
+        → Plays (Some left) (Some left_now) sink sink_now reads reads_now writes writes_now a
+        → Plays (Some left) (Some left_now) other other_now reads reads_now writes writes_now b
+        → a ≢ Status.Memory → b ≢ Status.Memory → code_of a ≡ code_of b }
+{
+    one_status::<Script<PatchKit>>();
+}
+
+// Whether the words are `replay patch`.
+fn plays_patch(words: &[String]) -> bool
+    ensures { IsTrue result ↔ PlaysPatch (map string_bytes words.now) }
+{
+    match words {
+        [first, second] => {
+            if first.as_str() != "replay" {
+                return false;
+            }
+            if second.as_str() != "patch" {
+                return false;
+            }
+            true
+        }
+        _ => false,
+    }
+}
+
+// The script on a patch document, from its first line on.
+fn played<S: Source, T: Sink>(alloc: Global, source: &mut S, sink: &mut T) -> Status
+    ensures { Plays (S.left source.old) (S.left source.new) (T.written sink.old) (T.written sink.new) (S.faults source.old) (S.faults source.new) (T.faults sink.old) (T.faults sink.new) result }
+{
+    let mut script = Script::<PatchKit>::new(alloc);
+    run(alloc, &mut script, source, sink)
+}
+
+// The exit status of a status.
+fn code(status: Status) -> u8
+    ensures { result ≡ code_of status }
+{
+    match status {
+        Status::Done => 0,
+        Status::WrongWords => 2,
+        Status::FaultLine => 3,
+        Status::ReadFault => 4,
+        Status::WriteFault => 5,
+        Status::Memory => 6,
+        Status::NoEnd => 7,
+    }
+}

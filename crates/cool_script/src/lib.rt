@@ -1,0 +1,13 @@
+//! Scripts on the daemon's world, and the command that replays them.
+//!
+//! `Script` is the world of one document with the place in the script's grammar, as a player of
+//! scripts. `replay` plays the script of a source on a patch document, and writes the transcript.
+#![tactic(auto)]
+
+mod command;
+mod script;
+#[cfg(test)]
+mod tests;
+
+pub use command::{one_code, replay};
+pub use script::Script;
