@@ -1,5 +1,5 @@
 //! One event of the link and one turn of the document, as the records that they write.
-ghost use Rattle.std.specs.Prelude.{◌≡◌, [], List, ℕ, IfOk, option_map_or, false, true};
+ghost use Rattle.std.specs.Prelude.{◌≡◌, [], IfOk, true, Some};
 ghost use Rattle.cool_frame.specs.Frames.{frame_bytes};
 ghost use Rattle.script_lines.specs.Records.{record_of as record_bytes};
 ghost use Rattle.document_machine.specs.State.{opening};
