@@ -23,7 +23,7 @@ use Rattle.script_lines.specs.declared.output.Stop.TheVariants.{Sink}
 use Rattle.script_run.specs.Play.{Stopped}
 use Rattle.script_run.proofs.Moves.{adds_nothing}
 use Rattle.script_world.specs.Moved.{Came, MadeFrom, EventWritten, TurnWritten, Emptied, RestsNow, left_of}
-use Rattle.script_world.specs.World.{Seen, Move, Event, Work, Empty, Moves, writer, records, LoadsWhere, SaysWhere, TakesOne, TurnsOne, EventDone, IsAtRest, Settled, Begun}
+use Rattle.script_world.specs.World.{Seen, Move, Event, Work, Empty, Moves, writer, held, records, LoadsWhere, SaysWhere, TakesOne, TurnsOne, EventDone, IsAtRest, Settled, Begun}
 use Rattle.script_world.specs.declared.event.Waiting.{Waiting}
 use Rattle.script_world.specs.declared.event.Waiting.TheVariants.{Says}
 use Rattle.script_world.proofs.Chains.{came_one, came_joined, stopped_later, stopped_writing}
@@ -271,3 +271,32 @@ turn_cut rules paints true old new out shown a b stop done same is part =
     (refl, refl, done) is (subst (λ (o : List ℕ). AddsPart a o b) same part)
 turn_cut rules paints false None new out shown a b stop done same is part = absurd (nothing_cut a b (subst (λ (o : List ℕ). AddsPart a o b) (same ∙ done.0) part))
 turn_cut rules paints false (Some d) new out shown a b stop done same is part = absurd (nothing_cut a b (subst (λ (o : List ℕ). AddsPart a o b) (same ∙ done.0) part))
+
+-- the world whose document was taken out of it
+same_world : {S : Type 0} (waiting : List Waiting) (taken inside : Option (Option (Document S))) (self : Seen S) → taken ≡ inside → record { waiting = waiting; document = held inside } ≡ self → record { waiting = waiting; document = held taken } ≡ self
+same_world {S} waiting taken inside self same is = ap (λ (b : Option (Option (Document S))). record { waiting = waiting; document = held b }) same ∙ is
+
+-- all events, and then up to rest, settles the world
+pub settles : {C B S : Type 0} (rules : Rules C B) (paints : S → Pixels) (waiting left : List Waiting) (taken inside : Option (Option (Document S))) (self : Seen S) (mid new : Option (Document S)) (a b c : Option (List ℕ))
+    → taken ≡ inside → record { waiting = waiting; document = held inside } ≡ self → left ≡ []
+    → Came (Moves rules paints writer) (record { waiting = waiting; document = held taken }) (record { waiting = []; document = mid }) a b
+    → Came (Moves rules paints writer) (record { waiting = []; document = mid }) (record { waiting = []; document = new }) b c
+    → IsAtRest rules new
+    → (out : List ℕ) × Settled rules paints writer self out (record { waiting = left; document = new }) × Adds a out c
+settles {C} {B} {S} rules paints waiting left taken inside self mid new a b c same is none first later rests =
+    let s : Seen S = record { waiting = waiting; document = held taken } in
+    let t : Seen S = record { waiting = []; document = new } in
+    let t_is : t ≡ record { waiting = left; document = new } = ap (λ (w : List Waiting). record { waiting = w; document = new }) (sym none) in
+    let all : (out : List ℕ) × Settled rules paints writer s out t × Adds a out c = settled_by rules paints s (record { waiting = []; document = mid }) t a b c first later refl rests in
+    (all.0, subst (λ (x : Seen S). Settled rules paints writer self all.0 x) t_is (subst (λ (x : Seen S). Settled rules paints writer x all.0 t) (same_world waiting taken inside self same is) all.1), all.2)
+
+-- stopped behind the events
+pub settle_stopped : {C B S : Type 0} (rules : Rules C B) (paints : S → Pixels) (waiting : List Waiting) (taken inside : Option (Option (Document S))) (self : Seen S) (mid : Option (Document S)) (a b c : Option (List ℕ)) (stop : Stop)
+    → taken ≡ inside → record { waiting = waiting; document = held inside } ≡ self
+    → Came (Moves rules paints writer) (record { waiting = waiting; document = held taken }) (record { waiting = []; document = mid }) a b
+    → Stopped stop (MadeFrom (Moves rules paints writer) (record { waiting = []; document = mid })) b c
+    → Stopped stop (Begun rules paints writer self) a c
+settle_stopped {C} {B} {S} rules paints waiting taken inside self mid a b c stop same is first later =
+    let s : Seen S = record { waiting = waiting; document = held taken } in
+    subst (λ (x : Seen S). Stopped stop (Begun rules paints writer x) a c) (same_world waiting taken inside self same is)
+    (begun_of rules paints s a c stop (stopped_later (Moves rules paints writer) s (record { waiting = []; document = mid }) a b c stop first later))
