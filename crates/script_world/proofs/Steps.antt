@@ -254,7 +254,7 @@ pub event_cut : {C B S : Type 0} (rules : Rules C B) (paints : S → Pixels) (ev
     → (rest : List Waiting) → Stopped stop (MadeFrom (Moves rules paints writer) (record { waiting = event ∷ rest; document = old })) a b
 event_cut rules paints event old new out shown a b stop done same is part =
     λ rest. stopped_writing (Moves rules paints writer) Event (record { waiting = event ∷ rest; document = old }) out (record { waiting = rest; document = new }) a b stop
-      (event, refl, done) is (subst (λ (o : List ℕ). AddsPart a o b) same part)
+    (event, refl, done) is (subst (λ (o : List ℕ). AddsPart a o b) same part)
 
 -- nothing can't be cut
 nothing_cut : (a b : Option (List ℕ)) → AddsPart a [] b → ⊥

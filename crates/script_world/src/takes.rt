@@ -128,7 +128,11 @@ fn says<K: Kit>(alloc: Global, broker: Option<Broker<K>>, text: &[u8]) -> Result
 }
 
 /// Takes one event.
-fn takes<K: Kit>(alloc: Global, broker: Option<Broker<K>>, event: Waiting) -> Result<Step<K>, Memory>
+fn takes<K: Kit>(
+    alloc: Global,
+    broker: Option<Broker<K>>,
+    event: Waiting,
+) -> Result<Step<K>, Memory>
     ensures { IfOk result (λ step. TakesOne K.rules K.Scene.paints writer event (held broker) step.bytes.items (held step.broker)) }
 {
     match event {
@@ -181,7 +185,11 @@ pub(crate) fn turns<K: Kit>(alloc: Global, broker: Option<Broker<K>>) -> Result<
 }
 
 /// One event and directly behind it one turn.
-pub(crate) fn does<K: Kit>(alloc: Global, broker: Option<Broker<K>>, event: Waiting) -> Result<Step<K>, Memory>
+pub(crate) fn does<K: Kit>(
+    alloc: Global,
+    broker: Option<Broker<K>>,
+    event: Waiting,
+) -> Result<Step<K>, Memory>
     ensures { IfOk result (λ step. EventDone K.rules K.Scene.paints writer event (held broker) step.bytes.items (held step.broker)) }
 {
     let taken = takes(alloc, broker, event)?;

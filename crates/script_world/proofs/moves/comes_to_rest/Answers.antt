@@ -9,11 +9,11 @@ use Rattle.script_world.proofs.moves.comes_to_rest.Goals as goal
 pub returns-in_err-still-clause-stop : goal.returns-in_err-still-clause-stop
 returns-in_err-still-clause-stop g c =
     handed_on c.from_residual.result c.in_err-still.field-0.0
-      (λ stop. Stopped stop (MadeFrom (Moves g.K.Kit.rules g.K.Scene.Scene.paints writer) (record { waiting = []; document = held c.args.broker })) (g.T.Sink.written c.args.sink.now) (g.T.Sink.written c.works.new.sink))
-      c.from_residual.ensures.1
-      (stopped_later (Moves g.K.Kit.rules g.K.Scene.Scene.paints writer) (record { waiting = []; document = held c.args.broker }) (record { waiting = []; document = held c.loop-busy.broker })
-        (g.T.Sink.written c.args.sink.now) (g.T.Sink.written c.loop-busy.sink) (g.T.Sink.written c.works.new.sink) c.in_err-still.field-0.0
-        c.loop-busy.invariant.came c.in_err-still.ensures.stop)
+    (λ stop. Stopped stop (MadeFrom (Moves g.K.Kit.rules g.K.Scene.Scene.paints writer) (record { waiting = []; document = held c.args.broker })) (g.T.Sink.written c.args.sink.now) (g.T.Sink.written c.works.new.sink))
+    c.from_residual.ensures.1
+    (stopped_later (Moves g.K.Kit.rules g.K.Scene.Scene.paints writer) (record { waiting = []; document = held c.args.broker }) (record { waiting = []; document = held c.loop-busy.broker })
+    (g.T.Sink.written c.args.sink.now) (g.T.Sink.written c.loop-busy.sink) (g.T.Sink.written c.works.new.sink) c.in_err-still.field-0.0
+    c.loop-busy.invariant.came c.in_err-still.ensures.stop)
 
 pub loop-busy-preserved : goal.loop-busy-preserved
 loop-busy-preserved g c = record {
