@@ -7,8 +7,6 @@
 mod event;
 mod moves;
 mod takes;
-#[cfg(test)]
-mod tests;
 mod world;
 
 pub use event::Waiting;

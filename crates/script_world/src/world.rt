@@ -48,9 +48,9 @@ impl<K: Kit> World<K> {
         ensures err { OnErr result (self.new ≡ self.old) }
     {
         self.waiting.reserve(3)?;
-        self.waiting.push_back(Waiting::Opened)?;
-        self.waiting.push_back(Waiting::Greets)?;
-        self.waiting.push_back(Waiting::Loads(file))?;
+        self.waiting.push_back_reserved(Waiting::Opened);
+        self.waiting.push_back_reserved(Waiting::Greets);
+        self.waiting.push_back_reserved(Waiting::Loads(file));
         Ok(())
     }
 

@@ -30,7 +30,6 @@ use Rattle.document_machine.specs.declared.rights.Rights.{Rights}
 use Rattle.document_machine.proofs.Lists.{nat_eq_self, find_holds, find_fails, holds_among, taken_out, filter_le, fewer}
 use Rattle.document_machine.proofs.Present.{untouched}
 use Rattle.solo_broker.specs.Held.{Holds, Fits}
-
 use Rattle.document_machine.proofs.OneView.{parts, all_push, all_filter, doc_more, live_is, served, sent_is, next_gives, empties_by}
 
 -- another view that fits
@@ -69,7 +68,7 @@ got (y ∷ ys) (suc i) x lt e = got ys i x (omega arith) e
 pub same_part : (p q : Place) → same_place p q ≡ true → p.part ≡ q.part
 same_part p q e =
     let go : (b : Bool) → nat_eq p.part q.part ≡ b → p.part ≡ q.part = elim [
-      true ↦ λ is. grind (arith, nat_tests)
+      | true ↦ λ is. grind (arith, nat_tests)
       | false ↦ λ is. let bad : false ≡ true = rw is at e in absurd (cc)
     ] in
     go (nat_eq p.part q.part) refl

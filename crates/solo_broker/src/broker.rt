@@ -1,6 +1,6 @@
 //! `Broker`: the calls of a document, each a step of the document machine.
 ghost use Rattle.std.specs.Prelude.{◌≡◌, ℕ, [], length, true, false, None, Some, IsSome, IfOk, OnOk, OnErr};
-ghost use Rattle.std.specs.Option.{ForSome, option_map_or};
+ghost use Rattle.std.specs.Option.{ForSome, is_some, option_map_or};
 ghost use Rattle.document_machine.specs.AtOnce.{GoesAtOnce, GoesEmpty};
 ghost use Rattle.document_machine.specs.Event.{Joined, Said, Processed};
 ghost use Rattle.document_machine.specs.Outputs.{frames_only, nothing};
@@ -59,7 +59,12 @@ impl<K: Kit> Broker<K> {
     }
 
     /// The view says a text: its one effect, and the error frame of a refusal.
-    pub fn message(&mut self, alloc: Global, view: ViewId, text: &[u8]) -> Result<ListOf<(ViewId, Frame)>, Memory>
+    pub fn message(
+        &mut self,
+        alloc: Global,
+        view: ViewId,
+        text: &[u8],
+    ) -> Result<ListOf<(ViewId, Frame)>, Memory>
         requires { ForSome self.old (λ d. IsSome (find_view d.views view.0)) }
         ensures step { IfOk result (λ frames. Goes K.rules K.Scene.paints self.old (Said view.0 text.now) (frames_only frames) self.new) }
         ensures spent { OnErr result (self.new ≡ None) }
@@ -75,7 +80,10 @@ impl<K: Kit> Broker<K> {
     /// One turn, and the job that it cuts painted and answered directly behind it: the frames of all of
     /// it, or None exactly where there is nothing to do. With each answer that isn't None less is left
     /// to do, so a loop up to None ends.
-    pub fn turn_and_paint(&mut self, alloc: Global) -> Result<Option<ListOf<(ViewId, Frame)>>, Memory>
+    pub fn turn_and_paint(
+        &mut self,
+        alloc: Global,
+    ) -> Result<Option<ListOf<(ViewId, Frame)>>, Memory>
         ensures step { IfOk result (λ frames. GoesAtOnce K.rules K.Scene.paints self.old frames self.new) }
         ensures spent { OnErr result (self.new ≡ None) }
     {
@@ -116,6 +124,16 @@ impl<K: Kit> Broker<K> {
     {
         match &self.core {
             Some(core) => core.is_quiet(),
+            None => false,
+        }
+    }
+
+    /// Whether this is the document's view; false where the broker is spent.
+    pub fn is_live(&self, view: ViewId) -> bool
+        ensures { result ≡ option_map_or (λ d. is_some (find_view d.views view.0)) self.now false }
+    {
+        match &self.core {
+            Some(core) => core.is_live(view.0),
             None => false,
         }
     }

@@ -28,18 +28,26 @@ pub(crate) enum Said {
 }
 
 /// What the text does, where so many inputs are accepted and there are so many parts.
-pub(crate) fn judge(alloc: Global, count: u64, parts: u32, view: &Session, text: &[u8]) -> Result<Said, Memory>
+pub(crate) fn judge(
+    alloc: Global,
+    count: u64,
+    parts: u32,
+    view: &Session,
+    text: &[u8],
+) -> Result<Said, Memory>
     ensures { IfOk result (λ said. verdict said ≡ effect_of count parts view.now text.now) }
 {
     match read_message(alloc, text) {
-        Ok(ClientMessage::Mouse {
-            kind: MouseKind::ButtonDown,
-            x,
-            y,
-            count: clicks,
-            buttons,
-            modifier,
-        }) => press(
+        Ok(
+            ClientMessage::Mouse {
+                kind: MouseKind::ButtonDown,
+                x,
+                y,
+                count: clicks,
+                buttons,
+                modifier,
+            },
+        ) => press(
             alloc,
             count,
             view,

@@ -15,7 +15,12 @@ use std::alloc::Global;
 
 impl<K: Kit> Core<K> {
     /// The one effect of the text, and the frame of a refusal.
-    pub(crate) fn message(self, alloc: Global, id: u32, text: &[u8]) -> Result<(Core<K>, Frames), Memory>
+    pub(crate) fn message(
+        self,
+        alloc: Global,
+        id: u32,
+        text: &[u8],
+    ) -> Result<(Core<K>, Frames), Memory>
         requires { IsSome (find_view self.views id) }
         ensures { IfOk result (λ r. Says K.rules self id text.now (frames_only r.1) r.0) }
     {
