@@ -1,13 +1,12 @@
 -- Moves one after the other, with what they wrote to a sink, over any kind of move.
-use Rattle.std.proofs.Common.{◌≡◌, ◌≢◌, ◌∙◌, ℕ, ◌<◌, List, [], ◌∷◌, ◌++◌, length, length-append, refl, ap, sym, subst, append_assoc, arith, inl, inr, Option, None, Some}
-use Rattle.std.specs.Prelude.{◌⊎◌, Result, Ok, Err, IfOk, IfErr, OnOk, OnErr}
+use Rattle.std.proofs.Common.{◌≡◌, ◌∙◌, ℕ, List, [], ◌∷◌, ◌++◌, refl, ap, sym, subst, append_assoc, arith, Option}
 use Rattle.std.proofs.lemmas.List.{append-nil}
 use Rattle.outside.specs.Causes.{HasCause}
 use Rattle.outside.specs.Streams.{Adds}
 use Rattle.script_lines.specs.Records.{AddsPart}
 use Rattle.script_lines.specs.declared.output.Stop.{Stop}
 use Rattle.script_lines.specs.declared.output.Stop.TheVariants.{Sink, Memory as NoMemory}
-use Rattle.script_run.specs.Play.{IsCut, Stopped}
+use Rattle.script_run.specs.Play.{Stopped}
 use Rattle.script_run.proofs.Moves.{adds_more, adds_nothing, adds_same}
 use Rattle.script_world.specs.Moved.{Came, MadeFrom}
 use Rattle.script_world.specs.World.{Chain}

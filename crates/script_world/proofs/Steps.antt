@@ -1,6 +1,6 @@
 -- Events, turns and acknowledged tiles, as moves.
-use Rattle.std.proofs.Common.{◌≡◌, ◌∙◌, ℕ, ◌+◌, ◌<◌, ◌≤◌, Bool, true, false, cond, List, [], ◌∷◌, ◌++◌, length, length-append, refl, ap, sym, subst, arith, Option, None, Some}
-use Rattle.std.specs.Prelude.{◌⊎◌, IsSome, Result, IfErr}
+use Rattle.std.proofs.Common.{◌≡◌, ◌∙◌, ℕ, ◌+◌, ◌<◌, Bool, true, false, cond, List, [], ◌∷◌, ◌++◌, length, length-append, refl, ap, sym, subst, arith, Option, None, Some}
+use Rattle.std.specs.Prelude.{IsSome, Result, IfErr}
 use Rattle.std.specs.Result.{IsErrAnd}
 use Rattle.std.proofs.lemmas.Result.{err_from_is_err_and}
 use Rattle.std.specs.Option.{ForSome, is_some, option_map_or}
@@ -12,7 +12,6 @@ use Rattle.document_machine.specs.Outputs.{frames_only}
 use Rattle.document_machine.specs.Quiet.{IsQuiet, left_to_do}
 use Rattle.document_machine.specs.State.{Document, opening, find_view}
 use Rattle.document_machine.specs.Step.{Goes, Rests}
-use Rattle.document_machine.specs.declared.rights.Rights.{Rights}
 use Rattle.kit_trait.specs.Rules.{Rules}
 use Rattle.kit_trait.specs.declared.values.Pixels.{Pixels}
 use Rattle.outside.specs.Causes.{HasCause}
@@ -23,7 +22,7 @@ use Rattle.script_lines.specs.declared.output.Stop.TheVariants.{Sink}
 use Rattle.script_run.specs.Play.{Stopped}
 use Rattle.script_run.proofs.Moves.{adds_nothing}
 use Rattle.script_world.specs.Moved.{Came, MadeFrom, EventWritten, TurnWritten, Emptied, RestsNow, left_of}
-use Rattle.script_world.specs.World.{Seen, Move, Event, Work, Empty, Moves, writer, held, records, LoadsWhere, SaysWhere, TakesOne, TurnsOne, EventDone, IsAtRest, Settled, Begun}
+use Rattle.script_world.specs.World.{Seen, Event, Work, Empty, Moves, writer, held, records, LoadsWhere, SaysWhere, TakesOne, TurnsOne, EventDone, IsAtRest, Settled, Begun}
 use Rattle.script_world.specs.declared.event.Waiting.{Waiting}
 use Rattle.script_world.specs.declared.event.Waiting.TheVariants.{Says}
 use Rattle.script_world.proofs.Chains.{came_one, came_joined, stopped_later, stopped_writing}

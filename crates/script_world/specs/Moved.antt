@@ -1,5 +1,5 @@
 -- Moves that were made, with what they wrote to a sink.
-use Rattle.std.specs.Prelude.{ℕ, ◌≡◌, List, [], ◌∷◌, Option, None, Some, Bool, true, false}
+use Rattle.std.specs.Prelude.{ℕ, ◌≡◌, List, Option, None, Some, Bool, false}
 use Rattle.document_machine.specs.AtOnce.{Empties}
 use Rattle.document_machine.specs.Quiet.{left_to_do}
 use Rattle.document_machine.specs.State.{Document}

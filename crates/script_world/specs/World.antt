@@ -1,6 +1,6 @@
 -- The world of a script: one link, at most one document, and the events that wait. It is said by the
 -- document machine's steps, for any kit.
-use Rattle.std.specs.Prelude.{ℕ, ◌≡◌, List, [], ◌∷◌, ◌++◌, codes, Option, None, Some, ◌⊎◌, Bool, true, false}
+use Rattle.std.specs.Prelude.{ℕ, ◌≡◌, List, [], ◌∷◌, ◌++◌, codes, Option, None, Some, Bool, true, false}
 use Rattle.std.specs.List.{flat_map}
 use Rattle.std.specs.Option.{is_some}
 use Rattle.cool_base.specs.declared.ids.ViewId.{ViewId}
