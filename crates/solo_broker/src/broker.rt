@@ -1,6 +1,6 @@
 //! `Broker`: the calls of a document, each a step of the document machine.
 ghost use Rattle.std.specs.Prelude.{◌≡◌, ℕ, [], length, true, false, None, Some, IsSome, IfOk, OnOk, OnErr};
-ghost use Rattle.std.specs.Option.{ForSome, option_map_or};
+ghost use Rattle.std.specs.Option.{ForSome, is_some, option_map_or};
 ghost use Rattle.document_machine.specs.AtOnce.{GoesAtOnce, GoesEmpty};
 ghost use Rattle.document_machine.specs.Event.{Joined, Said, Processed};
 ghost use Rattle.document_machine.specs.Outputs.{frames_only, nothing};
@@ -124,6 +124,16 @@ impl<K: Kit> Broker<K> {
     {
         match &self.core {
             Some(core) => core.is_quiet(),
+            None => false,
+        }
+    }
+
+    /// Whether this is the document's view; false where the broker is spent.
+    pub fn is_live(&self, view: ViewId) -> bool
+        ensures { result ≡ option_map_or (λ d. is_some (find_view d.views view.0)) self.now false }
+    {
+        match &self.core {
+            Some(core) => core.is_live(view.0),
             None => false,
         }
     }

@@ -1,6 +1,7 @@
 //! `Core`: what a broker keeps until it is spent.
 ghost use Rattle.std.specs.Prelude.{◌≡◌, ◌≤◌, [], length, nat_lt, true, false, IfOk, OnOk};
-ghost use Rattle.document_machine.specs.State.{opening};
+ghost use Rattle.std.specs.Option.{is_some};
+ghost use Rattle.document_machine.specs.State.{opening, find_view};
 
 use crate::session::Session;
 use bytes::Bytes;
@@ -56,6 +57,16 @@ impl<K: Kit> Core<K> {
             next_view: 0,
             next_ticket: 1,
         })
+    }
+
+    /// Whether this is the document's view.
+    pub(crate) fn is_live(&self, id: u32) -> bool
+        ensures { result ≡ is_some (find_view self.now.views id) }
+    {
+        match &self.view {
+            Some(session) => session.id() == id,
+            None => false,
+        }
     }
 
     /// How many inputs are applied.
