@@ -13,6 +13,8 @@ mod keys;
 mod message;
 mod saying;
 mod session;
+#[cfg(test)]
+mod tests;
 mod turning;
 mod windows;
 
