@@ -13,15 +13,30 @@ use wopi_info::{InfoFault, read_info};
 #[derive(Drop)]
 pub enum Ask {
     /// What the token may do with the file.
-    Check { file: FileId, token: Token },
+    Check {
+        file: FileId,
+        token: Token,
+    },
     /// The file's content.
-    Get { file: FileId, token: Token },
+    Get {
+        file: FileId,
+        token: Token,
+    },
     /// The client's lock on the file.
-    Lock { file: FileId, token: Token },
+    Lock {
+        file: FileId,
+        token: Token,
+    },
     /// A later end of that lock.
-    Refresh { file: FileId, token: Token },
+    Refresh {
+        file: FileId,
+        token: Token,
+    },
     /// That the lock goes.
-    Unlock { file: FileId, token: Token },
+    Unlock {
+        file: FileId,
+        token: Token,
+    },
     /// That this becomes the content.
     Put {
         file: FileId,
@@ -110,12 +125,7 @@ fn lock_post(alloc: Global, file: &FileId, token: &Token, over: &str) -> Result<
     post(alloc, target, file, over, Bytes::new())
 }
 
-fn put_post(
-    alloc: Global,
-    file: &FileId,
-    token: &Token,
-    content: &Bytes,
-) -> Result<Request, Memory>
+fn put_post(alloc: Global, file: &FileId, token: &Token, content: &Bytes) -> Result<Request, Memory>
     ensures { IfOk result (λ r. r ≡ posting (contents_target file.now token.now) file.now (codes "PUT") content.now) }
 {
     let target = contents_text(alloc, file, token)?;

@@ -33,9 +33,11 @@ fn info(alloc: Global, ask: &Ask, response: &Response) -> Result<(TextOf, u64, b
     }
 }
 
-const GOOD: &str = "{\"BaseFileName\":\"d\",\"OwnerId\":\"o\",\"Size\":3,\"UserId\":\"u\",\"Version\":\"1\",\"More\":[]}";
+const GOOD: &str =
+    "{\"BaseFileName\":\"d\",\"OwnerId\":\"o\",\"Size\":3,\"UserId\":\"u\",\"Version\":\"1\",\"More\":[]}";
 
-const BELOW: &str = "{\"BaseFileName\":\"d\",\"OwnerId\":\"o\",\"Size\":-3,\"UserId\":\"u\",\"Version\":\"1\",\"More\":[]}";
+const BELOW: &str =
+    "{\"BaseFileName\":\"d\",\"OwnerId\":\"o\",\"Size\":-3,\"UserId\":\"u\",\"Version\":\"1\",\"More\":[]}";
 
 #[test]
 fn a_check_is_understood(rt: HostRuntime) -> Result<(), Fail> {
@@ -44,12 +46,20 @@ fn a_check_is_understood(rt: HostRuntime) -> Result<(), Fail> {
         file: file(&rt),
         token: token(&rt, alloc)?,
     };
-    let (user, size, can_write) = info(alloc, &ask, &answer(200, GOOD)).ok().expect(&rt, "an info");
+    let (user, size, can_write) = info(alloc, &ask, &answer(200, GOOD))
+        .ok()
+        .expect(&rt, "an info");
     assert_eq!(rt; user.get(), "u");
     assert_eq!(rt; size, 3);
     assert!(rt; !can_write);
-    assert_eq!(rt; info(alloc, &ask, &answer(200, BELOW)).err().unwrap_or(0), 1001);
-    assert_eq!(rt; info(alloc, &ask, &answer(503, GOOD)).err().unwrap_or(0), 503);
+    assert_eq!(rt;
+        info(alloc, &ask, &answer(200, BELOW)).err().unwrap_or(0),
+        1001
+    );
+    assert_eq!(rt;
+        info(alloc, &ask, &answer(503, GOOD)).err().unwrap_or(0),
+        503
+    );
     assert_eq!(rt; info(alloc, &ask, &answer(409, "")).err().unwrap_or(0), 409);
     Ok(())
 }
@@ -64,7 +74,10 @@ fn a_put_is_asked(rt: HostRuntime) -> Result<(), Fail> {
     };
     let request = request_of(alloc, &ask)?;
     assert_eq!(rt; request.method, Method::Post);
-    assert_eq!(rt; request.target.get(), "/wopi/files/d/contents?access_token=t-rw");
+    assert_eq!(rt;
+        request.target.get(),
+        "/wopi/files/d/contents?access_token=t-rw"
+    );
     assert_eq!(rt; request.body.as_slice(), b"abc".as_slice());
     assert!(rt; matches!(understand(alloc, &ask, &answer(200, "")), Ok(Told::Done)));
     Ok(())
