@@ -1,11 +1,15 @@
 //! The patch document's rows, through the traits' bounds, with ample memory.
+ghost use Rattle.std.specs.Prelude.{◌≡◌};
+
 use crate::{Damage, Input, Kit, KitName, LoadFault, PaintJob, PatchKit, Scene, What, paint};
 use cool_base::{Rect, Ticket, ViewId};
 use std::alloc::Global;
 use std::test::Fail;
 use tile_key::{Area, TileKey, TileWords, key_of, single};
 
-fn typed(chr: u32) -> Input {
+fn typed(chr: u32) -> Input
+    ensures { result.part ≡ 0 }
+{
     Input {
         view: ViewId(0),
         part: 0,
@@ -13,7 +17,9 @@ fn typed(chr: u32) -> Input {
     }
 }
 
-fn clicked(x: u32, y: u32) -> Input {
+fn clicked(x: u32, y: u32) -> Input
+    ensures { result.part ≡ 0 }
+{
     Input {
         view: ViewId(0),
         part: 0,
@@ -42,7 +48,11 @@ fn first_tile(twips: u32) -> Option<TileKey> {
 // The shades of the pixels of an 8 by 8 tile at the origin that spans so many twips.
 fn shades(alloc: Global, kit: &mut PatchKit, twips: u32) -> Result<Vec<u8>, Fail> {
     let key = first_tile(twips).ok_or("a key")?;
-    let scene = kit.scene(alloc, &Area::of_key(&key))?;
+    let area = Area::of_key(&key);
+    if area.part() != 0 {
+        return Ok(Vec::new(alloc));
+    }
+    let scene = kit.scene(alloc, &area)?;
     let job = PaintJob {
         ticket: Ticket(1),
         number: 0,

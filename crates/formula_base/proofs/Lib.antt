@@ -1,0 +1,4 @@
+pub mod SpanLaws
+pub mod GatherLaws
+pub mod ExprLaws
+pub mod Turns

@@ -1,0 +1,23 @@
+//! Expressions of a sheet: what a cell can have as its value, what a formula can say, the value of an
+//! expression and the cells that it names. Texts of formulas are read by `sheet_formula`.
+//!
+//! - `Value`, `CellFault`, `Name` (`values`): what a cell can have as its value.
+//! - `Expr` (`expressions`): a formula that was read.
+//! - `combined`, `compared`, `negated` (`arithmetic`): signs over values.
+//! - `eval`, `Lookup` (`evaluation`): the value of an expression, given the values of cells.
+//! - `reads` (`naming`): the cells that an expression names.
+#![tactic(auto)]
+
+mod arithmetic;
+mod evaluation;
+mod expressions;
+mod gathering;
+mod naming;
+mod spans;
+mod values;
+
+pub use arithmetic::{combined, compared, negated};
+pub use evaluation::{Lookup, eval};
+pub use expressions::{Argument, Comparison, Expr, Function, Link, Operator};
+pub use naming::reads;
+pub use values::{CellFault, Name, Value};

@@ -1,0 +1,4 @@
+-- The machine of the hall, and the histories that it can make.
+pub mod Machine
+pub mod Book
+pub mod States

@@ -1,0 +1,20 @@
+//! The hall of documents on one thread: which files are open, which poll has each document, and the mail that waits for it.
+//!
+//! [`HallState`] is the plain state with its book. Each call that changes something writes one entry, and the state is always
+//! what the machine of `specs/Machine` reaches by the book. The crate takes no lock and starts no thread.
+#![tactic(auto)]
+
+mod bag;
+mod checks;
+mod edits;
+mod state;
+#[cfg(test)]
+mod tests;
+mod words;
+
+pub use bag::MailBag;
+pub use state::HallState;
+pub use words::{
+    Act, CloseFault, Entered, Entry, Filed, Ground, HallFault, Label, Labelled, Opened, Owner,
+    Place, Refused,
+};

@@ -1,0 +1,193 @@
+-- A script that has its end comes to it.
+use Rattle.std.proofs.Common.{◌≡◌, ◌≢◌, ◌∙◌, ℕ, ◌+◌, ◌<◌, ◌≤◌, ◌⊎◌, inl, inr, List, [], ◌∷◌, ◌++◌, length, length-append, refl, ap, sym, subst, append_assoc, arith, Option, None, Some}
+use Rattle.std.specs.List.{AllByRecursion}
+use Rattle.std.proofs.lemmas.List.{append-nil}
+use Rattle.outside.specs.Causes.{Rose, HasCause}
+use Rattle.outside.specs.Streams.{IsAtEnd}
+use Rattle.script_lines.specs.declared.grammar.Place.{Place}
+use Rattle.script_lines.specs.declared.grammar.Verdict.{Verdict}
+use Rattle.script_lines.specs.declared.grammar.Verdict.TheVariants.{Acts, Ends, Refused}
+use Rattle.script_lines.specs.Grammar.{verdict, followed, place_after}
+use Rattle.script_lines.specs.Lines.{IsUnbroken, IsLine, joined}
+use Rattle.script_run.specs.declared.status.Status.{Status}
+use Rattle.script_run.specs.declared.status.Status.TheVariants.{Done, WrongWords, FaultLine, ReadFault, WriteFault, Memory, NoEnd}
+use Rattle.script_run.specs.Transcript.{budget, Runs, Spells, Ended}
+use Rattle.script_run.specs.Outcome.{Outcome}
+use Rattle.script_run.specs.Complete.{HasEnd}
+use Rattle.script_run.proofs.Splits.{Compared, On, Back, compared, no_break, first_break, place_on, each_behind}
+use Rattle.script_run.proofs.OneStatus.{Follows, run_place, ends_stop, refused_stop}
+
+-- bytes without a newline that are longer than a line don't begin with it and its newline
+long_break : (u now m x : List ℕ) → IsUnbroken u → length m < length u → u ++ now ≡ m ++ 10 ∷ x → ⊥
+long_break [] now m x unbroken longer is = omega (arith, longer)
+long_break (c ∷ u) now [] x unbroken longer is = unbroken.0 (cc)
+long_break (c ∷ u) now (d ∷ m) x unbroken longer is = long_break u now m x unbroken.1 (omega (arith, longer)) (cc)
+
+-- What stands behind the lines that acted, where the script ended otherwise than by `end`: a refused line
+-- and its newline; or bytes without a newline up to the end, which are none, or a refused line, or a line
+-- that acts; or bytes without a newline, more of them than any line has that still fits.
+pub data Behind (q : Place) (size : ℕ) (y : List ℕ) : Type 0 where
+  Wrong : (line now : List ℕ) (one : IsLine line) (judged : verdict q line ≡ Refused) (is : y ≡ line ++ 10 ∷ now) → Behind q size y
+  Bare : (unbroken : IsUnbroken y) (fails : verdict q y ≡ Ends → 0 < length y → ⊥) → Behind q size y
+  Long : (rest now : List ℕ) (unbroken : IsUnbroken rest) (longer : (m : List ℕ) → length m ≤ 70000 → size + (length m + 1) ≤ budget → length m < length rest) (is : y ≡ rest ++ now) → Behind q size y
+
+-- it isn't the line `end` and its newline
+not_closed : (q : Place) (size : ℕ) (y last behind : List ℕ) → IsLine last → verdict q last ≡ Ends → size + (length last + 1) ≤ budget → Behind q size y → y ≡ last ++ 10 ∷ behind → ⊥
+not_closed q size y last behind one ends fits (Wrong line now other judged is) same =
+    let h : (line ≡ last) × (now ≡ behind) = first_break line last now behind other.unbroken one.unbroken (sym is ∙ same) in
+    let e : Refused ≡ Ends = sym judged ∙ ap (λ (x : List ℕ). verdict q x) h.0 ∙ ends in
+    (cc)
+not_closed q size y last behind one ends fits (Bare unbroken fails) same = no_break y last behind unbroken same
+not_closed q size y last behind one ends fits (Long rest now unbroken longer is) same = long_break rest now last behind unbroken (longer last one.short fits) (sym is ∙ same)
+
+-- nor the line `end` without a newline
+not_last : (q : Place) (size : ℕ) (y last : List ℕ) → IsLine last → verdict q last ≡ Ends → 0 < length last → size + length last < budget → Behind q size y → y ≡ last → ⊥
+not_last q size y last one ends some fits (Wrong line now other judged is) same = no_break last line now one.unbroken (sym same ∙ is)
+not_last q size y last one ends some fits (Bare unbroken fails) same =
+    fails (ap (λ (x : List ℕ). verdict q x) same ∙ ends) (subst (λ (x : List ℕ). 0 < length x) (sym same) some)
+not_last q size y last one ends some fits (Long rest now unbroken longer is) same =
+    let a : length last < length rest = longer last one.short (omega (arith, fits)) in
+    let b : length last ≡ length (rest ++ now) = ap length (sym same ∙ is) in
+    omega (arith, a, b, length-append rest now)
+
+-- nor a line that acts and its newline
+not_acting : (q : Place) (size : ℕ) (y m x : List ℕ) (f : Place → Option Place) (r : Place) → IsLine m → followed (verdict q m) f ≡ Some r → size + (length m + 1) ≤ budget → Behind q size y → y ≡ m ++ 10 ∷ x → ⊥
+not_acting q size y m x f r one acts fits (Wrong line now other judged is) same =
+    let h : (line ≡ m) × (now ≡ x) = first_break line m now x other.unbroken one.unbroken (sym is ∙ same) in
+    let a : followed (verdict q m) f ≡ None = refused_stop (verdict q m) (ap (λ (z : List ℕ). verdict q z) (sym h.0) ∙ judged) f in
+    let b : None ≡ Some r = sym a ∙ acts in
+    (cc)
+not_acting q size y m x f r one acts fits (Bare unbroken fails) same = no_break y m x unbroken same
+not_acting q size y m x f r one acts fits (Long rest now unbroken longer is) same = long_break rest now m x unbroken (longer m one.short fits) (sym is ∙ same)
+
+joined_size : (lines more : List (List ℕ)) → length (joined (lines ++ more)) ≡ length (joined lines) + length (joined more)
+joined_size [] more = omega arith
+joined_size (l ∷ lines) more =
+    omega (arith, joined_size lines more, length-append l (10 ∷ joined (lines ++ more)), length-append l (10 ∷ joined lines))
+
+-- the script's own lines go on behind those that were played
+goes_on : (p : Place) (good lines : List (List ℕ)) (m : List ℕ) (more : List (List ℕ)) (q r : Place) (y x : List ℕ) → AllByRecursion IsLine good → place_after p good ≡ Some r → place_after p lines ≡ Some q
+    → good ≡ lines ++ m ∷ more → length (joined good) ≤ budget → Behind q (length (joined lines)) y → y ≡ joined (m ∷ more) ++ x → ⊥
+goes_on p good lines m more q r y x each stands there is fits found same =
+    let one : IsLine m = (each_behind lines (m ∷ more) good is each).0 in
+    let acts : followed (verdict q m) (λ next. place_after next more) ≡ Some r = sym (place_on p lines (m ∷ more) q there) ∙ ap (λ (z : List (List ℕ)). place_after p z) (sym is) ∙ stands in
+    let size : length (joined good) ≡ length (joined lines) + length (joined (m ∷ more)) = ap (λ (z : List (List ℕ)). length (joined z)) is ∙ joined_size lines (m ∷ more) in
+    not_acting q (length (joined lines)) y m (joined more ++ x) (λ next. place_after next more) r one acts
+    (omega (arith, fits, size, length-append m (10 ∷ joined more))) found (same ∙ append_assoc m (10 ∷ joined more) x)
+
+same_place : (p : Place) (good lines : List (List ℕ)) (q r : Place) → good ≡ lines → place_after p good ≡ Some r → place_after p lines ≡ Some q → r ≡ q
+same_place p good lines q r is stands there =
+    let h : Some r ≡ Some q = sym stands ∙ ap (λ (z : List (List ℕ)). place_after p z) is ∙ there in
+    (cc)
+
+-- a played line behind all of the script's own would be its `end`
+past_end : (p : Place) (good lines : List (List ℕ)) (m : List ℕ) (more : List (List ℕ)) (q r : Place) (last behind y : List ℕ) → AllByRecursion IsLine lines → IsLine last → verdict r last ≡ Ends → place_after p good ≡ Some r → place_after p lines ≡ Some q
+    → lines ≡ good ++ m ∷ more → last ++ 10 ∷ behind ≡ joined (m ∷ more) ++ y → ⊥
+past_end p good lines m more q r last behind y each one ends stands there is same =
+    let k : IsLine m = (each_behind good (m ∷ more) lines is each).0 in
+    let h : (last ≡ m) × (behind ≡ joined more ++ y) = first_break last m behind (joined more ++ y) one.unbroken k.unbroken (same ∙ append_assoc m (10 ∷ joined more) y) in
+    let a : followed (verdict r m) (λ next. place_after next more) ≡ None = ends_stop (verdict r m) (ap (λ (z : List ℕ). verdict r z) (sym h.0) ∙ ends) (λ next. place_after next more) in
+    let b : Some q ≡ None = sym there ∙ ap (λ (z : List (List ℕ)). place_after p z) is ∙ place_on p good (m ∷ more) r stands ∙ a in
+    (cc)
+
+closed_by : (p : Place) (good lines : List (List ℕ)) (q r : Place) (last behind y : List ℕ) → AllByRecursion IsLine good → AllByRecursion IsLine lines → IsLine last → verdict r last ≡ Ends → place_after p good ≡ Some r → place_after p lines ≡ Some q
+    → length (joined good) + (length last + 1) ≤ budget → Behind q (length (joined lines)) y → Compared good lines (last ++ 10 ∷ behind) y → ⊥
+closed_by p good lines q r last behind y each others one ends stands there fits found (On [] is same) =
+    let g : good ≡ lines = sym (is ∙ append-nil good) in
+    let e : verdict q last ≡ Ends = subst (λ (z : Place). verdict z last ≡ Ends) (same_place p good lines q r g stands there) ends in
+    not_closed q (length (joined lines)) y last behind one e (subst (λ (z : List (List ℕ)). length (joined z) + (length last + 1) ≤ budget) g fits) found (sym same)
+closed_by p good lines q r last behind y each others one ends stands there fits found (On (m ∷ more) is same) = past_end p good lines m more q r last behind y others one ends stands there is same
+closed_by p good lines q r last behind y each others one ends stands there fits found (Back [] is same) =
+    let g : good ≡ lines = is ∙ append-nil lines in
+    let e : verdict q last ≡ Ends = subst (λ (z : Place). verdict z last ≡ Ends) (same_place p good lines q r g stands there) ends in
+    not_closed q (length (joined lines)) y last behind one e (subst (λ (z : List (List ℕ)). length (joined z) + (length last + 1) ≤ budget) g fits) found same
+closed_by p good lines q r last behind y each others one ends stands there fits found (Back (m ∷ more) is same) =
+    goes_on p good lines m more q r y (last ++ 10 ∷ behind) each stands there is (omega (arith, fits)) found same
+
+bare_by : (p : Place) (good lines : List (List ℕ)) (q r : Place) (last y : List ℕ) → AllByRecursion IsLine good → AllByRecursion IsLine lines → IsLine last → verdict r last ≡ Ends → 0 < length last → place_after p good ≡ Some r → place_after p lines ≡ Some q
+    → length (joined good) + length last < budget → Behind q (length (joined lines)) y → Compared good lines last y → ⊥
+bare_by p good lines q r last y each others one ends some stands there fits found (On [] is same) =
+    let g : good ≡ lines = sym (is ∙ append-nil good) in
+    let e : verdict q last ≡ Ends = subst (λ (z : Place). verdict z last ≡ Ends) (same_place p good lines q r g stands there) ends in
+    not_last q (length (joined lines)) y last one e some (subst (λ (z : List (List ℕ)). length (joined z) + length last < budget) g fits) found (sym same)
+bare_by p good lines q r last y each others one ends some stands there fits found (On (m ∷ more) is same) = no_break last m (joined more ++ y) one.unbroken (same ∙ append_assoc m (10 ∷ joined more) y)
+bare_by p good lines q r last y each others one ends some stands there fits found (Back [] is same) =
+    let g : good ≡ lines = is ∙ append-nil lines in
+    let e : verdict q last ≡ Ends = subst (λ (z : Place). verdict z last ≡ Ends) (same_place p good lines q r g stands there) ends in
+    not_last q (length (joined lines)) y last one e some (subst (λ (z : List (List ℕ)). length (joined z) + length last < budget) g fits) found same
+bare_by p good lines q r last y each others one ends some stands there fits found (Back (m ∷ more) is same) =
+    goes_on p good lines m more q r y last each stands there is (omega (arith, fits)) found same
+
+-- nothing else than its end stands behind the lines of a script that has one
+no_other_end : (p : Place) (bytes : List ℕ) (lines : List (List ℕ)) (q : Place) (y : List ℕ) → HasEnd p bytes → AllByRecursion IsLine lines → place_after p lines ≡ Some q
+    → bytes ≡ joined lines ++ y → Behind q (length (joined lines)) y → ⊥
+no_other_end p bytes lines q y script each there is found =
+    elim script.spelled [
+      | inl closed ↦ closed_by p script.lines lines q script.place script.last closed.0 y script.each each script.one script.ends script.stands there closed.2 found
+          (compared script.lines lines (script.last ++ 10 ∷ closed.0) y script.each each (sym closed.1 ∙ is))
+      | inr bare ↦ bare_by p script.lines lines q script.place script.last y script.each each script.one script.ends bare.1 script.stands there
+          (let size : length bytes ≡ length (joined script.lines ++ script.last) = ap length bare.0 in omega (arith, bare.2, size, length-append (joined script.lines) script.last)) found
+          (compared script.lines lines script.last y script.each each (sym bare.0 ∙ is))
+    ]
+
+behind_refused : {X : Type 0} (place : X → Place) (step : X → List ℕ → List ℕ → X → Type 0) (under : X → List ℕ → List ℕ → Type 0) (first : X) (a : Option (List ℕ)) (now : List ℕ) (c d : Option (List ℕ))
+    → (e : Ended place step under first a (Some now) c d FaultLine) → Behind (place e.state) (length (joined e.lines)) (e.rest ++ now)
+behind_refused place step under first a now c d e =
+    elim e.cause.0 [
+      | inl refused ↦ elim refused.1.1 [
+        | inl whole ↦ Wrong refused.0 now refused.1.0 refused.2 (ap (λ (x : List ℕ). x ++ now) whole ∙ append_assoc refused.0 (10 ∷ []) now)
+        | inr last ↦
+            let same : e.rest ++ now ≡ refused.0 = ap (λ (x : List ℕ). e.rest ++ x) last.2.0 ∙ append-nil e.rest ∙ last.0 in
+            Bare (subst (λ (x : List ℕ). IsUnbroken x) (sym same) refused.1.0.unbroken)
+            (λ ends some. let h : Refused ≡ Ends = sym refused.2 ∙ ap (λ (x : List ℕ). verdict (place e.state) x) (sym same) ∙ ends in (cc))
+      ]
+      | inr long ↦ Long e.rest now long.0 (λ m short fits. omega (arith, short, long.1)) refl
+    ]
+
+behind_open : {X : Type 0} (place : X → Place) (step : X → List ℕ → List ℕ → X → Type 0) (under : X → List ℕ → List ℕ → Type 0) → Follows place step → (first : X) (a : Option (List ℕ)) (now : List ℕ) (c d : Option (List ℕ))
+    → (e : Ended place step under first a (Some now) c d NoEnd) → Behind (place e.state) (length (joined e.lines)) (e.rest ++ now)
+behind_open place step under follows first a now c d e =
+    elim e.cause [
+      | inl none ↦
+          let same : e.rest ++ now ≡ [] = ap (λ (x : List ℕ). e.rest ++ x) none.2.0 ∙ append-nil e.rest ∙ none.0 in
+          Bare (subst (λ (x : List ℕ). IsUnbroken x) (sym same) tt) (λ ends some. let h : length (e.rest ++ now) ≡ length {A = ℕ} [] = ap length same in omega (arith, h, some))
+      | inr other ↦ elim other [
+        | inl full ↦ Long e.rest now full.0.unbroken (λ m short fits. omega (arith, fits, full.2, length-append (joined e.lines) e.rest)) refl
+        | inr acted ↦
+            let same : e.rest ++ now ≡ e.rest = ap (λ (x : List ℕ). e.rest ++ x) acted.4.0 ∙ append-nil e.rest in
+            Bare (subst (λ (x : List ℕ). IsUnbroken x) (sym same) acted.1.unbroken)
+            (λ ends some.
+            let stops : followed (verdict (place e.state) e.rest) (λ next. Some next) ≡ None = ends_stop (verdict (place e.state) e.rest) (ap (λ (x : List ℕ). verdict (place e.state) x) (sym same) ∙ ends) (λ next. Some next) in
+            let h : None ≡ Some (place acted.0) = sym stops ∙ follows e.state e.rest e.tail acted.0 acted.3 in
+            (cc))
+      ]
+    ]
+
+told_bytes : (left now lines rest : List ℕ) → Some left ≡ Some ((lines ++ rest) ++ now) → left ≡ lines ++ (rest ++ now)
+told_bytes left now lines rest is = let h : left ≡ (lines ++ rest) ++ now = (cc) in h ∙ append_assoc lines rest now
+
+-- by the status, where the source tells what is left
+by_status : {X : Type 0} (place : X → Place) (step : X → List ℕ → List ℕ → X → Type 0) (under : X → List ℕ → List ℕ → Type 0) → Follows place step → (first : X) (left now : List ℕ) (c d : Option (List ℕ)) (reads reads_now writes writes_now : ℕ) (status : Status)
+    → HasEnd (place first) left → (Rose reads reads_now → ⊥) → (Rose writes writes_now → ⊥)
+    → Outcome place step under first (Some left) (Some now) c d reads reads_now writes writes_now status → (status ≡ Done) ⊎ (status ≡ Memory)
+by_status place step under follows first left now c d reads reads_now writes writes_now Done script read_well wrote_well o = inl refl
+by_status place step under follows first left now c d reads reads_now writes writes_now Memory script read_well wrote_well o = inr refl
+by_status place step under follows first left now c d reads reads_now writes writes_now WrongWords script read_well wrote_well o = absurd o.ended.cause
+by_status place step under follows first left now c d reads reads_now writes writes_now ReadFault script read_well wrote_well o = absurd (read_well (o.read.failed refl))
+by_status place step under follows first left now c d reads reads_now writes writes_now WriteFault script read_well wrote_well o = absurd (wrote_well (o.write.failed refl))
+by_status place step under follows first left now c d reads reads_now writes writes_now FaultLine script read_well wrote_well o =
+    absurd (no_other_end (place first) left o.ended.lines (place o.ended.state) (o.ended.rest ++ now) script o.ended.each
+    (run_place place step follows first o.ended.lines o.ended.written o.ended.state o.ended.runs)
+    (told_bytes left now (joined o.ended.lines) o.ended.rest o.ended.taken) (behind_refused place step under first (Some left) now c d o.ended))
+by_status place step under follows first left now c d reads reads_now writes writes_now NoEnd script read_well wrote_well o =
+    absurd (no_other_end (place first) left o.ended.lines (place o.ended.state) (o.ended.rest ++ now) script o.ended.each
+    (run_place place step follows first o.ended.lines o.ended.written o.ended.state o.ended.runs)
+    (told_bytes left now (joined o.ended.lines) o.ended.rest o.ended.taken) (behind_open place step under follows first (Some left) now c d o.ended))
+
+pub comes_to_its_end_law : {X : Type 0} (place : X → Place) (step : X → List ℕ → List ℕ → X → Type 0) (under : X → List ℕ → List ℕ → Type 0) → Follows place step → (first : X) (left : List ℕ) (source_now c d : Option (List ℕ)) (reads reads_now writes writes_now : ℕ) (status : Status)
+    → HasEnd (place first) left → (Rose reads reads_now → ⊥) → (Rose writes writes_now → ⊥)
+    → Outcome place step under first (Some left) source_now c d reads reads_now writes writes_now status → (status ≡ Done) ⊎ (status ≡ Memory)
+comes_to_its_end_law place step under follows first left None c d reads reads_now writes writes_now status script read_well wrote_well o =
+    let h : Some left ≡ None = o.ended.taken in absurd (cc)
+comes_to_its_end_law place step under follows first left (Some now) c d reads reads_now writes writes_now status script read_well wrote_well o =
+    by_status place step under follows first left now c d reads reads_now writes writes_now status script read_well wrote_well o

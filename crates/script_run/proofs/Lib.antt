@@ -1,0 +1,5 @@
+pub mod Moves
+pub mod Exits
+pub mod Splits
+pub mod OneStatus
+pub mod Ending

@@ -1,0 +1,4 @@
+pub mod Play
+pub mod Transcript
+pub mod Outcome
+pub mod Complete

@@ -1,0 +1,78 @@
+-- The transcript of a script, and why it ends with a status. A script is played on states: `place` says
+-- where its grammar stands, `step` what a line that acts writes and leads to, `under` what a line that is
+-- under way has made so far.
+use Rattle.std.specs.Prelude.{ℕ, ◌≡◌, ◌+◌, ◌<◌, List, [], ◌∷◌, ◌++◌, length, Option, ◌⊎◌}
+use Rattle.std.specs.List.{AllByRecursion}
+use Rattle.outside.specs.Streams.{Takes, Adds, IsAtEnd}
+use Rattle.script_lines.specs.declared.grammar.Place.{Place}
+use Rattle.script_lines.specs.declared.grammar.Verdict.TheVariants.{Ends, Refused}
+use Rattle.script_lines.specs.Grammar.{verdict}
+use Rattle.script_lines.specs.Lines.{IsUnbroken, IsLine, joined}
+use Rattle.script_lines.specs.Records.{IsFront, fault_text}
+use Rattle.script_run.specs.declared.status.Status.{Status}
+use Rattle.script_run.specs.declared.status.Status.TheVariants.{Done, WrongWords, FaultLine, ReadFault, WriteFault, Memory, NoEnd}
+use Rattle.script_run.specs.Play.{IsCut}
+
+-- how many bytes of a script are read at most
+abbrev pub budget : ℕ
+budget = 1073741824
+
+-- The lines act one after the other, and write this.
+abbrev pub Runs : {X : Type 0} → (X → List ℕ → List ℕ → X → Type 0) → X → List (List ℕ) → List ℕ → X → Type 0
+Runs step s [] out t = (out ≡ []) × (t ≡ s)
+Runs {X} step s (line ∷ lines) out t = (mid : X) × (here : List ℕ) × (later : List ℕ)
+    × step s line here mid × Runs step mid lines later t × (out ≡ here ++ later)
+
+-- The bytes are this line: up to its newline, or up to the end of the source, where it isn't empty.
+abbrev pub Spells : Type 0 → List ℕ → List ℕ → Type 0
+Spells at_end line bytes = IsLine line × ((bytes ≡ line ++ 10 ∷ []) ⊎ ((bytes ≡ line) × (0 < length line) × at_end))
+
+-- The bytes are a line that the grammar refuses there, or the first 70,001 bytes of a longer one.
+abbrev pub IsRefused : Type 0 → Place → List ℕ → Type 0
+IsRefused at_end place bytes =
+    ((line : List ℕ) × Spells at_end line bytes × (verdict place line ≡ Refused))
+    ⊎ (IsUnbroken bytes × (length bytes ≡ 70001))
+
+-- What is made at these bytes: the records of a line, as far as it is under way, or the text that names a
+-- refused line.
+abbrev pub Writes : {X : Type 0} → (X → Place) → (X → List ℕ → List ℕ → Type 0) → Type 0 → X → ℕ → List ℕ → List ℕ → Type 0
+Writes place under at_end s number rest out =
+    ((line : List ℕ) × Spells at_end line rest × under s line out)
+    ⊎ (IsRefused at_end (place s) rest × (out ≡ fault_text number))
+
+-- Why a script ends with a status. `rest` is what was read behind the lines that acted, `tail` what was
+-- written behind their records, `at_end` that the source ended, `full` that the budget is used up.
+abbrev pub Cause : {X : Type 0} → (X → Place) → (X → List ℕ → List ℕ → X → Type 0) → (X → List ℕ → List ℕ → Type 0)
+    → Status → Type 0 → Type 0 → X → ℕ → List ℕ → List ℕ → Type 0
+-- the line `end`, up to its newline or the end of the source
+Cause place step under Done at_end full s number rest tail =
+    (line : List ℕ) × Spells at_end line rest × (verdict (place s) line ≡ Ends) × (tail ≡ [])
+Cause place step under WrongWords at_end full s number rest tail = ⊥
+-- a line that the grammar refuses, and its number
+Cause place step under FaultLine at_end full s number rest tail = IsRefused at_end (place s) rest × (tail ≡ fault_text number)
+-- the source failed within a line or before one
+Cause place step under ReadFault at_end full s number rest tail = IsLine rest × (tail ≡ [])
+-- the sink failed before all was written
+Cause place step under WriteFault at_end full s number rest tail = (out : List ℕ) × IsCut tail out × Writes place under at_end s number rest out
+-- no memory: nothing was written behind the lines, or a front of what was made
+Cause place step under Memory at_end full s number rest tail =
+    (tail ≡ []) ⊎ ((out : List ℕ) × IsFront tail out × Writes place under at_end s number rest out)
+-- the source ended behind a newline; or the budget is used up; or the last line has no newline and acted
+Cause {X} place step under NoEnd at_end full s number rest tail =
+    ((rest ≡ []) × (tail ≡ []) × at_end)
+    ⊎ ((IsLine rest × (tail ≡ []) × full)
+    ⊎ ((t : X) × IsLine rest × (0 < length rest) × step s rest tail t × at_end))
+
+-- A script was read and played, and ended with this status.
+pub record Ended {X : Type 0} (place : X → Place) (step : X → List ℕ → List ℕ → X → Type 0) (under : X → List ℕ → List ℕ → Type 0) (first : X) (source_then source_now sink_then sink_now : Option (List ℕ)) (status : Status) : Type 0 where
+  pub lines : List (List ℕ)
+  pub rest : List ℕ
+  pub written : List ℕ
+  pub tail : List ℕ
+  pub state : X
+  -- what was read is these lines and the rest, what was written is their records and the tail
+  pub taken : Takes source_then (joined lines ++ rest) source_now
+  pub added : Adds sink_then (written ++ tail) sink_now
+  pub each : AllByRecursion IsLine lines
+  pub runs : Runs step first lines written state
+  pub cause : Cause place step under status (IsAtEnd source_now × (length (joined lines ++ rest) < budget)) (length (joined lines ++ rest) ≡ budget) state (length lines + 1) rest tail
