@@ -1,5 +1,5 @@
 -- What a host tells of a file and a token, as JSON.
-use Rattle.std.specs.Prelude.{ℕ, ◌^◌, Bool, true, false, ◌&&◌, nat_lt, List, Option, Some, None, option_and_then, is_some, if◌then◌else◌, codes}
+use Rattle.std.specs.Prelude.{ℕ, ◌^◌, Bool, false, ◌&&◌, nat_lt, List, Option, Some, None, option_and_then, is_some, if◌then◌else◌, codes}
 use Rattle.serde_json.specs.Data.{Data, number, unsigned, string, boolean, object, member, no_members}
 use Rattle.serde_json.specs.Find.{get, as_str, as_bool, as_number, as_u64}
 use Rattle.serde_json.specs.Written.{compact_text}
