@@ -1,8 +1,14 @@
--- What is seen of a host: its keeper, and the marks of each file.
-use Rattle.std.specs.Prelude.{ℕ, List}
+-- What is seen of a host and of a keeper in memory.
+use Rattle.std.specs.Prelude.{ℕ, List, Option}
+use Rattle.std.specs.BTreeMap.{get_by_text}
 use Rattle.wopi_host.specs.declared.hosts.Host.{Host}
+use Rattle.wopi_host.specs.declared.keepers.MemoryKeeper.{MemoryKeeper}
 use Rattle.wopi_host.specs.declared.marks.Marks.{Marks}
 use Rattle.wopi_host.specs.Marks.{marks_in}
+
+-- the content of each file in memory, by its id
+abbrev pub contents_in : MemoryKeeper → List ℕ → Option (List ℕ)
+contents_in keeper = get_by_text keeper.files
 
 -- the keeper
 abbrev pub keeper_of : {Q : Type 0} → Host Q → Q

@@ -48,9 +48,13 @@ pub struct MemoryKeeper {
 }
 
 impl MemoryKeeper {
+    ghost use Rattle.std.specs.Prelude.{◌≡◌, ℕ, List, None};
+    ghost use Rattle.std.specs.Option.{option_copied};
+    ghost use Rattle.wopi_host.specs.Kept.{contents_in};
+
     /// A keeper without files.
     pub fn new(alloc: Global) -> MemoryKeeper
-        ensures { (id : List ℕ) → get_by_text result.files id ≡ None }
+        ensures { (id : List ℕ) → contents_in result id ≡ None }
     {
         MemoryKeeper {
             files: BTreeMap::new(alloc),
@@ -59,7 +63,7 @@ impl MemoryKeeper {
 
     /// The content of the file; None where there is none.
     pub fn content(&self, file: &FileId) -> Option<&Bytes>
-        ensures { option_copied result ≡ get_by_text self.now.files file.now }
+        ensures { option_copied result ≡ contents_in self.now file.now }
     {
         self.files.get(file.text())
     }
@@ -109,7 +113,9 @@ fn copied(found: Option<&Bytes>) -> Result<Option<Bytes>, KeeperFault>
 }
 
 impl Keeper for MemoryKeeper {
-    ghost files = { λ k. Some (get_by_text k.files) };
+    ghost use Rattle.wopi_host.specs.Kept.{contents_in};
+
+    ghost files = { λ k. Some (contents_in k) };
 
     ghost faults = { λ _. 0 };
 
