@@ -15,8 +15,6 @@ mod keepers;
 mod marks;
 mod table;
 mod targets;
-#[cfg(test)]
-mod tests;
 
 pub use hosts::{Host, LOCK_SECONDS};
 pub use keepers::{Keeper, KeeperFault, MemoryKeeper};
