@@ -1,0 +1,4 @@
+pub mod FileIds
+pub mod Tokens
+pub mod Same
+pub mod Answered

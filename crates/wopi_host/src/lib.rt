@@ -1,0 +1,20 @@
+//! A WOPI host: files with locks, by the operations CheckFileInfo, GetFile, PutFile, Lock,
+//! RefreshLock, Unlock and GetLock.
+//!
+//! - `targets`: what a request's target names, and the right of its token.
+//! - `table`: what each operation does to a file, by its lock.
+//! - `keepers`: what the files are kept in.
+//! - `marks`: the locks and counts of puts.
+//! - `answers`: the response to a verdict.
+//! - `hosts`: the host, which joins them.
+#![tactic(auto)]
+
+mod answers;
+mod hosts;
+mod keepers;
+mod marks;
+mod table;
+mod targets;
+
+pub use hosts::{Host, LOCK_SECONDS};
+pub use keepers::{Keeper, KeeperFault, MemoryKeeper};
