@@ -43,7 +43,7 @@ pub record Says {C B S : Type 0} (rules : Rules C B) (old : Document S) (id : �
   pub view : View
   pub live : find_view old.views id ≡ Some view
   pub outs_are : outs ≡ reply id (effect rules old view text)
-  pub new_is : new ≡ took old id (effect rules old view text)
+  pub new_is : new ≡ took rules old id (effect rules old view text)
 
 -- every view, in order of ids, is told each damaged rectangle, in the kit's order
 abbrev pub told : List View → List Damage → List (ViewId × Frame)

@@ -3,14 +3,11 @@ ghost use Rattle.std.specs.Prelude.{◌≡◌, ◌+◌, [], ◌∷◌, ◌++◌,
 ghost use Rattle.std.specs.List.{list_any};
 ghost use Rattle.tile_key.specs.Places.{same_place};
 ghost use Rattle.document_machine.specs.Keys.{is_among, inserted, ordered};
-ghost use Rattle.document_machine.specs.Message.{asked_with};
+ghost use Rattle.document_machine.specs.Message.{asked_with, asked_with_all};
 
 use cool_base::Memory;
 use std::alloc::Global;
 use tile_key::TileKey;
-
-/// The most keys that a view may ask for at once.
-const MOST_ASKED: usize = 1_024;
 
 /// Whether the list has the key.
 pub(crate) fn is_among(keys: &[TileKey], key: &TileKey) -> bool
@@ -19,18 +16,8 @@ pub(crate) fn is_among(keys: &[TileKey], key: &TileKey) -> bool
     keys.iter().any(|other| other.is_same(key))
 }
 
-/// Whether the asked keys would be more than 1,024 with this one.
-pub(crate) fn would_overflow(asked: &[TileKey], key: &TileKey) -> bool
-    ensures { result ≡ nat_lt 1024 (length (asked_with asked.now key.now)) }
-{
-    if is_among(asked, key) {
-        return MOST_ASKED < asked.len();
-    }
-    MOST_ASKED < asked.len() + 1
-}
-
 /// Puts the key behind the asked ones, where it isn't asked for yet.
-pub(crate) fn ask(asked: &mut Vec<TileKey>, key: &TileKey) -> Result<(), Memory>
+fn ask(asked: &mut Vec<TileKey>, key: &TileKey) -> Result<(), Memory>
     ensures { OnOk result (asked.new.items ≡ asked_with asked.old.items key.now) }
 {
     if is_among(asked.as_slice(), key) {
@@ -38,6 +25,21 @@ pub(crate) fn ask(asked: &mut Vec<TileKey>, key: &TileKey) -> Result<(), Memory>
     }
     asked.push(*key)?;
     Ok(())
+}
+
+/// The asked keys with these behind them, each once.
+pub(crate) fn asked_with_all(
+    alloc: Global,
+    asked: &[TileKey],
+    keys: &[TileKey],
+) -> Result<Vec<TileKey>, Memory>
+    ensures { IfOk result (λ all. all.items ≡ asked_with_all asked.now keys.now) }
+{
+    let mut all = Vec::from_slice(alloc, asked)?;
+    for key in keys {
+        ask(&mut all, key)?;
+    }
+    Ok(all)
 }
 
 /// Takes the key out of the asked ones.

@@ -4,12 +4,12 @@ ghost use Rattle.std.specs.List.{list_any};
 ghost use Rattle.tile_key.specs.Places.{same_place};
 ghost use Rattle.document_machine.specs.Due.{has_room};
 ghost use Rattle.document_machine.specs.Keys.{is_among, ordered};
-ghost use Rattle.document_machine.specs.Message.{asks, asked_with};
+ghost use Rattle.document_machine.specs.Message.{asks, asked_with_all};
 ghost use Rattle.document_machine.specs.State.{View, opening_view};
 ghost use Rattle.document_machine.specs.Step.{acknowledged};
 
 use crate::joining::next_number;
-use crate::keys::{ask, end_asking, in_order, is_among, would_overflow};
+use crate::keys::{asked_with_all, end_asking, in_order, is_among};
 use cool_base::{Memory, Wid};
 use document_machine::Rights;
 use std::alloc::Global;
@@ -85,18 +85,25 @@ impl Session {
         self.rights.can_write
     }
 
-    /// Whether the asked keys would be more than 1,024 with this one.
-    pub(crate) fn would_overflow(&self, key: &TileKey) -> bool
-        ensures { result ≡ nat_lt 1024 (length (asked_with self.now.asked key.now)) }
+    /// The asked keys with these behind them, each once.
+    pub(crate) fn asked_with(&self, alloc: Global, keys: &[TileKey]) -> Result<Vec<TileKey>, Memory>
+        ensures { IfOk result (λ all. all.items ≡ asked_with_all self.now.asked keys.now) }
     {
-        would_overflow(self.asked.as_slice(), key)
+        asked_with_all(alloc, self.asked.as_slice(), keys)
     }
 
-    /// Asks for the key too.
-    pub(crate) fn ask(&mut self, key: &TileKey) -> Result<(), Memory>
-        ensures { OnOk result (self.new ≡ asks (key.now ∷ []) self.old) }
+    /// Asks for these keys from now on.
+    pub(crate) fn ask_for(&mut self, asked: Vec<TileKey>)
+        ensures { self.new ≡ asks asked.items self.old }
     {
-        ask(&mut self.asked, key)
+        self.asked = asked;
+    }
+
+    /// Asks for nothing any more.
+    pub(crate) fn cancel(&mut self)
+        ensures { self.new ≡ record self.old { asked = [] } }
+    {
+        self.asked.clear();
     }
 
     /// Whether one more tile may be sent.
