@@ -1,3 +1,4 @@
 pub mod Command
-pub mod Words
-pub mod Forms
+pub mod Names
+pub mod Table
+pub mod Reading

@@ -1,6 +1,6 @@
 //! Why a text is no message.
 ghost use Rattle.std.specs.Prelude.{◌≡◌};
-ghost use Rattle.cool_message.specs.Words.{name_of};
+ghost use Rattle.cool_message.specs.Names.{name_of};
 
 use std::fmt;
 use thiserror::Error;

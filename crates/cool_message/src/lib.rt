@@ -7,13 +7,15 @@
 
 mod command;
 mod fault;
-mod forms;
 mod message;
+mod reading;
+mod table;
 
 pub use command::command_of;
 pub use fault::{MessageFault, Word};
-pub use forms::read_message;
 pub use message::{ClientMessage, CombineWords, KeyKind, MouseKind};
+pub use reading::read_message;
+pub use table::{Command, Field, Kind};
 
 #[cfg(test)]
 mod tests;

@@ -1,0 +1,18 @@
+//! The words of messages, frames and script lines.
+//!
+//! - `words`: what stands between blanks. A blank is the byte 32 alone.
+//! - `name_and_value`, `is_named`, `first_value`, `count_named`: words `name=value`, cut at the first
+//!   equals sign. `cut` cuts a line of bytes at any byte.
+//! - `is_list_31`, `list_31`, `is_list_64`, `list_64`: lists of numbers separated by single commas.
+//! - `percent_decoded`: percent escapes read.
+#![tactic(auto)]
+
+mod escapes;
+mod lists;
+mod named;
+mod split;
+
+pub use escapes::percent_decoded;
+pub use lists::{count_parts, is_list_31, is_list_64, list_31, list_64, number_31};
+pub use named::{count_named, cut, first_value, is_named, name_and_value};
+pub use split::words;
