@@ -6,7 +6,7 @@ use Rattle.kit_trait.specs.declared.values.Pixels.{Pixels}
 use Rattle.script_lines.specs.Grammar.{start, verdict}
 use Rattle.script_lines.specs.declared.grammar.Place.{Place}
 use Rattle.script_lines.specs.declared.grammar.ScriptLine.{ScriptLine}
-use Rattle.script_lines.specs.declared.grammar.ScriptLine.TheVariants.{Open, Say, Settle, End}
+use Rattle.script_lines.specs.declared.grammar.ScriptLine.TheVariants.{Open, Say, Settle, Blank, End}
 use Rattle.script_lines.specs.declared.grammar.Verdict.{Verdict}
 use Rattle.script_lines.specs.declared.grammar.Verdict.TheVariants.{Acts, Ends, Refused}
 use Rattle.script_lines.specs.declared.output.Stop.{Stop}
@@ -24,11 +24,13 @@ pub record Standing (S : Type 0) : Type 0 where
 abbrev pub first : {S : Type 0} → Standing S
 first = record { place = start; world = unopened }
 
--- Opening a file makes three events that wait, saying a message makes one, settling does all that waits.
+-- Opening a file makes three events that wait, saying a message makes one, settling does all that waits, and
+-- a blank line does nothing.
 abbrev pub Does : {C B S : Type 0} → Rules C B → (S → Pixels) → Rights → ScriptLine → Seen S → List ℕ → Seen S → Type 0
 Does rules paints rights (Open file) s out t = (out ≡ []) × (t ≡ record s { waiting = s.waiting ++ Opened ∷ Greets ∷ Loads file ∷ [] })
 Does rules paints rights (Say message) s out t = (out ≡ []) × (t ≡ record s { waiting = s.waiting ++ Says message ∷ [] })
 Does rules paints rights Settle s out t = Settled rules paints rights s out t
+Does rules paints rights Blank s out t = (out ≡ []) × (t ≡ s)
 Does rules paints rights End s out t = (out ≡ []) × (t ≡ s)
 
 -- What a line that is under way has made: settling does whole moves, the others write nothing.
@@ -36,6 +38,7 @@ abbrev pub Doing : {C B S : Type 0} → Rules C B → (S → Pixels) → Rights 
 Doing rules paints rights (Open file) s out = out ≡ []
 Doing rules paints rights (Say message) s out = out ≡ []
 Doing rules paints rights Settle s out = Begun rules paints rights s out
+Doing rules paints rights Blank s out = out ≡ []
 Doing rules paints rights End s out = out ≡ []
 
 -- only a line that acts does something, and the script then stands behind it

@@ -43,6 +43,7 @@ impl<K: Kit> Script<K> {
             place: Place {
                 opened: false,
                 said: 0,
+                asked: 0,
             },
             world: World::new(alloc),
         }
@@ -107,6 +108,7 @@ fn act<K: Kit, T: Sink>(
         ScriptLine::Open(file) => Ok(world.open(file)?),
         ScriptLine::Say(message) => Ok(world.say(message)?),
         ScriptLine::Settle => world.settle(alloc, sink),
+        ScriptLine::Blank => Ok(()),
         ScriptLine::End => Ok(()),
     }
 }

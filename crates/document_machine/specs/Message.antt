@@ -1,5 +1,5 @@
 -- What a message of a view does.
-use Rattle.std.specs.Prelude.{ℕ, Bool, true, false, not, ◌&&◌, List, [], ◌∷◌, ◌++◌, length, filter, nat_le, nat_lt, Option, None, Some, codes, if◌then◌else◌}
+use Rattle.std.specs.Prelude.{ℕ, Bool, true, false, not, ◌&&◌, List, [], ◌∷◌, ◌++◌, length, filter, nat_le, nat_lt, Option, None, Some, Result, Ok, Err, codes, if◌then◌else◌}
 use Rattle.asked_keys.specs.Asked.{keys_of}
 use Rattle.cool_frame.specs.declared.kind.ErrorKind.{ErrorKind}
 use Rattle.cool_frame.specs.declared.kind.ErrorKind.TheVariants.{BadMessage, AlreadyLoaded, ReadOnly, InputsFull, BadTile, AskedFull}
@@ -7,7 +7,8 @@ use Rattle.cool_base.specs.declared.ids.ViewId.{ViewId}
 use Rattle.cool_frame.specs.declared.frame.Frame.{Frame}
 use Rattle.cool_frame.specs.declared.frame.Frame.TheVariants.{Server, Error}
 use Rattle.cool_message.specs.Command.{command_name}
-use Rattle.cool_message.specs.Forms.{message_of}
+use Rattle.cool_message.specs.Reading.{reading}
+use Rattle.cool_message.specs.declared.fault.MessageFault.{MessageFault}
 use Rattle.cool_message.specs.declared.message.ClientMessage.{ClientMessage}
 use Rattle.cool_message.specs.declared.message.ClientMessage.TheVariants.{CoolClient, Load, Key, Mouse, Tile, TileCombine, CancelTiles, VisibleArea, Zoom, SetPart, TileProcessed, Save, UnoSave}
 use Rattle.cool_message.specs.declared.message.KeyKind.{KeyKind}
@@ -90,13 +91,13 @@ message_effect count parts view (Save keep skip) = Refuses (codes "save") BadMes
 message_effect count parts view UnoSave = Refuses (codes "uno") BadMessage
 
 -- a text that is no message is refused, with the command that it seems to have
-abbrev pub reading_effect : (count parts : ℕ) → View → List ℕ → Option ClientMessage → Effect
-reading_effect count parts view text None = Refuses (command_name text) BadMessage
-reading_effect count parts view text (Some message) = message_effect count parts view message
+abbrev pub reading_effect : (count parts : ℕ) → View → List ℕ → Result ClientMessage MessageFault → Effect
+reading_effect count parts view text (Err why) = Refuses (command_name text) BadMessage
+reading_effect count parts view text (Ok message) = message_effect count parts view message
 
 -- the effect of a text that a view says
 abbrev pub effect_of : (count parts : ℕ) → View → List ℕ → Effect
-effect_of count parts view text = reading_effect count parts view text (message_of text)
+effect_of count parts view text = reading_effect count parts view text (reading text)
 
 -- the same in a document
 abbrev pub effect : {C B S : Type 0} → Rules C B → Document S → View → List ℕ → Effect
@@ -122,10 +123,10 @@ asks asked view = record view { asked = asked }
 abbrev pub is_dropped : {C B S : Type 0} → Rules C B → Document S → View → Place → Bool
 is_dropped rules d view key = is_among view.asked key && not (is_among (visible rules d view) key)
 
--- a view that cancels: the dropped keys are not asked for any more, and its screen forgets them
+-- a view that cancels: of the asked keys those stay asked for that it sees, and its screen forgets the others
 abbrev pub cancels : {C B S : Type 0} → Rules C B → Document S → View → View
 cancels rules d view = record view {
-  asked = filter (λ key. not (is_dropped rules d view key)) view.asked;
+  asked = filter (is_among (visible rules d view)) view.asked;
   screen = filter (λ shown. not (is_dropped rules d view shown.key)) view.screen;
 }
 

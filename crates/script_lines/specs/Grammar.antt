@@ -1,23 +1,23 @@
 -- The grammar of script lines: what a line says, and where a script may say it.
-use Rattle.std.specs.Prelude.{ℕ, ◌==◌, ◌&&◌, ◌+◌, Bool, true, false, List, [], ◌∷◌, length, take, drop, codes, Option, None, Some, if◌then◌else◌, nat_lt}
-use Rattle.std.specs.List.{position}
+use Rattle.std.specs.Prelude.{ℕ, ◌==◌, ◌&&◌, ◌||◌, ◌+◌, Bool, true, false, List, [], ◌∷◌, length, codes, Option, None, Some, Result, Ok, Err, if◌then◌else◌, nat_lt, nat_le}
 use Rattle.std.specs.Str.{bytes_eq}
+use Rattle.asked_keys.specs.Asked.{keys_of}
 use Rattle.cool_base.specs.Numbers.{number}
 use Rattle.cool_base.specs.Words.{is_file_id}
+use Rattle.cool_message.specs.Reading.{reading}
+use Rattle.cool_message.specs.declared.fault.MessageFault.{MessageFault}
+use Rattle.cool_message.specs.declared.message.ClientMessage.{ClientMessage}
+use Rattle.cool_words.specs.Words.{cut_at}
+use Rattle.tile_key.specs.Places.{Place as KeyPlace}
 use Rattle.script_lines.specs.declared.grammar.ScriptLine.{ScriptLine}
-use Rattle.script_lines.specs.declared.grammar.ScriptLine.TheVariants.{Open, Say, Settle, End}
+use Rattle.script_lines.specs.declared.grammar.ScriptLine.TheVariants.{Open, Say, Settle, Blank, End}
 use Rattle.script_lines.specs.declared.grammar.Place.{Place}
 use Rattle.script_lines.specs.declared.grammar.Verdict.{Verdict}
 use Rattle.script_lines.specs.declared.grammar.Verdict.TheVariants.{Acts, Ends, Refused}
 
--- the bytes before the place and those behind the byte at it
-abbrev pub split_at : List ℕ → Option ℕ → Option (List ℕ × List ℕ)
-split_at text None = None
-split_at text (Some place) = Some (take place text, drop (place + 1) text)
-
 -- the word before the first blank, and all that stands behind that blank
 abbrev pub split_word : List ℕ → Option (List ℕ × List ℕ)
-split_word text = split_at text (position (λ c. c == 32) text)
+split_word text = cut_at 32 text
 
 -- whether a number is there and is 1
 abbrev pub is_one : Option ℕ → Bool
@@ -50,28 +50,55 @@ worded (Some split) =
     if bytes_eq split.0 (codes "say") then say_part (split_word split.1)
     else (if bytes_eq split.0 (codes "open") then open_part (split_word split.1) else None)
 
--- what a line says, if anything
+-- whether the line is a comment
+abbrev pub is_comment : List ℕ → Bool
+is_comment [] = false
+is_comment (c ∷ cs) = c == 35
+
+-- what a line says, if anything: a line without a byte and a comment say that nothing is to do
 unfoldable pub line_of : List ℕ → Option ScriptLine
 line_of text =
-    if bytes_eq text (codes "end") then Some End
-    else (if bytes_eq text (codes "settle") then Some Settle else worded (split_word text))
+    if length text == 0 || is_comment text then Some Blank
+    else
+    (if bytes_eq text (codes "end") then Some End
+    else (if bytes_eq text (codes "settle") then Some Settle else worded (split_word text)))
 
--- what a script's line does behind the lines before it: a document is opened once and before every
--- message, and there are at most 64 messages
+-- how many keys were found
+abbrev pub count_keys : Option (List KeyPlace) → ℕ
+count_keys None = 0
+count_keys (Some keys) = length keys
+
+abbrev pub tiles_read : Result ClientMessage MessageFault → ℕ
+tiles_read (Ok message) = count_keys (keys_of 1 message)
+tiles_read (Err why) = 0
+
+-- how many tiles a message asks for: each position that an accepted `tile` or `tilecombine` names counts,
+-- where all its keys are keys of the one part that a document of no bytes has; no other message asks for one
+unfoldable pub tiles_of : List ℕ → ℕ
+tiles_of message = tiles_read (reading message)
+
+-- whether a script that stands there may say the message: behind `open`, as one of 64 messages, and as
+-- long as all messages together ask for at most 64 tiles
+abbrev pub may_say : Place → List ℕ → Bool
+may_say place message = place.opened && nat_lt place.said 64 && nat_le (place.asked + tiles_of message) 64
+
+-- what a script's line does behind the lines before it: a document is opened once and before every message
 abbrev pub judged : Place → Option ScriptLine → Verdict
 judged place None = Refused
+judged place (Some Blank) = Acts Blank place
 judged place (Some End) = Ends
 judged place (Some Settle) = Acts Settle place
 judged place (Some (Open file)) = if place.opened then Refused else Acts (Open file) (record place { opened = true })
 judged place (Some (Say message)) =
-    if place.opened && nat_lt place.said 64 then Acts (Say message) (record place { said = place.said + 1 }) else Refused
+    if may_say place message then Acts (Say message) (record place { said = place.said + 1; asked = place.asked + tiles_of message })
+    else Refused
 
 abbrev pub verdict : Place → List ℕ → Verdict
 verdict place text = judged place (line_of text)
 
 -- a script before its first line
 abbrev pub start : Place
-start = record { opened = false; said = 0 }
+start = record { opened = false; said = 0; asked = 0 }
 
 -- what comes behind a line that acts, and None where it ends the script or is refused
 abbrev pub followed : Verdict → (Place → Option Place) → Option Place

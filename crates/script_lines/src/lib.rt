@@ -10,6 +10,6 @@ mod output;
 #[cfg(test)]
 mod tests;
 
-pub use grammar::{Place, ScriptLine, Verdict, judge, read_line};
+pub use grammar::{Place, ScriptLine, Verdict, judge, read_line, tiles_of};
 pub use line::{LineStep, next_line};
 pub use output::{Stop, fault_text, record_of, write_whole};

@@ -1,9 +1,10 @@
 // Lines, what they say and records, with ample memory.
 use crate::{
     LineStep, Place, ScriptLine, Verdict, fault_text, judge, next_line, read_line, record_of,
-    write_whole,
+    tiles_of, write_whole,
 };
 use outside::{MemorySink, MemorySource};
+use std::alloc::Global;
 use std::test::Fail;
 
 fn name_of(line: &Option<ScriptLine>) -> &'static str {
@@ -12,6 +13,7 @@ fn name_of(line: &Option<ScriptLine>) -> &'static str {
         Some(ScriptLine::Open(_)) => "open",
         Some(ScriptLine::Say(_)) => "say",
         Some(ScriptLine::Settle) => "settle",
+        Some(ScriptLine::Blank) => "blank",
         Some(ScriptLine::End) => "end",
     }
 }
@@ -34,7 +36,11 @@ fn lines_say_what_the_grammar_says(rt: HostRuntime) -> Result<(), Fail> {
         ("settle", "settle"),
         ("settle ", "none"),
         ("end", "end"),
-        ("", "none"),
+        ("", "blank"),
+        ("#", "blank"),
+        ("# end", "blank"),
+        (" ", "none"),
+        (" # end", "none"),
         ("hop", "none"),
     ];
     for (text, wanted) in table {
@@ -44,26 +50,73 @@ fn lines_say_what_the_grammar_says(rt: HostRuntime) -> Result<(), Fail> {
     Ok(())
 }
 
+// What a line does where a document was opened or not, and so many messages asked for so many tiles.
+fn judged(alloc: Global, opened: bool, said: u32, asked: u32, line: &str) -> Result<String, Fail> {
+    let place = Place {
+        opened,
+        said,
+        asked,
+    };
+    match judge(alloc, place, line.as_bytes())? {
+        Verdict::Acts(_, next) => {
+            let said = next.said;
+            let asked = next.asked;
+            Ok(format!(in alloc; "acts {said} {asked}")?)
+        }
+        Verdict::Ends => Ok(String::from_str(alloc, "ends")?),
+        Verdict::Refused => Ok(String::from_str(alloc, "refused")?),
+    }
+}
+
+const TWO: &str =
+    "say 1 tilecombine part=0 width=8 height=8 tileposx=0,240 tileposy=0,0 tilewidth=240 tileheight=240";
+
 #[test]
 fn a_line_is_judged_where_it_stands(rt: HostRuntime) -> Result<(), Fail> {
-    let fresh = Place {
-        opened: false,
-        said: 0,
-    };
-    let full = Place {
-        opened: true,
-        said: 64,
-    };
-    assert!(rt; matches!(judge(rt.alloc(), fresh, b"say 1 a")?, Verdict::Refused));
-    assert!(rt; matches!(judge(rt.alloc(), full, b"say 1 a")?, Verdict::Refused));
-    assert!(rt; matches!(judge(rt.alloc(), full, b"open 1 d rw")?, Verdict::Refused));
-    assert!(rt;
-        matches!(
-            judge(rt.alloc(), fresh, b"open 1 d rw")?,
-            Verdict::Acts(_, _)
-        )
-    );
-    assert!(rt; matches!(judge(rt.alloc(), full, b"end")?, Verdict::Ends));
+    let table = [
+        (false, 0, 0, "say 1 a", "refused"),
+        (true, 64, 0, "say 1 a", "refused"),
+        (true, 63, 64, "say 1 a", "acts 64 64"),
+        (true, 0, 0, "open 1 d rw", "refused"),
+        (false, 0, 0, "open 1 d rw", "acts 0 0"),
+        (true, 64, 64, "end", "ends"),
+        (true, 64, 64, "# end", "acts 64 64"),
+        (true, 1, 62, TWO, "acts 2 64"),
+        (true, 1, 63, TWO, "refused"),
+    ];
+    for (opened, said, asked, line, wanted) in table {
+        let text = judged(rt.alloc(), opened, said, asked, line)?;
+        assert_eq!(rt; text.as_str(), wanted, "{line}");
+    }
+    Ok(())
+}
+
+#[test]
+fn messages_ask_for_tiles(rt: HostRuntime) -> Result<(), Fail> {
+    let table = [
+        (
+            "tile part=0 width=8 height=8 tileposx=0 tileposy=0 tilewidth=240 tileheight=240",
+            1,
+        ),
+        (
+            "tile part=1 width=8 height=8 tileposx=0 tileposy=0 tilewidth=240 tileheight=240",
+            0,
+        ),
+        (
+            "tilecombine part=0 width=8 height=8 tileposx=0,0,0 tileposy=0,0,0 tilewidth=240 tileheight=240",
+            3,
+        ),
+        (
+            "tilecombine part=0 width=8 height=8 tileposx=0,7 tileposy=0,0 tilewidth=240 tileheight=240",
+            0,
+        ),
+        ("canceltiles", 0),
+        ("tile", 0),
+    ];
+    for (text, wanted) in table {
+        let tiles = tiles_of(rt.alloc(), text.as_bytes())?;
+        assert_eq!(rt; tiles, wanted, "{text}");
+    }
     Ok(())
 }
 
