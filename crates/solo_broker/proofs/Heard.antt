@@ -35,15 +35,17 @@ took_is rules base journal applied view next_view next_ticket id Cancels live bl
 took_is rules base journal applied view next_view next_ticket id Passes live blank = refl
 
 -- the view said a text
-pub says_by : {C B S : Type 0} (rules : Rules C B) (base : List ℕ) (journal entries : List Input) (applied : ℕ) (before : Option View) (view now : View) (next_view next_ticket id : ℕ) (text : List ℕ) (e : Effect) (frames : List (ViewId × Frame)) (old : Document S)
+pub says_by : {C B S : Type 0} (rules : Rules C B) (base : List ℕ) (journal entries : List Input) (applied count some_parts : ℕ) (before : Option View) (view now : View) (next_view next_ticket id : ℕ) (text : List ℕ) (e : Effect) (frames : List (ViewId × Frame)) (old : Document S)
     → parts base journal applied before next_view next_ticket ≡ old → before ≡ Some view → IsSome (find_view old.views id) → view.screen ≡ []
-    → e ≡ effect_of (length journal) (parts_of rules base) view text → frames ≡ frames_of id e → entries ≡ entered journal e → now ≡ heard view e
+    → count ≡ length journal → some_parts ≡ parts_of rules base → e ≡ effect_of count some_parts view text → frames ≡ frames_of id e → entries ≡ entered journal e → now ≡ heard view e
     → Says rules old id text (frames_only frames) (parts base entries applied (Some now) next_view next_ticket)
-says_by {C} {B} {S} rules base journal entries applied before view now next_view next_ticket id text e frames old is some live blank e_is frames_are entries_are now_is =
+says_by {C} {B} {S} rules base journal entries applied count some_parts before view now next_view next_ticket id text e frames old is some live blank count_is parts_are told frames_are entries_are now_is =
     let d : Document S = parts base journal applied (Some view) next_view next_ticket in
     let there : d ≡ old = ap (λ v. parts base journal applied v next_view next_ticket) (sym some) ∙ is in
     let live2 : IsSome (find_view d.views id) = subst (λ (o : Document S). IsSome (find_view o.views id)) (sym there) live in
     let it : nat_eq view.id id ≡ true = live_is view id live2 in
+    let e_is : e ≡ effect_of (length journal) (parts_of rules base) view text =
+        told ∙ ap (λ n. effect_of n some_parts view text) count_is ∙ ap (λ n. effect_of (length journal) n view text) parts_are in
     let new_is : parts base entries applied (Some now) next_view next_ticket ≡ took rules d id e =
         ap (λ js. parts base js applied (Some now) next_view next_ticket) entries_are
         ∙ ap (λ v. parts base (entered journal e) applied (Some v) next_view next_ticket) now_is
@@ -114,3 +116,7 @@ holds_said rules IsSound contents base journal entries applied count parts befor
     let within2 : Within (parts_of rules base) view.part e = subst (λ n. Within n view.part e) parts_are within in
     let done : Holds rules IsSound contents base (entered journal e) applied (Some (heard view e)) = holds_by e here within2 in
     subst (λ js. Holds rules IsSound contents base js applied (Some now)) (sym entries_are) (subst (λ v. Holds rules IsSound contents base (entered journal e) applied (Some v)) (sym now_is) done)
+
+-- the screen of a view that fits keeps nothing
+pub blank_screen : (parts : ℕ) (before : Option View) (view : View) → Fits parts before → before ≡ Some view → view.screen ≡ []
+blank_screen parts before view fits some = let h : Fits parts (Some view) = subst (Fits parts) some fits in h.1
