@@ -121,7 +121,14 @@ fn saying(alloc: Global, place: Place, message: ListOf<u8>) -> Result<Verdict, M
 fn may_say(place: Place, tiles: usize) -> bool
     ensures { result ≡ (place.opened && nat_lt place.said 64 && nat_le (place.asked + tiles) 64) }
 {
-    place.opened && place.said < 64 && place.asked as u64 + tiles as u64 <= 64
+    place.opened && place.said < 64 && may_ask(place.asked, tiles)
+}
+
+// Whether so many tiles more are at most 64 with those asked for.
+fn may_ask(asked: u32, tiles: usize) -> bool
+    ensures { result ≡ nat_le (asked + tiles) 64 }
+{
+    asked <= 64 && tiles <= 64 - asked as usize
 }
 
 /// For how many tiles the message asks: each position of an accepted `tile` or `tilecombine` is one, where

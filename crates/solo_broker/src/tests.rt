@@ -163,14 +163,86 @@ fn refusals(rt: HostRuntime) -> Result<(), Fail> {
     let acts = [
         Act::Says("hop"),
         CLICK,
+        Act::Says("key type=input char=65 key=0"),
         OFF_THE_GRID,
         PAST_THE_LAST_PART,
         Act::Tells,
     ];
     let wanted =
-        "status: type=patch parts=1 current=0 width=3840 height=3840 viewid=0 readonly=1\nerror: cmd=hop kind=badmessage\nerror: cmd=mouse kind=readonly\nerror: cmd=tile kind=badtile\nerror: cmd=tile kind=badtile\n0 of 0 applied, quiet true\n";
+        "status: type=patch parts=1 current=0 width=3840 height=3840 viewid=0 readonly=1\nerror: cmd=hop kind=badmessage\nerror: cmd=mouse kind=readonly\nerror: cmd=key kind=readonly\nerror: cmd=tile kind=badtile\nerror: cmd=tile kind=badtile\n0 of 0 applied, quiet true\n";
     let lines = played(rt.alloc(), false, &acts)?;
     assert_eq!(rt; lines.as_slice(), wanted.as_bytes());
+    Ok(())
+}
+
+/// A `tilecombine` of so many keys of one row, from the first column on.
+fn row_of(alloc: Global, count: u32) -> Result<String, Fail> {
+    let mut xs = String::from_str(alloc, "0")?;
+    let mut ys = String::from_str(alloc, "0")?;
+    for i in 1..count.min(1_024) {
+        let x = i * 240;
+        xs.push_str(format!(in alloc; ",{x}")?.as_str())?;
+        ys.push_str(",0")?;
+    }
+    Ok(
+        format!(in alloc; "tilecombine part=0 width=8 height=8 tileposx={xs} tileposy={ys} tilewidth=240 tileheight=240")?,
+    )
+}
+
+#[test]
+fn what_messages_do(rt: HostRuntime) -> Result<(), Fail> {
+    let acts = [
+        Act::Says("coolclient 0.1"),
+        Act::Says("load url=x"),
+        Act::Says("key type=up char=65 key=0"),
+        Act::Says("mouse type=move x=1 y=1"),
+        Act::Says("mouse type=buttonup x=1 y=1"),
+        Act::Tells,
+        Act::Says("key type=input char=65 key=0"),
+        Act::Turns,
+        Act::Says(
+            "tilecombine part=0 width=8 height=8 tileposx=0,7 tileposy=0,0 tilewidth=240 tileheight=240",
+        ),
+        Act::Tells,
+        Act::Says(
+            "tilecombine part=0 width=8 height=8 tileposx=0,240 tileposy=0,0 tilewidth=240 tileheight=240",
+        ),
+        Act::Tells,
+        Act::Says("canceltiles"),
+        Act::Tells,
+        Act::Says("clientvisiblearea x=0 y=0 width=1 height=1"),
+        Act::Says(
+            "clientzoom tilepixelwidth=8 tilepixelheight=8 tiletwipwidth=240 tiletwipheight=240",
+        ),
+        Act::Says("setclientpart part=0"),
+        Act::Says("tileprocessed wids=1"),
+        Act::Says("save"),
+        Act::Says("uno .uno:Save"),
+    ];
+    let wanted =
+        "status: type=patch parts=1 current=0 width=3840 height=3840 viewid=0 readonly=0\ncoolserver {\"Version\":\"profile-1\",\"Protocol\":\"0.1\"}\nerror: cmd=load kind=alreadyloaded\n0 of 0 applied, quiet true\ninvalidatetiles: part=0 x=0 y=0 width=240 height=240\nerror: cmd=tilecombine kind=badtile\n1 of 1 applied, quiet true\n1 of 1 applied, quiet false\n1 of 1 applied, quiet true\nerror: cmd=clientvisiblearea kind=badmessage\nerror: cmd=clientzoom kind=badmessage\nerror: cmd=setclientpart kind=badmessage\nerror: cmd=tileprocessed kind=badmessage\nerror: cmd=save kind=badmessage\nerror: cmd=uno kind=badmessage\n";
+    let lines = played(rt.alloc(), true, &acts)?;
+    assert_eq!(rt; lines.as_slice(), wanted.as_bytes());
+    Ok(())
+}
+
+#[test]
+fn too_many_keys(rt: HostRuntime) -> Result<(), Fail> {
+    let mut broker: Broker<PatchKit> =
+        Broker::start(rt.alloc(), Bytes::copy_from_slice(rt.alloc(), b"")?)?;
+    broker.join(rt.alloc(), Rights { can_write: true })?;
+    let row = row_of(rt.alloc(), 1_024)?;
+    assert!(rt; said(rt.alloc(), &mut broker, row.as_str())?.is_empty());
+    assert!(rt; said(rt.alloc(), &mut broker, row.as_str())?.is_empty());
+    let lines = said(
+        rt.alloc(),
+        &mut broker,
+        "tile part=0 width=8 height=8 tileposx=0 tileposy=240 tilewidth=240 tileheight=240",
+    )?;
+    assert_eq!(rt;
+        lines.as_slice(),
+        b"error: cmd=tile kind=askedfull\n".as_slice()
+    );
     Ok(())
 }
 
