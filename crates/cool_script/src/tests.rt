@@ -1,6 +1,7 @@
 // Scripts with ample memory, from their bytes to their transcripts.
 use crate::replay;
 use outside::{MemorySink, MemorySource, ReadStep, Source};
+use std::alloc::Global;
 use std::test::Fail;
 
 const OPENING: &str =
@@ -97,6 +98,55 @@ fn refused_messages(rt: HostRuntime) -> Result<(), Fail> {
     Ok(())
 }
 
+// A `tilecombine` of so many positions in one row.
+fn combine(alloc: Global, count: u32) -> Result<String, Fail> {
+    let mut xs = String::from_str(alloc, "0")?;
+    let mut ys = String::from_str(alloc, "0")?;
+    for _ in 1..count {
+        xs.push_str(",240")?;
+        ys.push_str(",0")?;
+    }
+    Ok(
+        format!(in alloc; "say 1 tilecombine part=0 width=1 height=1 tileposx={xs} tileposy={ys} tilewidth=240 tileheight=240\n")?,
+    )
+}
+
+const MESSAGES: &str =
+    "# what a view may say\n\nopen 1 d rw\nsay 1 coolclient 0.1\nsay 1 load url=x\nsay 1 key char=65 key=0 type=input\n#settle\nsay 1 key type=up char=66 key=0\n";
+
+const ANSWERS: &str =
+    "1 51\ncoolserver {\"Version\":\"profile-1\",\"Protocol\":\"0.1\"}\n1 34\nerror: cmd=load kind=alreadyloaded\n1 52\ninvalidatetiles: part=0 x=0 y=0 width=240 height=240\n1 97\ntile: part=0 width=1 height=1 tileposx=0 tileposy=0 tilewidth=240 tileheight=240 ver=1 wid=1\n";
+
+const REFUSALS: &str =
+    "1 44\nerror: cmd=clientvisiblearea kind=badmessage\n1 30\nerror: cmd=uno kind=badmessage\n1 35\nerror: cmd=tilecombine kind=badtile\n";
+
+// Two tiles are asked for and one is sent before they are cancelled, so the line that asks for 63 more is
+// refused, and one that asks for 62 more is not.
+#[test]
+fn what_a_view_may_say(rt: HostRuntime) -> Result<(), Fail> {
+    let alloc = rt.alloc();
+    let two = combine(alloc, 2)?;
+    let said = format!(in alloc; "{MESSAGES}{two}say 1 canceltiles\nsettle\n")?;
+    let later =
+        "say 1 clientvisiblearea x=0 y=0 width=240 height=240\nsay 1 uno .uno:Save\nsay 1 tilecombine part=0 width=1 height=1 tileposx=0,7 tileposy=0,0 tilewidth=240 tileheight=240\nsettle\n";
+    let mut wanted = Vec::from_slice(alloc, OPENING.as_bytes())?;
+    wanted.extend_from_slice(ANSWERS.as_bytes())?;
+    wanted.extend_from_slice(&[65, 65, 65, 255, b'\n'])?;
+    wanted.extend_from_slice(REFUSALS.as_bytes())?;
+    let many = combine(alloc, 62)?;
+    let script = format!(in alloc; "{said}{later}{many}# end\nend\n")?;
+    let (status, bytes) = played(&rt, script.as_str(), 10_000)?;
+    assert_eq!(rt; status, 0);
+    assert!(rt; bytes.as_slice() == wanted.as_slice());
+    let many = combine(alloc, 63)?;
+    let script = format!(in alloc; "{said}{later}{many}end\n")?;
+    let (status, bytes) = played(&rt, script.as_str(), 10_000)?;
+    wanted.extend_from_slice(b"fault line 16\n")?;
+    assert_eq!(rt; status, 3);
+    assert!(rt; bytes.as_slice() == wanted.as_slice());
+    Ok(())
+}
+
 #[test]
 fn how_scripts_end(rt: HostRuntime) -> Result<(), Fail> {
     let mut many = String::from_str(rt.alloc(), "open 1 d rw\n")?;
@@ -111,6 +161,10 @@ fn how_scripts_end(rt: HostRuntime) -> Result<(), Fail> {
         ("endless\n", 3, "fault line 1\n"),
         ("settle\n", 7, ""),
         ("settle", 7, ""),
+        ("# end", 7, ""),
+        ("\n#\n\nhop\n", 3, "fault line 4\n"),
+        ("\n# end\nend\n", 0, ""),
+        (" \nend\n", 3, "fault line 1\n"),
         ("settle\nsay 1 x\n", 3, "fault line 2\n"),
         (many.as_str(), 3, "fault line 66\n"),
     ];
