@@ -7,9 +7,11 @@
 
 mod command;
 mod fault;
+mod faults;
 mod message;
 mod reading;
 mod table;
+mod values;
 
 pub use command::command_of;
 pub use fault::{MessageFault, Word};
