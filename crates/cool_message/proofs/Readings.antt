@@ -1,11 +1,10 @@
 -- What a text means, by its first three tests.
-use Rattle.std.proofs.Common.{◌≡◌, ℕ, ◌≤◌, ◌<◌, List, length, Result, Err, true, false, ltb, lt-ltb, le-ltb, refl, sym}
+use Rattle.std.proofs.Common.{◌≡◌, ℕ, ◌≤◌, List, length, Err, false, ltb, le-ltb, refl, sym}
 use Rattle.std.specs.List.{list_all}
 use Rattle.std.specs.Str.{is_utf8, IsUtf8}
 use Rattle.std.proofs.lemmas.Str.{is_utf8-from_IsUtf8}
 use Rattle.cool_words.specs.Words.{words, is_blank}
 use Rattle.cool_message.specs.Reading.{reading, said}
-use Rattle.cool_message.specs.declared.fault.MessageFault.{MessageFault}
 use Rattle.cool_message.specs.declared.fault.MessageFault.TheVariants.{NotUtf8}
 use Rattle.cool_message.proofs.Letters.{false_for_others}
 
