@@ -1,2 +1,4 @@
 pub mod Places
 pub mod Letters
+pub mod Readings
+pub mod Written

@@ -2,3 +2,4 @@ pub mod Command
 pub mod Names
 pub mod Table
 pub mod Reading
+pub mod Writing

@@ -1,5 +1,6 @@
 -- What a text says: the value of a message, or the first fault.
-use Rattle.std.specs.Prelude.{ℕ, Bool, true, false, ◌&&◌, ◌||◌, not, ◌==◌, nat_lt, nat_le, List, [], ◌∷◌, length, Option, Some, None, is_some, is_none, unwrap_or, Result, Ok, Err, codes, if◌then◌else◌}
+use Rattle.std.specs.Prelude.{ℕ, Bool, ◌&&◌, ◌||◌, not, ◌==◌, nat_lt, nat_le, List, [], ◌∷◌, length, Option, Some, None, is_some, is_none, unwrap_or, map, Result, Ok, Err, codes, if◌then◌else◌}
+use Rattle.std.specs.Borrow.{Bor}
 use Rattle.std.specs.Option.{option_map, option_or}
 use Rattle.std.specs.Result.{result_ok}
 use Rattle.std.specs.List.{list_all, find}
@@ -24,6 +25,10 @@ use Rattle.cool_message.specs.declared.table.Kind.{Kind}
 use Rattle.cool_message.specs.declared.table.Kind.TheVariants as kind
 use Rattle.cool_message.specs.Names.{name_of, command_named}
 use Rattle.cool_message.specs.Table.{fields_of, default_of}
+
+-- the words that a list of references shows
+abbrev pub texts : List (Bor (List ℕ)) → List (List ℕ)
+texts list = map (λ word. word.now) list
 
 -- the text that stands for a word: the value of its first occurrence, or its default
 abbrev pub standing : List (List ℕ) → Word → Option (List ℕ)

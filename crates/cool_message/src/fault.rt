@@ -1,6 +1,7 @@
 //! Why a text is no message.
 ghost use Rattle.std.specs.Prelude.{◌≡◌};
 ghost use Rattle.cool_message.specs.Names.{name_of};
+ghost use Rattle.cool_message.specs.declared.fault.MessageFault.TheVariants.{Memory};
 
 use std::fmt;
 use thiserror::Error;
@@ -25,6 +26,14 @@ pub enum MessageFault {
     RepeatedWord(Word),
     #[error("out of memory")]
     Memory,
+}
+
+impl From<cool_base::Memory> for MessageFault {
+    ghost from_gives = { λ _ fault. fault ≡ Memory };
+
+    fn from(_error: cool_base::Memory) -> MessageFault {
+        MessageFault::Memory
+    }
 }
 
 /// The name of a word of a message.

@@ -7,15 +7,19 @@
 
 mod command;
 mod fault;
+mod faults;
 mod message;
 mod reading;
 mod table;
+mod values;
+mod write;
 
 pub use command::command_of;
 pub use fault::{MessageFault, Word};
 pub use message::{ClientMessage, CombineWords, KeyKind, MouseKind};
 pub use reading::read_message;
 pub use table::{Command, Field, Kind};
+pub use write::write_message;
 
 #[cfg(test)]
 mod tests;

@@ -1,5 +1,5 @@
 -- Searches through lists of views.
-use Rattle.std.proofs.Common.{◌≡◌, ℕ, ◌+◌, List, [], ◌∷◌, map, length, Option, Some, None, Bool, true, false, cond, refl, sym, ap, ◌∙◌, suc}
+use Rattle.std.proofs.Common.{◌≡◌, List, [], ◌∷◌, map, length, Option, Some, None, Bool, true, false, cond, refl, sym, ap, ◌∙◌, suc}
 use Rattle.std.specs.Option.{option_map}
 use Rattle.std.specs.List.{find, filter, count_by}
 use Rattle.std.proofs.lemmas.List.Sums.{length-filter}

@@ -1,7 +1,7 @@
 -- Lists of numbers.
-use Rattle.std.specs.Prelude.{ℕ, Bool, ◌&&◌, ◌==◌, nat_le, List, length, map, Option, is_some, unwrap_or}
-use Rattle.std.specs.List.{list_all, slice_split}
-use Rattle.cool_base.specs.Numbers.{number_31, number_64}
+use Rattle.std.specs.Prelude.{ℕ, Bool, ◌&&◌, ◌++◌, ◌==◌, nat_le, List, [], ◌∷◌, length, map, Option, is_some, unwrap_or}
+use Rattle.std.specs.List.{list_all, slice_split, flat_map}
+use Rattle.std.specs.Fmt.{decimal}
 
 -- the parts between single commas
 abbrev pub parts : List ℕ → List (List ℕ)
@@ -18,3 +18,12 @@ number_in read text = unwrap_or (read text) 0
 -- the numbers of such a list
 abbrev pub numbers : (List ℕ → Option ℕ) → List ℕ → List ℕ
 numbers read text = map (number_in read) (parts text)
+
+-- a comma and a number behind it
+abbrev pub comma_and : ℕ → List ℕ
+comma_and number = 44 ∷ decimal number
+
+-- the numbers as they are written, separated by single commas
+abbrev pub list_text : List ℕ → List ℕ
+list_text [] = []
+list_text (number ∷ more) = decimal number ++ flat_map comma_and more

@@ -1,5 +1,5 @@
 //! Lists of numbers separated by single commas.
-ghost use Rattle.std.specs.Prelude.{◌≡◌, IfOk, length};
+ghost use Rattle.std.specs.Prelude.{◌≡◌, IfOk, length, nat_le};
 ghost use Rattle.cool_base.specs.Numbers.{number_31, number_64};
 ghost use Rattle.cool_words.specs.Lists.{parts, is_list, number_in, numbers};
 
@@ -10,7 +10,7 @@ use std::alloc::{AllocError, Global};
 pub fn is_list_31(text: &str) -> bool
     ensures { result ≡ is_list number_31 text.now }
 {
-    count_parts(text) <= 1024
+    is_short(text)
         && text
             .split(',')
             .all(|part| read_u31(part.as_bytes()).is_some())
@@ -20,10 +20,16 @@ pub fn is_list_31(text: &str) -> bool
 pub fn is_list_64(text: &str) -> bool
     ensures { result ≡ is_list number_64 text.now }
 {
-    count_parts(text) <= 1024
+    is_short(text)
         && text
             .split(',')
             .all(|part| read_u64(part.as_bytes()).is_some())
+}
+
+fn is_short(text: &str) -> bool
+    ensures { result ≡ nat_le (length (parts text.now)) 1024 }
+{
+    count_parts(text) <= 1024
 }
 
 /// How many parts stand between the commas of the text.

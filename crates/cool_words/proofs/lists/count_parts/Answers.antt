@@ -1,4 +1,4 @@
-use Rattle.std.proofs.Common.{rules, tests, lit<}
+use Rattle.std.proofs.Common.{lit<}
 use Rattle.std.proofs.lemmas.Iterator.Splits.{YieldsList-from_str_split}
 use Rattle.std.proofs.lemmas.Iterator.Consumers.{count_from_yields_List}
 use Rattle.cool_words.proofs.lists.count_parts.Goals as goal
