@@ -106,9 +106,9 @@ fn combine(alloc: Global, count: u32) -> Result<String, Fail> {
         xs.push_str(",240")?;
         ys.push_str(",0")?;
     }
-    Ok(
-        format!(in alloc; "say 1 tilecombine part=0 width=1 height=1 tileposx={xs} tileposy={ys} tilewidth=240 tileheight=240\n")?,
-    )
+    Ok(format!(in alloc;
+        "say 1 tilecombine part=0 width=1 height=1 tileposx={xs} tileposy={ys} tilewidth=240 tileheight=240\n"
+    )?)
 }
 
 const MESSAGES: &str =

@@ -45,11 +45,11 @@ says_by {C} {B} {S} rules base journal entries applied count some_parts before v
     let live2 : IsSome (find_view d.views id) = subst (λ (o : Document S). IsSome (find_view o.views id)) (sym there) live in
     let it : nat_eq view.id id ≡ true = live_is view id live2 in
     let e_is : e ≡ effect_of (length journal) (parts_of rules base) view text =
-        told ∙ ap (λ n. effect_of n some_parts view text) count_is ∙ ap (λ n. effect_of (length journal) n view text) parts_are in
+    told ∙ ap (λ n. effect_of n some_parts view text) count_is ∙ ap (λ n. effect_of (length journal) n view text) parts_are in
     let new_is : parts base entries applied (Some now) next_view next_ticket ≡ took rules d id e =
-        ap (λ js. parts base js applied (Some now) next_view next_ticket) entries_are
-        ∙ ap (λ v. parts base (entered journal e) applied (Some v) next_view next_ticket) now_is
-        ∙ took_is rules base journal applied view next_view next_ticket id e it blank in
+    ap (λ js. parts base js applied (Some now) next_view next_ticket) entries_are
+    ∙ ap (λ v. parts base (entered journal e) applied (Some v) next_view next_ticket) now_is
+    ∙ took_is rules base journal applied view next_view next_ticket id e it blank in
     let said : Says rules d id text (frames_only frames) (parts base entries applied (Some now) next_view next_ticket) = record {
       view = view;
       live = rw it refl;

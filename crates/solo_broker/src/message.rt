@@ -142,13 +142,7 @@ fn unknown(alloc: Global, command: &str) -> Result<Said, Memory>
 }
 
 /// A key, which is an input where it went down.
-fn key(
-    alloc: Global,
-    count: u64,
-    view: &Session,
-    kind: KeyKind,
-    what: What,
-) -> Result<Said, Memory>
+fn key(alloc: Global, count: u64, view: &Session, kind: KeyKind, what: What) -> Result<Said, Memory>
     ensures { IfOk result (λ said. verdict said ≡ key_effect count view.now kind what) }
 {
     match kind {

@@ -184,9 +184,9 @@ fn row_of(alloc: Global, count: u32) -> Result<String, Fail> {
         xs.push_str(format!(in alloc; ",{x}")?.as_str())?;
         ys.push_str(",0")?;
     }
-    Ok(
-        format!(in alloc; "tilecombine part=0 width=8 height=8 tileposx={xs} tileposy={ys} tilewidth=240 tileheight=240")?,
-    )
+    Ok(format!(in alloc;
+        "tilecombine part=0 width=8 height=8 tileposx={xs} tileposy={ys} tilewidth=240 tileheight=240"
+    )?)
 }
 
 #[test]
@@ -228,8 +228,10 @@ fn what_messages_do(rt: HostRuntime) -> Result<(), Fail> {
 
 #[test]
 fn too_many_keys(rt: HostRuntime) -> Result<(), Fail> {
-    let mut broker: Broker<PatchKit> =
-        Broker::start(rt.alloc(), Bytes::copy_from_slice(rt.alloc(), b"")?)?;
+    let mut broker: Broker<PatchKit> = Broker::start(
+        rt.alloc(),
+        Bytes::copy_from_slice(rt.alloc(), b"")?,
+    )?;
     broker.join(rt.alloc(), Rights { can_write: true })?;
     let row = row_of(rt.alloc(), 1_024)?;
     assert!(rt; said(rt.alloc(), &mut broker, row.as_str())?.is_empty());
