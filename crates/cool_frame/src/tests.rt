@@ -1,4 +1,4 @@
-use crate::{ErrorKind, Frame, write_frame};
+use crate::{ErrorKind, Frame, FrameFault, read_frame, write_frame};
 use bytes::Bytes;
 use cool_base::{Memory, Rect, Size, TextOf, ViewId, Wid};
 use kit_trait::KitName;
@@ -79,6 +79,8 @@ fn writes_lines(rt: HostRuntime) -> Result<(), Fail> {
     for (frame, line) in frames.iter().zip(lines.iter()) {
         let bytes = write_frame(alloc, frame)?;
         assert_eq!(rt; bytes.as_slice(), line.as_bytes());
+        let again = read_frame(alloc, line.as_bytes())?;
+        assert_eq!(rt; write_frame(alloc, &again)?.as_slice(), line.as_bytes());
     }
     Ok(())
 }
@@ -115,7 +117,73 @@ fn writes_a_tile(rt: HostRuntime) -> Result<(), Fail> {
     wanted.extend_from_slice(&rgba)?;
     assert_eq!(rt; bytes.len(), 349);
     assert_eq!(rt; bytes.as_slice(), wanted.as_slice());
+    let Frame::Tile {
+        key: read,
+        ver,
+        wid,
+        pixels,
+    } = read_frame(alloc, &wanted)?
+    else {
+        return Err("a tile")?;
+    };
+    assert!(rt; read.is_same(&key));
+    assert_eq!(rt; (ver, wid), (1, Wid(1)));
+    assert_eq!(rt; pixels.as_slice(), rgba.as_slice());
+    let short = read_frame(alloc, &wanted[..348]);
+    assert!(rt; matches!(short, Err(FrameFault::WrongLength)));
     Ok(())
+}
+
+/// Bytes that are no frame, and a tile's line without its picture.
+const REFUSED: [(&str, FrameFault); 14] = [
+    ("", FrameFault::NotAFrame),
+    ("tile", FrameFault::NotAFrame),
+    ("coolserver", FrameFault::NotAFrame),
+    (
+        "invalidatetiles: part=0 x=00 y=0 width=240 height=240",
+        FrameFault::NotAFrame,
+    ),
+    (
+        "invalidatetiles: part=0 x=0 y=0 width=240 height=240 ",
+        FrameFault::NotAFrame,
+    ),
+    (
+        "invalidatetiles: part=0 x=4294967295 y=0 width=1 height=1",
+        FrameFault::NotAFrame,
+    ),
+    (
+        "status: type=patch parts=1 current=1 width=1 height=1 viewid=0 readonly=0",
+        FrameFault::NotAFrame,
+    ),
+    (
+        "error: cmd=storage kind=savefailed code=65536",
+        FrameFault::NotAFrame,
+    ),
+    ("error: cmd=storage kind=savefailed", FrameFault::NotAFrame),
+    ("error: cmd=tile kind=badtile code=1", FrameFault::NotAFrame),
+    ("error: cmd=Tile kind=badtile", FrameFault::NotAFrame),
+    (
+        "tile: part=0 width=8 height=8 tileposx=0 tileposy=0 tilewidth=240 tileheight=240 ver=1 wid=1",
+        FrameFault::NotAFrame,
+    ),
+    (
+        "tile: part=0 width=8 height=8 tileposx=7 tileposy=0 tilewidth=240 tileheight=240 ver=1 wid=1\n",
+        FrameFault::NotAFrame,
+    ),
+    (
+        "tile: part=0 width=8 height=8 tileposx=0 tileposy=0 tilewidth=240 tileheight=240 ver=1 wid=1\n",
+        FrameFault::WrongLength,
+    ),
+];
+
+#[test]
+fn refuses(rt: HostRuntime) {
+    for (line, fault) in REFUSED {
+        match read_frame(rt.alloc(), line.as_bytes()) {
+            Ok(_) => assert!(rt; false, "{line}"),
+            Err(found) => assert_eq!(rt; found, fault, "{line}"),
+        }
+    }
 }
 
 #[test]
