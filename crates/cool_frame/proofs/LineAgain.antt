@@ -1,5 +1,5 @@
 -- The line of each frame is read as that frame.
-use Rattle.std.proofs.Common.{◌≡◌, ℕ, ◌+◌, ◌<◌, ◌≤◌, ◌^◌, Bool, true, false, not, ◌&&◌, List, [], ◌∷◌, ◌++◌, codes, Option, Some, None, nat_eq, nat_le, refl, ap, ◌∙◌, arith, lit<, append_assoc, append-nil, le-leb}
+use Rattle.std.proofs.Common.{◌≡◌, ℕ, ◌+◌, ◌<◌, ◌^◌, Bool, true, false, List, [], ◌++◌, codes, Option, Some, None, nat_le, refl, arith, lit<, append_assoc, append-nil, le-leb}
 use Rattle.std.proofs.lemmas.Fmt.{decimal_digit}
 use Rattle.std.specs.Fmt.{decimal}
 use Rattle.std.specs.List.{list_all, position_or_len}
@@ -9,13 +9,12 @@ use Rattle.cool_base.specs.declared.ids.ViewId.{ViewId}
 use Rattle.kit_trait.specs.declared.values.KitName.{KitName}
 use Rattle.kit_trait.specs.declared.values.KitName.TheVariants.{Patch, Sheet}
 use Rattle.tile_key.specs.Visible.{IsPart}
-use Rattle.cool_frame.specs.declared.frame.Frame.{Frame}
 use Rattle.cool_frame.specs.declared.frame.Frame.TheVariants.{Status, Invalidate, SaveDone, Error}
 use Rattle.cool_frame.specs.declared.kind.ErrorKind.{ErrorKind}
 use Rattle.cool_frame.specs.declared.kind.ErrorKind.TheVariants.{BadMessage, NotLoaded, AlreadyLoaded, BadUrl, LoadFailed, DocsFull, BookFull, MailFull, DocGone, BadFile, ViewsFull, ReadOnly, InputsFull, SavesFull, BadTile, TooLarge, AskedFull, SaveFailed}
 use Rattle.cool_frame.specs.Frames.{kit_text, kind_text, digit_of, word_of, frame_bytes, status_document, status_view, invalidate_place, invalidate_size, saved_bytes, error_head, error_code}
-use Rattle.cool_frame.specs.Likely.{number_in, status_in, invalidation_in, saved_in, refusal_in, refusal_of, word_in, behind_word, kind_of, code_in, is_coded, is_mark, kit_in, small, large, is_equals, is_other}
-use Rattle.cool_frame.specs.Reading.{IsCode, is_letter, is_command, has_code}
+use Rattle.cool_frame.specs.Likely.{number_in, status_in, invalidation_in, saved_in, refusal_in, kind_of, code_in, is_coded, is_mark, kit_in, small, large, is_other}
+use Rattle.cool_frame.specs.Reading.{IsCode, is_letter, is_command}
 use Rattle.cool_frame.proofs.Letters.{command_letters}
 use Rattle.cool_frame.proofs.Scans.{number_again, word_again}
 

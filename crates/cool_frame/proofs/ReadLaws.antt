@@ -1,7 +1,6 @@
 -- Each frame is read as itself, and so no two frames have the same bytes.
-use Rattle.std.proofs.Common.{◌≡◌, ◌≢◌, ℕ, ◌==◌, Bool, true, false, List, [], ◌∷◌, ◌++◌, length, Option, Some, None, Result, Ok, Err, IfErr, nat_eq, refl, ap, eq-eqb, ne_eqb}
+use Rattle.std.proofs.Common.{◌≡◌, ℕ, ◌==◌, true, false, List, ◌++◌, length, Some, Result, Ok, Err, IfErr, nat_eq, refl, ap, eq-eqb, ne_eqb}
 use Rattle.std.specs.List.{slice_index}
-use Rattle.std.specs.Str.{bytes_eq}
 use Rattle.std.proofs.Math.Seq.{drop-append_seam}
 use Rattle.cool_base.specs.declared.ids.Wid.{Wid}
 use Rattle.tile_key.specs.Places.{Place}

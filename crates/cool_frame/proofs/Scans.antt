@@ -1,15 +1,14 @@
 -- What is written of a number or a word is found again.
-use Rattle.std.proofs.Common.{◌≡◌, ℕ, zero, suc, ◌+◌, ◌<◌, ◌≤◌, ◌^◌, Bool, true, false, not, ◌&&◌, List, [], ◌∷◌, ◌++◌, length, take, drop, Some, Option, nat_eq, refl, ap, arith, lit<, rules, eq-eqb}
+use Rattle.std.proofs.Common.{◌≡◌, ℕ, ◌+◌, ◌<◌, ◌≤◌, ◌^◌, Bool, true, not, List, [], ◌∷◌, ◌++◌, length, Some, refl, arith, lit<, rules}
 use Rattle.std.proofs.lemmas.Bool.{and_parts}
 use Rattle.std.proofs.lemmas.Fmt.{digits_decimal, decimal_nonempty}
 use Rattle.std.proofs.lemmas.Str.Parse.{IsDigitsTest, IsNumeralModel, numerals_by_value}
 use Rattle.std.proofs.Math.Seq.{take-append_seam, drop-append_seam, drop-append-add}
 use Rattle.std.specs.Char.{is_ascii_digit}
 use Rattle.std.specs.Fmt.{decimal}
-use Rattle.std.specs.List.{list_all, prefix_len, position_or_len, before_first, after_first}
+use Rattle.std.specs.List.{list_all, prefix_len, position_or_len, after_first}
 use Rattle.std.specs.Str.Parse.{digits_value}
 use Rattle.cool_base.proofs.NumberLemmas.{number-decimal}
-use Rattle.cool_base.specs.Numbers.{number}
 use Rattle.cool_frame.specs.Likely.{number_in, from_digit, is_other, is_equals, is_mark, word_in, behind_word}
 use Rattle.cool_frame.specs.Reading.{is_letter}
 

@@ -1,11 +1,11 @@
 -- The line of a tile is read as what it names.
-use Rattle.std.proofs.Common.{◌≡◌, ℕ, ◌+◌, ◌<◌, ◌≤◌, ◌^◌, ◌*◌, ◌%◌, true, ◌&&◌, List, [], ◌∷◌, ◌++◌, codes, Option, Some, None, nat_eq, nat_le, refl, ap, arith, lit<, append_assoc, le-leb, eq-eqb}
+use Rattle.std.proofs.Common.{◌≡◌, ℕ, ◌<◌, ◌^◌, ◌%◌, true, List, ◌++◌, codes, Some, refl, arith, append_assoc, le-leb, eq-eqb}
 use Rattle.std.specs.Fmt.{decimal}
 use Rattle.std.specs.List.{position_or_len}
 use Rattle.cool_base.specs.declared.ids.Wid.{Wid}
 use Rattle.tile_key.specs.Places.{Place, IsKey, is_key, key_at}
 use Rattle.cool_frame.specs.Frames.{tile_pixels, tile_twips, tile_numbers, tile_line}
-use Rattle.cool_frame.specs.Likely.{number_in, place_in, tile_in, is_other, small, large}
+use Rattle.cool_frame.specs.Likely.{place_in, tile_in, is_other, small, large}
 use Rattle.cool_frame.specs.Reading.{IsTileLine}
 use Rattle.cool_frame.proofs.Scans.{number_again}
 

@@ -1,9 +1,8 @@
 -- The one frame that bytes could be: if they are a frame's, then this one's. `read_frame` finds it and
 -- takes it where its bytes are these.
-use Rattle.std.specs.Prelude.{ℕ, ◌+◌, Bool, not, ◌&&◌, ◌==◌, nat_eq, nat_le, nat_lt, List, ◌∷◌, [], length, take, drop, codes, slice_index, Option, None, Some, is_some, Result, Ok, Err, if◌then◌else◌}
+use Rattle.std.specs.Prelude.{ℕ, ◌+◌, Bool, not, ◌&&◌, ◌==◌, nat_eq, nat_le, List, ◌∷◌, [], length, take, drop, codes, slice_index, Option, None, Some, Result, Ok, Err, if◌then◌else◌}
 use Rattle.std.specs.Char.{is_ascii_digit}
 use Rattle.std.specs.List.{find, position_or_len, before_first, after_first, starts_with}
-use Rattle.std.specs.Option.{option_map}
 use Rattle.std.specs.Str.{bytes_eq}
 use Rattle.cool_base.specs.Numbers.{number}
 use Rattle.cool_base.specs.Points.{Rectangle}

@@ -132,7 +132,6 @@ fn picture_length(key: &TileKey) -> usize
     ensures part { key.now.part < 2 ^ 32 }
 {
     let words = key.words();
-    let _part = words.part;
     4 * (words.width as usize * words.height as usize)
 }
 

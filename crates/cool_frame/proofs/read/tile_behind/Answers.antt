@@ -1,4 +1,4 @@
-use Rattle.std.proofs.Common.{◌≡◌, ◌++◌, ◌∙◌, List, ℕ}
+use Rattle.std.proofs.Common.{◌≡◌, ◌++◌}
 use Rattle.cool_frame.specs.Frames.{tile_line}
 use Rattle.cool_frame.proofs.Same.{bytes_behind, same_behind, wrong_by}
 use Rattle.cool_frame.proofs.read.tile_behind.Goals as goal
