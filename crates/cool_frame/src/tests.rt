@@ -1,4 +1,4 @@
-use crate::{ErrorKind, Frame, write_frame};
+use crate::{ErrorKind, Frame, FrameFault, read_frame, write_frame};
 use bytes::Bytes;
 use cool_base::{Memory, Rect, Size, TextOf, ViewId, Wid};
 use kit_trait::KitName;
@@ -79,8 +79,22 @@ fn writes_lines(rt: HostRuntime) -> Result<(), Fail> {
     for (frame, line) in frames.iter().zip(lines.iter()) {
         let bytes = write_frame(alloc, frame)?;
         assert_eq!(rt; bytes.as_slice(), line.as_bytes());
+        let again = read_frame(alloc, line.as_bytes())?;
+        assert_eq!(rt; write_frame(alloc, &again)?.as_slice(), line.as_bytes());
     }
     Ok(())
+}
+
+/// The bytes of a tile of 8 by 8 pixels.
+fn tile_bytes(alloc: Global) -> Result<Vec<u8>, Memory> {
+    let mut bytes = Vec::new(alloc);
+    bytes.extend_from_slice(
+        b"tile: part=0 width=8 height=8 tileposx=0 tileposy=0 tilewidth=240 tileheight=240 ver=1 wid=1\n",
+    )?;
+    for _ in 0..64 {
+        bytes.extend_from_slice(&[1, 1, 1, 255])?;
+    }
+    Ok(bytes)
 }
 
 #[test]
@@ -95,27 +109,96 @@ fn writes_a_tile(rt: HostRuntime) -> Result<(), Fail> {
         tilewidth: 240,
         tileheight: 240,
     };
-    let key = key_of(&words).ok_or("a key")?;
-    let mut rgba = Vec::new(alloc);
-    for _ in 0..64 {
-        rgba.extend_from_slice(&[1, 1, 1, 255])?;
-    }
-    let pixels = Bytes::copy_from_slice(alloc, &rgba)?;
+    let wanted = tile_bytes(alloc)?;
+    let (_line, rgba) = wanted.as_slice().split_at(wanted.len().min(93));
     let frame = Frame::Tile {
-        key,
+        key: key_of(&words).ok_or("a key")?,
         ver: 1,
         wid: Wid(1),
-        pixels,
+        pixels: Bytes::copy_from_slice(alloc, rgba)?,
     };
     let bytes = write_frame(alloc, &frame)?;
-    let mut wanted = Vec::new(alloc);
-    wanted.extend_from_slice(
-        b"tile: part=0 width=8 height=8 tileposx=0 tileposy=0 tilewidth=240 tileheight=240 ver=1 wid=1\n",
-    )?;
-    wanted.extend_from_slice(&rgba)?;
     assert_eq!(rt; bytes.len(), 349);
     assert_eq!(rt; bytes.as_slice(), wanted.as_slice());
     Ok(())
+}
+
+/// How many bytes a tile's picture has, and 0 for another frame.
+fn picture_len(frame: &Frame) -> usize {
+    match frame {
+        Frame::Tile {
+            key: _,
+            ver: _,
+            wid: _,
+            pixels,
+        } => pixels.len(),
+        _ => 0,
+    }
+}
+
+#[test]
+fn reads_a_tile(rt: HostRuntime) -> Result<(), Fail> {
+    let alloc = rt.alloc();
+    let mut bytes = tile_bytes(alloc)?;
+    let frame = read_frame(alloc, &bytes)?;
+    assert_eq!(rt; write_frame(alloc, &frame)?.as_slice(), bytes.as_slice());
+    assert_eq!(rt; picture_len(&frame), 256);
+    let _last = bytes.pop();
+    let short = read_frame(alloc, &bytes);
+    assert!(rt; matches!(short, Err(FrameFault::WrongLength)));
+    Ok(())
+}
+
+/// Bytes that are no frame, and a tile's line without its picture.
+const REFUSED: [(&str, FrameFault); 14] = [
+    ("", FrameFault::NotAFrame),
+    ("tile", FrameFault::NotAFrame),
+    ("coolserver", FrameFault::NotAFrame),
+    (
+        "invalidatetiles: part=0 x=00 y=0 width=240 height=240",
+        FrameFault::NotAFrame,
+    ),
+    (
+        "invalidatetiles: part=0 x=0 y=0 width=240 height=240 ",
+        FrameFault::NotAFrame,
+    ),
+    (
+        "invalidatetiles: part=0 x=4294967295 y=0 width=1 height=1",
+        FrameFault::NotAFrame,
+    ),
+    (
+        "status: type=patch parts=1 current=1 width=1 height=1 viewid=0 readonly=0",
+        FrameFault::NotAFrame,
+    ),
+    (
+        "error: cmd=storage kind=savefailed code=65536",
+        FrameFault::NotAFrame,
+    ),
+    ("error: cmd=storage kind=savefailed", FrameFault::NotAFrame),
+    ("error: cmd=tile kind=badtile code=1", FrameFault::NotAFrame),
+    ("error: cmd=Tile kind=badtile", FrameFault::NotAFrame),
+    (
+        "tile: part=0 width=8 height=8 tileposx=0 tileposy=0 tilewidth=240 tileheight=240 ver=1 wid=1",
+        FrameFault::NotAFrame,
+    ),
+    (
+        "tile: part=0 width=8 height=8 tileposx=7 tileposy=0 tilewidth=240 tileheight=240 ver=1 wid=1\n",
+        FrameFault::NotAFrame,
+    ),
+    (
+        "tile: part=0 width=8 height=8 tileposx=0 tileposy=0 tilewidth=240 tileheight=240 ver=1 wid=1\n",
+        FrameFault::WrongLength,
+    ),
+];
+
+#[test]
+fn refuses(rt: HostRuntime) {
+    for (line, fault) in REFUSED {
+        match read_frame(rt.alloc(), line.as_bytes()) {
+            Ok(_) => assert!(rt; false, "{line}"),
+            Err(found) => assert_eq!(rt; found, fault, "{line}"),
+        }
+    }
 }
 
 #[test]

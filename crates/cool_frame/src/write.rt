@@ -162,7 +162,7 @@ fn tile(alloc: Global, key: &TileKey, ver: u64, wid: Wid, pixels: &[u8]) -> Resu
 }
 
 #[tactic(auto, unfolding(crate::specs::Frames::tile_line))]
-fn line_of(alloc: Global, key: &TileKey, ver: u64, wid: Wid) -> Result<String, Memory>
+pub fn line_of(alloc: Global, key: &TileKey, ver: u64, wid: Wid) -> Result<String, Memory>
     ensures { IfOk result (λ text. string_bytes text ≡ tile_line key.now ver wid) }
 {
     let mut text = pixels_of(alloc, key)?;
