@@ -1,5 +1,5 @@
 -- The places of two lists of positions, pair by pair.
-use Rattle.std.proofs.Common.{◌≡◌, ◌∙◌, ℕ, ◌⊎◌, inl, inr, Bool, true, false, ◌&&◌, if◌then◌else◌, List, [], ◌∷◌, ◌++◌, map, zip, Option, None, Some, refl, sym, ap, cond, append_assoc, append-nil}
+use Rattle.std.proofs.Common.{◌≡◌, ◌∙◌, ℕ, ◌⊎◌, inl, inr, Bool, true, false, ◌&&◌, if◌then◌else◌, List, [], ◌∷◌, ◌++◌, map, zip, None, Some, refl, sym, ap, append_assoc, append-nil}
 use Rattle.std.specs.List.{list_all}
 use Rattle.tile_key.specs.Places.{Place}
 use Rattle.cool_message.specs.declared.message.CombineWords.{CombineWords}

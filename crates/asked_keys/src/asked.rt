@@ -1,9 +1,9 @@
 //! The keys that a message asks for.
-ghost use Rattle.std.specs.Prelude.{◌≡◌, [], ◌∷◌, IfOk, IfSome, if◌then◌else◌, None, Some, zip, map};
+ghost use Rattle.std.specs.Prelude.{◌≡◌, [], ◌∷◌, IfOk, if◌then◌else◌, None, Some, zip, map};
 ghost use Rattle.std.specs.List.{list_all};
 ghost use Rattle.std.specs.Option.{option_map};
 ghost use Rattle.tile_key.specs.Words.{place_of};
-ghost use Rattle.asked_keys.specs.Asked.{places_of, place_at, is_key_of, keys_of};
+ghost use Rattle.asked_keys.specs.Asked.{place_at, is_key_of, keys_of};
 
 use cool_base::Memory;
 use cool_message::{ClientMessage, CombineWords};

@@ -1,20 +1,18 @@
 -- What messages type and ask for.
-use Rattle.std.proofs.Common.{◌≡◌, ◌∙◌, ℕ, ◌<◌, Bool, true, false, ◌&&◌, cond, List, [], ◌∷◌, ◌++◌, length, filter, Option, None, Some, refl, sym, ap, subst, arith, nat_eq}
-use Rattle.std.specs.Prelude.{nat_le, nat_lt, IfSome, IsSome, Result, Ok, Err}
+use Rattle.std.proofs.Common.{◌≡◌, ℕ, ◌<◌, Bool, true, false, cond, List, [], ◌∷◌, ◌++◌, length, Option, None, Some, refl, arith}
+use Rattle.std.specs.Prelude.{nat_le, nat_lt, IfSome, Ok, Err}
 use Rattle.std.specs.List.{list_all, AllByRecursion}
 use Rattle.std.proofs.lemmas.Bool.{and_parts}
 use Rattle.std.proofs.lemmas.Bool.Decides.{nat_tests}
 use Rattle.asked_keys.specs.Asked.{is_key_of, keys_of, places_of}
 use Rattle.cool_frame.specs.declared.kind.ErrorKind.TheVariants.{InputsFull, ReadOnly, AskedFull}
 use Rattle.cool_message.specs.Reading.{reading}
-use Rattle.cool_message.specs.declared.fault.MessageFault.{MessageFault}
 use Rattle.cool_message.specs.declared.message.ClientMessage.{ClientMessage}
 use Rattle.cool_message.specs.declared.message.ClientMessage.TheVariants.{CoolClient, Load, Key, Mouse, Tile, TileCombine, CancelTiles, VisibleArea, Zoom, SetPart, TileProcessed, Save, UnoSave}
 use Rattle.cool_message.specs.declared.message.KeyKind.{KeyKind}
 use Rattle.cool_message.specs.declared.message.KeyKind.TheVariants.{Input as Down, Up}
 use Rattle.cool_message.specs.declared.message.MouseKind.{MouseKind}
 use Rattle.cool_message.specs.declared.message.MouseKind.TheVariants.{ButtonDown, ButtonUp, Move}
-use Rattle.kit_trait.specs.declared.values.Input.{Input}
 use Rattle.kit_trait.specs.declared.values.What.{What}
 use Rattle.tile_key.specs.Places.{Place}
 use Rattle.document_machine.specs.Keys.{is_among}

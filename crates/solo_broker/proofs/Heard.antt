@@ -1,15 +1,14 @@
 -- A document with one view after what the view said.
-use Rattle.std.proofs.Common.{◌≡◌, ◌∙◌, ℕ, ◌<◌, ◌≤◌, ◌+◌, Bool, true, false, not, cond, List, [], ◌∷◌, ◌++◌, length, length-append, take, filter, Option, None, Some, refl, sym, ap, subst, arith, nat_eq}
-use Rattle.std.specs.Prelude.{option_to_list, IsSome}
+use Rattle.std.proofs.Common.{◌≡◌, ◌∙◌, ℕ, ◌<◌, ◌≤◌, ◌+◌, true, false, List, [], ◌∷◌, ◌++◌, length, length-append, filter, Option, Some, refl, sym, ap, subst, arith, nat_eq}
+use Rattle.std.specs.Prelude.{IsSome}
 use Rattle.std.specs.List.{AllByRecursion}
 use Rattle.std.proofs.lemmas.List.{take-append-le}
 use Rattle.cool_base.specs.declared.ids.ViewId.{ViewId}
 use Rattle.cool_frame.specs.declared.frame.Frame.{Frame}
 use Rattle.kit_trait.specs.Rules.{Rules, doc, after}
 use Rattle.kit_trait.specs.declared.values.Input.{Input}
-use Rattle.tile_key.specs.Places.{Place}
 use Rattle.document_machine.specs.Due.{parts_of}
-use Rattle.document_machine.specs.Message.{Effect, Refuses, Greets, Inputs, Asks, Cancels, Passes, effect_of, frames_of, asks, took}
+use Rattle.document_machine.specs.Message.{Effect, Refuses, Greets, Inputs, Asks, Cancels, Passes, effect_of, frames_of, took}
 use Rattle.document_machine.specs.Outputs.{frames_only}
 use Rattle.document_machine.specs.State.{View, Document, find_view}
 use Rattle.document_machine.specs.Step.{Says}

@@ -1,6 +1,5 @@
 //! Lists of keys.
-ghost use Rattle.std.specs.Prelude.{◌≡◌, ◌+◌, [], ◌∷◌, ◌++◌, not, length, nat_lt, filter, insert, ◌≤◌, IfOk, OnOk, IfSome, IfNone};
-ghost use Rattle.std.specs.List.{list_any};
+ghost use Rattle.std.specs.Prelude.{◌≡◌, [], not, length, filter, insert, ◌≤◌, IfOk, OnOk, IfSome, IfNone};
 ghost use Rattle.tile_key.specs.Places.{same_place};
 ghost use Rattle.document_machine.specs.Keys.{is_among, inserted, ordered};
 ghost use Rattle.document_machine.specs.Message.{asked_with, asked_with_all};

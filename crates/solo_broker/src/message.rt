@@ -1,6 +1,5 @@
 //! What a text that the view says does, before it is done.
-ghost use Rattle.std.specs.Prelude.{◌≡◌, ℕ, [], ◌∷◌, length, nat_le, IfOk, codes};
-ghost use Rattle.std.specs.Option.{option_map};
+ghost use Rattle.std.specs.Prelude.{◌≡◌, IfOk};
 ghost use Rattle.asked_keys.specs.Asked.{keys_of};
 ghost use Rattle.document_machine.specs.Message.{effect_of, message_effect, asking_effect, input_effect, key_effect, mouse_effect, Refuses};
 ghost use Rattle.solo_broker.specs.Verdicts.{verdict};

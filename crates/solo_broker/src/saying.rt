@@ -1,7 +1,7 @@
 //! The view says a text.
-ghost use Rattle.std.specs.Prelude.{◌≡◌, [], ◌∷◌, IsSome, IfOk, OnOk, None};
+ghost use Rattle.std.specs.Prelude.{◌≡◌, IsSome, IfOk, OnOk, None};
 ghost use Rattle.document_machine.specs.Message.{frames_of};
-ghost use Rattle.document_machine.specs.Outputs.{named, frames_only};
+ghost use Rattle.document_machine.specs.Outputs.{frames_only};
 ghost use Rattle.document_machine.specs.State.{find_view};
 ghost use Rattle.document_machine.specs.Step.{Says};
 ghost use Rattle.solo_broker.specs.Verdicts.{verdict, entered, heard};

@@ -1,5 +1,5 @@
 //! `Session`: the view, what it asked for and what it has not acknowledged.
-ghost use Rattle.std.specs.Prelude.{◌≡◌, ◌+◌, ◌<◌, ◌∷◌, [], ◌++◌, ◌&&◌, not, length, map, filter, find, nat_eq, nat_lt, IfOk, OnOk, IsTrue};
+ghost use Rattle.std.specs.Prelude.{◌≡◌, ◌+◌, ◌<◌, ◌∷◌, [], ◌++◌, ◌&&◌, not, length, filter, find, nat_eq, IfOk, OnOk, IsTrue};
 ghost use Rattle.std.specs.List.{list_any};
 ghost use Rattle.tile_key.specs.Places.{same_place};
 ghost use Rattle.document_machine.specs.Due.{has_room};
