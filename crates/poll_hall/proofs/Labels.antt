@@ -1,0 +1,41 @@
+-- The labels of the mails that a collect took.
+use Rattle.std.proofs.Common.{◌≡◌, ℕ, ◌<◌, Ok, Err, Some, List, [], map, length, take, refl, sym, ap, subst, ◌∙◌, arith}
+use Rattle.std.specs.Prelude.{Result, MatchResult, Option}
+use Rattle.std.specs.List.{slice_get}
+use Rattle.std.proofs.lemmas.List.{length-map, take-map}
+use Rattle.std.proofs.lemmas.Option.{slice_get_within}
+use Rattle.hall_machine.specs.declared.words.Label.{Label}
+use Rattle.hall_machine.specs.declared.words.Owner.{Owner}
+use Rattle.hall_machine.specs.declared.words.Opened.{Opened}
+use Rattle.hall_machine.specs.Machine.{Desk, Stage, desk_at, place_of}
+use Rattle.hall_machine.specs.Ids.{AreRising, Rises}
+use Rattle.hall_machine.specs.States.{sight, sights, Changes, Collects}
+use Rattle.hall_machine.proofs.Places.{desk_seen}
+use Rattle.hall_machine.proofs.Rising.{found_there}
+use Rattle.poll_hall.specs.Says.{mails_at, mails_of}
+
+module _ {P M : Type 0} (tag : M → Label) (s : Stage) (opens new : List (Opened P M)) (same : s.desks ≡ sights tag opens) (rises : Rises s) (doc : ℕ) where
+  -- the mails of an open document, by their labels
+  mails_seen : (i : ℕ) (o : Opened P M) → slice_get opens i ≡ Some o → o.doc ≡ doc → mails_of doc s ≡ map tag o.mails
+  mails_seen i o there id =
+      let seen : desk_at (sights tag opens) i ≡ sight tag o = desk_seen tag opens i o there in
+      let within : i < length opens = slice_get_within opens i o there in
+      let within' : i < length (sights tag opens) = (let l = length-map opens (sight tag) in omega arith) in
+      let rising : AreRising 0 (sights tag opens) s.next = subst (λ ds. AreRising 0 ds s.next) same rises in
+      let place : place_of (desk_at (sights tag opens) i).doc (sights tag opens) ≡ Some i = found_there 0 (sights tag opens) s.next i within' rising in
+      let is : (desk_at (sights tag opens) i).doc ≡ doc = ap (λ (d : Desk). d.doc) seen ∙ id in
+      ap (λ ds. mails_at ds (place_of doc ds)) same ∙ (ap (λ d. mails_at (sights tag opens) (place_of d (sights tag opens))) (sym is) ∙ (ap (mails_at (sights tag opens)) place ∙ ap (λ (d : Desk). d.mails) seen))
+
+  pub labels_taken : (r : Result ℕ Owner) (bag : List M)
+      → MatchResult r (λ n. (n ≡ length bag) × Collects doc bag opens new) (λ _. (bag ≡ []) × (new ≡ opens))
+      → MatchResult r (λ n. (n ≡ length bag) × (map tag bag ≡ take 64 (mails_of doc s))) (λ _. bag ≡ [])
+  labels_taken (Ok n) bag h =
+      let took = h.1 in
+      (h.0, ap (map tag) took.2 ∙ (sym (take-map tag 64 took.0.mails) ∙ ap (take 64) (sym (mails_seen took.1.place took.0 took.1.was took.1.id))))
+  labels_taken (Err why) bag h = h.0
+
+pub values_taken : {P M : Type 0} (doc : ℕ) (old new : List (Opened P M)) (r : Result ℕ Owner) (bag : List M)
+    → MatchResult r (λ n. (n ≡ length bag) × Collects doc bag old new) (λ _. (bag ≡ []) × (new ≡ old))
+    → MatchResult r (λ _. Collects doc bag old new) (λ _. new ≡ old)
+values_taken doc old new (Ok n) bag h = h.1
+values_taken doc old new (Err why) bag h = h.1
