@@ -12,23 +12,25 @@ use Rattle.hall_machine.specs.Ids.{AreRising, Rises}
 use Rattle.hall_machine.specs.States.{sight, sights, Changes, Collects}
 use Rattle.hall_machine.proofs.Places.{desk_seen}
 use Rattle.hall_machine.proofs.Rising.{found_there}
-use Rattle.poll_hall.specs.Says.{mails_at, mails_of}
+use Rattle.hall_laws.specs.History.{desk_of, mails_at, mails_in}
+use Rattle.hall_laws.proofs.Lookups.{lookup_at, place_facts}
 
 module _ {P M : Type 0} (tag : M → Label) (s : Stage) (opens new : List (Opened P M)) (same : s.desks ≡ sights tag opens) (rises : Rises s) (doc : ℕ) where
   -- the mails of an open document, by their labels
-  mails_seen : (i : ℕ) (o : Opened P M) → slice_get opens i ≡ Some o → o.doc ≡ doc → mails_of doc s ≡ map tag o.mails
+  mails_seen : (i : ℕ) (o : Opened P M) → slice_get opens i ≡ Some o → o.doc ≡ doc → mails_in doc s ≡ map tag o.mails
   mails_seen i o there id =
       let seen : desk_at (sights tag opens) i ≡ sight tag o = desk_seen tag opens i o there in
       let within : i < length opens = slice_get_within opens i o there in
       let within' : i < length (sights tag opens) = (let l = length-map opens (sight tag) in omega arith) in
       let rising : AreRising 0 (sights tag opens) s.next = subst (λ ds. AreRising 0 ds s.next) same rises in
-      let place : place_of (desk_at (sights tag opens) i).doc (sights tag opens) ≡ Some i = found_there 0 (sights tag opens) s.next i within' rising in
       let is : (desk_at (sights tag opens) i).doc ≡ doc = ap (λ (d : Desk). d.doc) seen ∙ id in
-      ap (λ ds. mails_at ds (place_of doc ds)) same ∙ (ap (λ d. mails_at (sights tag opens) (place_of d (sights tag opens))) (sym is) ∙ (ap (mails_at (sights tag opens)) place ∙ ap (λ (d : Desk). d.mails) seen))
+      let place : place_of doc (sights tag opens) ≡ Some i = ap (λ d. place_of d (sights tag opens)) (sym is) ∙ found_there 0 (sights tag opens) s.next i within' rising in
+      let f = place_facts doc i (sights tag opens) place in
+      ap (λ ds. mails_at (desk_of doc ds)) same ∙ (ap mails_at (lookup_at doc i (sights tag opens) f.0 f.1 f.2) ∙ ap (λ (d : Desk). d.mails) seen)
 
   pub labels_taken : (r : Result ℕ Owner) (bag : List M)
       → MatchResult r (λ n. (n ≡ length bag) × Collects doc bag opens new) (λ _. (bag ≡ []) × (new ≡ opens))
-      → MatchResult r (λ n. (n ≡ length bag) × (map tag bag ≡ take 64 (mails_of doc s))) (λ _. bag ≡ [])
+      → MatchResult r (λ n. (n ≡ length bag) × (map tag bag ≡ take 64 (mails_in doc s))) (λ _. bag ≡ [])
   labels_taken (Ok n) bag h =
       let took = h.1 in
       (h.0, ap (map tag) took.2 ∙ (sym (take-map tag 64 took.0.mails) ∙ ap (take 64) (sym (mails_seen took.1.place took.0 took.1.was took.1.id))))

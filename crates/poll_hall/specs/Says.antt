@@ -14,6 +14,7 @@ use Rattle.hall_machine.specs.declared.words.CloseFault.{CloseFault}
 use Rattle.hall_machine.specs.declared.words.Refused.{Refused}
 use Rattle.hall_machine.specs.Machine.{Desk, Stage, place_of, desk_at, enter_answer, post_answer, collect_answer, depart_answer, arrive_answer, close_answer, spare_answer, find_answer, IsLeast}
 use Rattle.hall_machine.specs.Book.{stage_of, IsLegal, entry, written, entered, collected, arrived}
+use Rattle.hall_laws.specs.History.{mails_in}
 use Rattle.hall_machine.specs.States.{Answers, AnswersOrWants, with_value, refused}
 
 abbrev pub EnterSays : ℕ → List ℕ → Ground → List Entry → Result Entered HallFault → List Entry → Type 0
@@ -24,18 +25,10 @@ abbrev pub PostSays : {M : Type 0} → (M → Label) → ℕ → ℕ → M → B
 PostSays {M} tag who doc mail urgent g found result left =
     AnswersOrWants g found (with_value mail (post_answer g (stage_of found) doc urgent)) (written (post_answer g (stage_of found) doc urgent) (entry who doc (Post (tag mail) urgent)) found) (Err (refused Memory mail)) result left
 
--- the labels of the mails that wait for a document, in the order posted
-abbrev pub mails_at : List Desk → Option ℕ → List Label
-mails_at desks None = []
-mails_at desks (Some i) = (desk_at desks i).mails
-
-abbrev pub mails_of : ℕ → Stage → List Label
-mails_of doc s = mails_at s.desks (place_of doc s.desks)
-
 -- the bag has as many mails as is answered, with the labels of those that waited longest, in order; after a refusal it is empty
 pub record CollectSays {M : Type 0} (tag : M → Label) (who doc : ℕ) (g : Ground) (found : List Entry) (result : Result ℕ Owner × List M) (left : List Entry) : Type 0 where
   pub call : Answers g found (collect_answer (stage_of found) who doc) (collected who doc (collect_answer (stage_of found) who doc) found) result.0 left
-  pub bag : MatchResult result.0 (λ n. (n ≡ length result.1) × (map tag result.1 ≡ take 64 (mails_of doc (stage_of found)))) (λ _. result.1 ≡ [])
+  pub bag : MatchResult result.0 (λ n. (n ≡ length result.1) × (map tag result.1 ≡ take 64 (mails_in doc (stage_of found)))) (λ _. result.1 ≡ [])
 
 -- a refused parcel comes back as the same value
 abbrev pub DepartSays : {P : Type 0} → ℕ → ℕ → ℕ → P → Ground → List Entry → Result (Unit {0}) (Refused P) → List Entry → Type 0
