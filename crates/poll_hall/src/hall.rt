@@ -19,7 +19,8 @@ pub struct Hall<P: Drop, M: Labelled> {
 }
 
 impl<P: Drop, M: Labelled> Hall<P, M> {
-    /// `HallState::enter`, in one turn.
+    /// `HallState::enter`, in one turn: `There` where the file is open; else `HallFull` at 64 open documents; else `BookFull` where
+    /// the book is full; else `Fresh` with the next id, owned by the caller.
     pub fn enter<R: Wait>(
         &self,
         rt: &R,
@@ -37,7 +38,8 @@ impl<P: Drop, M: Labelled> Hall<P, M> {
         })
     }
 
-    /// `HallState::post`, in one turn.
+    /// `HallState::post`, in one turn: `Gone` where the document isn't open; else `MailFull` at 2,048 waiting mails, 4,096 for an
+    /// urgent one; else `BookFull`. A refused mail comes back.
     pub fn post<R: Wait>(
         &self,
         rt: &R,
@@ -57,7 +59,8 @@ impl<P: Drop, M: Labelled> Hall<P, M> {
         })
     }
 
-    /// `HallState::collect`, in one turn.
+    /// `HallState::collect`, in one turn: the mails that waited longest, at most 64, in the bag, which is empty at first; `Gone` or
+    /// `NotHere` where the caller isn't the owner. It takes no memory.
     pub fn collect<R: Wait>(
         &self,
         rt: &R,
@@ -76,7 +79,8 @@ impl<P: Drop, M: Labelled> Hall<P, M> {
         })
     }
 
-    /// `HallState::depart`, in one turn. The target is one of the polls of the seat's hall.
+    /// `HallState::depart`, in one turn: the document and its parcel are on their way to the target, which is one of the polls of the
+    /// seat's hall; `Gone`, `NotHere` or `BookFull`, with the parcel. It takes no memory.
     pub fn depart<R: Wait>(
         &self,
         rt: &R,
@@ -96,7 +100,8 @@ impl<P: Drop, M: Labelled> Hall<P, M> {
         })
     }
 
-    /// `HallState::arrive`, in one turn.
+    /// `HallState::arrive`, in one turn: the parcel in transit to the caller with the lowest id; None where there is none. It takes
+    /// no memory.
     pub fn arrive<R: Wait>(
         &self,
         rt: &R,
@@ -112,7 +117,8 @@ impl<P: Drop, M: Labelled> Hall<P, M> {
         })
     }
 
-    /// `HallState::close`, in one turn.
+    /// `HallState::close`, in one turn: `Gone` or `NotHere` where the caller isn't the owner, `Waiting` with the number of mails that
+    /// wait. It takes no memory.
     pub fn close<R: Wait>(
         &self,
         rt: &R,

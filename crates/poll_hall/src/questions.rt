@@ -10,7 +10,7 @@ use std::sync::Wait;
 use turn_lock::{Booked, Seat};
 
 impl<P: Drop, M: Labelled> Hall<P, M> {
-    /// `HallState::advise`, in one turn.
+    /// `HallState::advise`, in one turn: the poll with the fewest documents, the lowest of several.
     pub fn advise<R: Wait>(&self, rt: &R, seat: &mut Seat<HallState<P, M>>) -> (u32, u64)
         requires { seat.old.lock ≡ self.now.lock }
         ensures { Turned seat.old AdviseSays result.0 result.1 seat.new }
@@ -22,7 +22,7 @@ impl<P: Drop, M: Labelled> Hall<P, M> {
         )
     }
 
-    /// `HallState::spare`, in one turn.
+    /// `HallState::spare`, in one turn: whether the book has room to spare.
     pub fn spare<R: Wait>(&self, rt: &R, seat: &mut Seat<HallState<P, M>>) -> (bool, u64)
         requires { seat.old.lock ≡ self.now.lock }
         ensures { Turned seat.old SpareSays result.0 result.1 seat.new }
@@ -34,7 +34,7 @@ impl<P: Drop, M: Labelled> Hall<P, M> {
         )
     }
 
-    /// `HallState::find`, in one turn.
+    /// `HallState::find`, in one turn: the open document of the file.
     pub fn find<R: Wait>(
         &self,
         rt: &R,
@@ -51,7 +51,7 @@ impl<P: Drop, M: Labelled> Hall<P, M> {
         )
     }
 
-    /// `HallState::open_count`, in one turn.
+    /// `HallState::open_count`, in one turn: how many documents are open.
     pub fn open_count<R: Wait>(&self, rt: &R, seat: &mut Seat<HallState<P, M>>) -> (u32, u64)
         requires { seat.old.lock ≡ self.now.lock }
         ensures { Turned seat.old CountSays result.0 result.1 seat.new }
@@ -63,7 +63,7 @@ impl<P: Drop, M: Labelled> Hall<P, M> {
         )
     }
 
-    /// `HallState::polls`, in one turn.
+    /// `HallState::polls`, in one turn: how many polls the hall has.
     pub fn polls<R: Wait>(&self, rt: &R, seat: &mut Seat<HallState<P, M>>) -> (u32, u64)
         requires { seat.old.lock ≡ self.now.lock }
         ensures { Turned seat.old PollsSays result.0 result.1 seat.new }
