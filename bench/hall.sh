@@ -123,17 +123,19 @@ fn measure<R: Runtime + Threads + Wait + Sync>(rt: &R, alloc: Global, threads: u
     let state = HallState::<u32, Note>::new(alloc, 4, 2097152)?;
     let (lock, mut seat) = TurnLock::new(alloc, state)?;
     let hall = Hall { lock };
-    let mut team = Vec::new(alloc);
-    for (who, name) in [(0, "a"), (1, "b"), (2, "c"), (3, "d")] {
-        if team.len() < threads {
-            let own = hall.lock.split(&mut seat);
-            team.push(hire(&hall, own, alloc, who, name))?;
-        }
-    }
+    let first = hall.lock.split(&mut seat);
+    let second = hall.lock.split(&mut seat);
+    let third = hall.lock.split(&mut seat);
+    let mut team = [
+        hire(&hall, first, alloc, 0, "a"),
+        hire(&hall, second, alloc, 1, "b"),
+        hire(&hall, third, alloc, 2, "c"),
+        hire(&hall, seat, alloc, 3, "d"),
+    ];
     let start = Instant::now(rt)?;
     thread::for_each_mut(
         rt,
-        team.as_mut_slice(),
+        &mut team[..threads.min(4)],
         threads,
         &|_, part: &mut Part| part.work(rt),
     );

@@ -1,6 +1,6 @@
 -- The labels of the mails that a collect took.
-use Rattle.std.proofs.Common.{◌≡◌, ℕ, ◌<◌, Ok, Err, Some, List, [], map, length, take, refl, sym, ap, subst, ◌∙◌, arith}
-use Rattle.std.specs.Prelude.{Result, MatchResult, Option}
+use Rattle.std.proofs.Common.{◌≡◌, ℕ, ◌<◌, Ok, Err, Some, List, [], map, length, take, sym, ap, subst, ◌∙◌, arith}
+use Rattle.std.specs.Prelude.{Result, MatchResult}
 use Rattle.std.specs.List.{slice_get}
 use Rattle.std.proofs.lemmas.List.{length-map, take-map}
 use Rattle.std.proofs.lemmas.Option.{slice_get_within}
@@ -9,7 +9,7 @@ use Rattle.hall_machine.specs.declared.words.Owner.{Owner}
 use Rattle.hall_machine.specs.declared.words.Opened.{Opened}
 use Rattle.hall_machine.specs.Machine.{Desk, Stage, desk_at, place_of}
 use Rattle.hall_machine.specs.Ids.{AreRising, Rises}
-use Rattle.hall_machine.specs.States.{sight, sights, Changes, Collects}
+use Rattle.hall_machine.specs.States.{sight, sights, Collects}
 use Rattle.hall_machine.proofs.Places.{desk_seen}
 use Rattle.hall_machine.proofs.Rising.{found_there}
 use Rattle.hall_laws.specs.History.{desk_of, mails_at, mails_in}

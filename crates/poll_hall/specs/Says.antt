@@ -1,5 +1,5 @@
 -- What each call says: over a ground and the book that it found, its answer and the book that it left are the machine's.
-use Rattle.std.specs.Prelude.{◌≡◌, ℕ, ◌/◌, Bool, Option, None, Some, Result, Ok, Err, List, [], length, map, take, MatchResult}
+use Rattle.std.specs.Prelude.{◌≡◌, ℕ, ◌/◌, Bool, Option, Result, Err, List, [], length, map, take, MatchResult}
 use Rattle.std.specs.Option.{option_map}
 use Rattle.cool_base.specs.declared.ids.DocId.{DocId}
 use Rattle.hall_machine.specs.declared.words.Label.{Label}
@@ -12,7 +12,7 @@ use Rattle.hall_machine.specs.declared.words.HallFault.TheVariants.{Memory}
 use Rattle.hall_machine.specs.declared.words.Owner.{Owner}
 use Rattle.hall_machine.specs.declared.words.CloseFault.{CloseFault}
 use Rattle.hall_machine.specs.declared.words.Refused.{Refused}
-use Rattle.hall_machine.specs.Machine.{Desk, Stage, place_of, desk_at, enter_answer, post_answer, collect_answer, depart_answer, arrive_answer, close_answer, spare_answer, find_answer, IsLeast}
+use Rattle.hall_machine.specs.Machine.{enter_answer, post_answer, collect_answer, depart_answer, arrive_answer, close_answer, spare_answer, find_answer, IsLeast}
 use Rattle.hall_machine.specs.Book.{stage_of, IsLegal, entry, written, entered, collected, arrived}
 use Rattle.hall_laws.specs.History.{mails_in}
 use Rattle.hall_machine.specs.States.{Answers, AnswersOrWants, with_value, refused}

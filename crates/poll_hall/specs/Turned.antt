@@ -1,5 +1,5 @@
 -- One turn at the lock of a hall.
-use Rattle.std.specs.Prelude.{◌≡◌, ℕ, Option, Some, List, length}
+use Rattle.std.specs.Prelude.{◌≡◌, ℕ, Some, List, length}
 use Rattle.turn_lock.specs.Lists.{IsPrefix}
 use Rattle.turn_lock.specs.Seats.{Known, own_after}
 use Rattle.hall_machine.specs.declared.words.Ground.{Ground}
