@@ -1,7 +1,7 @@
 -- What an entry more does to a kept state.
-use Rattle.std.proofs.Common.{◌≡◌, ℕ, zero, suc, ◌+◌, ◌-◌, ◌<◌, ◌≤◌, Bool, true, false, None, Some, Ok, Err, List, [], ◌∷◌, ◌++◌, map, length, get_or, set, take, drop, eqb, refl, sym, ap, subst, ◌∙◌, arith}
+use Rattle.std.proofs.Common.{◌≡◌, ℕ, ◌+◌, ◌<◌, ◌≤◌, Bool, Some, Ok, List, [], ◌∷◌, ◌++◌, map, length, set, take, drop, eqb, refl, sym, ap, subst, ◌∙◌, arith}
 use Rattle.std.proofs.Common.{length-append}
-use Rattle.std.specs.List.{slice_get, sum_by}
+use Rattle.std.specs.List.{slice_get}
 use Rattle.std.proofs.lemmas.List.{length-map, map-append, map-set, length-set}
 use Rattle.std.proofs.lemmas.List.Sums.{sum_by-set, sum_by_push}
 use Rattle.std.proofs.lemmas.List.Quantifiers.{position-Some}
@@ -11,13 +11,13 @@ use Rattle.std.proofs.lemmas.Option.{slice_get_within}
 use Rattle.hall_machine.specs.declared.words.Label.{Label}
 use Rattle.hall_machine.specs.declared.words.Ground.{Ground}
 use Rattle.hall_machine.specs.declared.words.Act.{Act}
-use Rattle.hall_machine.specs.declared.words.Act.TheVariants.{Enter, Post, Collect, Depart, Arrive, Close}
+use Rattle.hall_machine.specs.declared.words.Act.TheVariants.{Enter, Post}
 use Rattle.hall_machine.specs.declared.words.Entry.{Entry}
 use Rattle.hall_machine.specs.declared.words.Opened.{Opened}
-use Rattle.hall_machine.specs.declared.words.Place.TheVariants.{At, To}
+use Rattle.hall_machine.specs.declared.words.Place.TheVariants.{At}
 use Rattle.hall_machine.specs.Machine.{at as owned_by, Desk, Stage, empty, nobody, weight, owed, place_of, desk_at, post_answer, enter_answer}
 use Rattle.hall_machine.specs.declared.words.Entered.TheVariants.{Fresh}
-use Rattle.hall_machine.specs.Book.{desk_after, with_desk, after_at, after_act, after, run, stage_of, IsMade, IsLegalFrom, IsLegal, entry, opened}
+use Rattle.hall_machine.specs.Book.{desk_after, with_desk, after_at, after_act, after, run, IsMade, IsLegalFrom, entry}
 use Rattle.hall_machine.specs.States.{where_of, sight, sights, staged, IsKept, Changes}
 use Rattle.hall_machine.proofs.Places.{desk_seen}
 

@@ -1,2 +1,5 @@
 pub mod Places
 pub mod Kept
+pub mod Rising
+pub mod Owners
+pub mod Steps

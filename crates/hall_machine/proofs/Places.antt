@@ -1,9 +1,8 @@
 -- Places in a list that is seen through a function.
-use Rattle.std.proofs.Common.{◌≡◌, ℕ, zero, suc, ◌+◌, ◌-◌, ◌<◌, ◌≤◌, Bool, true, false, not, None, Some, List, [], ◌∷◌, ◌++◌, map, length, get_or, cond, refl, sym, ap, subst, ◌∙◌, ltb, arith}
-use Rattle.std.specs.Prelude.{Option}
-use Rattle.std.specs.List.{position, position_or_len, prefix_len, slice_get}
+use Rattle.std.proofs.Common.{◌≡◌, ℕ, ◌+◌, Bool, not, None, Some, List, [], ◌∷◌, map, length, cond, refl, ap, ◌∙◌, ltb, arith, take, drop, min}
+use Rattle.std.specs.List.{position, prefix_len, slice_get}
 use Rattle.std.specs.Option.{option_map}
-use Rattle.std.proofs.lemmas.List.{length-map}
+use Rattle.std.proofs.lemmas.List.{length-map, drop_min, take_min}
 use Rattle.std.proofs.lemmas.Option.{slice_get-map, get_or_from_slice_get}
 use Rattle.hall_machine.specs.declared.words.Label.{Label}
 use Rattle.hall_machine.specs.declared.words.Opened.{Opened}
@@ -22,3 +21,9 @@ module _ {A B : Type 0} (f : A → B) (p : B → Bool) where
 -- the desk of an open document
 pub desk_seen : {P M : Type 0} (tag : M → Label) (opens : List (Opened P M)) (i : ℕ) (o : Opened P M) → slice_get opens i ≡ Some o → desk_at (sights tag opens) i ≡ sight tag o
 desk_seen tag opens i o e = get_or_from_slice_get (sights tag opens) i (sight tag o) nobody (slice_get-map (sight tag) opens i ∙ ap (option_map (sight tag)) e)
+
+-- the oldest, at most 64
+pub oldest : {A : Type 0} (n k : ℕ) (xs : List A) → n ≡ length xs → k ≡ min n 64 → (drop k xs ≡ drop 64 xs) × (take k xs ≡ take 64 xs)
+oldest n k xs e f =
+    let m : k ≡ min 64 (length xs) = omega arith in
+    (ap (λ j. drop j xs) m ∙ drop_min 64 xs, ap (λ j. take j xs) m ∙ take_min 64 xs)

@@ -1,15 +1,13 @@
 -- The book: what each call writes, the state that a book reaches, and the histories that the machine can make.
-use Rattle.std.specs.Prelude.{◌≡◌, ℕ, ◌+◌, ◌≤◌, ◌<◌, Bool, true, false, ◌==◌, nat_lt, Option, None, Some, Result, Ok, Err, List, [], ◌∷◌, ◌++◌, length, drop, slice_index_or, slice_set, if◌then◌else◌}
+use Rattle.std.specs.Prelude.{◌≡◌, ℕ, ◌+◌, ◌<◌, nat_lt, Option, None, Some, Result, Ok, Err, List, [], ◌∷◌, ◌++◌, drop, slice_set, if◌then◌else◌}
 use Rattle.std.specs.List.{remove}
-use Rattle.cool_base.specs.declared.ids.DocId.{DocId}
-use Rattle.hall_machine.specs.declared.words.Label.{Label}
 use Rattle.hall_machine.specs.declared.words.Ground.{Ground}
 use Rattle.hall_machine.specs.declared.words.Act.{Act}
 use Rattle.hall_machine.specs.declared.words.Act.TheVariants.{Enter, Post, Collect, Depart, Arrive, Close}
 use Rattle.hall_machine.specs.declared.words.Entry.{Entry}
 use Rattle.hall_machine.specs.declared.words.Entered.{Entered}
 use Rattle.hall_machine.specs.declared.words.Entered.TheVariants.{There, Fresh}
-use Rattle.hall_machine.specs.Machine.{Where, at, bound, Desk, Stage, empty, nobody, place_of, desk_at, enter_answer, post_answer, depart_answer, collect_answer, close_answer, arrive_answer}
+use Rattle.hall_machine.specs.Machine.{at, bound, Desk, Stage, empty, place_of, desk_at, enter_answer, post_answer, depart_answer, collect_answer, close_answer, arrive_answer}
 
 -- What each act does to a state
 

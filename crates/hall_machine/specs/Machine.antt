@@ -1,8 +1,7 @@
 -- The machine of the hall: what each call answers in a state, exactly at its numbers.
-use Rattle.std.specs.Prelude.{◌≡◌, ℕ, ◌+◌, ◌-◌, ◌*◌, ◌≤◌, ◌<◌, Bool, true, false, ◌==◌, nat_eq, nat_lt, nat_le, min, Option, None, Some, Result, Ok, Err, List, [], ◌∷◌, ◌++◌, length, drop, slice_index_or, slice_set, sum_by, if◌then◌else◌}
-use Rattle.std.specs.List.{position, remove, count_by}
+use Rattle.std.specs.Prelude.{ℕ, ◌+◌, ◌-◌, ◌≤◌, ◌<◌, Bool, true, false, ◌==◌, nat_eq, nat_lt, nat_le, min, Option, None, Some, Result, Ok, Err, List, [], length, slice_index_or, sum_by, if◌then◌else◌}
+use Rattle.std.specs.List.{position, count_by}
 use Rattle.std.specs.Cmp.Lexicographic.{pointwise}
-use Rattle.cool_base.specs.declared.ids.DocId.{DocId}
 use Rattle.hall_machine.specs.declared.words.Label.{Label}
 use Rattle.hall_machine.specs.declared.words.Ground.{Ground}
 use Rattle.hall_machine.specs.declared.words.Entered.{Entered}

@@ -1,7 +1,6 @@
 -- The state of the hall as the contracts of its calls see it, and what each call does.
-use Rattle.std.specs.Prelude.{◌≡◌, ℕ, ◌+◌, ◌≤◌, ◌<◌, Bool, true, false, ◌⊎◌, Option, None, Some, Result, Ok, Err, List, [], ◌∷◌, ◌++◌, length, map, drop, take, slice_set}
+use Rattle.std.specs.Prelude.{◌≡◌, ℕ, ◌+◌, ◌≤◌, ◌⊎◌, Some, Result, Ok, Err, List, [], ◌∷◌, ◌++◌, length, map, drop, take, slice_set}
 use Rattle.std.specs.List.{slice_get, remove}
-use Rattle.cool_base.specs.declared.ids.DocId.{DocId}
 use Rattle.hall_machine.specs.declared.words.Label.{Label}
 use Rattle.hall_machine.specs.declared.words.Ground.{Ground}
 use Rattle.hall_machine.specs.declared.words.Entry.{Entry}
@@ -10,7 +9,6 @@ use Rattle.hall_machine.specs.declared.words.Place.TheVariants.{At, To}
 use Rattle.hall_machine.specs.declared.words.Opened.{Opened}
 use Rattle.hall_machine.specs.declared.words.Refused.{Refused}
 use Rattle.hall_machine.specs.declared.words.HallFault.{HallFault}
-use Rattle.hall_machine.specs.declared.words.HallFault.TheVariants.{Memory}
 use Rattle.hall_machine.specs.declared.words.Entered.{Entered}
 use Rattle.hall_machine.specs.declared.words.Entered.TheVariants.{There, Fresh}
 use Rattle.hall_machine.specs.Machine.{Where, at, bound, Desk, Stage, owed}

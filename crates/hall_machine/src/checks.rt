@@ -65,10 +65,10 @@ pub fn place_bound_to<P: Drop, M: Labelled>(opens: &[Opened<P, M>], who: u32) ->
 
 // What a call needs to know of one open document.
 #[derive(Drop)]
-struct Seen {
-    doc: u32,
-    other: Option<u32>,
-    mails: usize,
+pub struct Seen {
+    pub doc: u32,
+    pub other: Option<u32>,
+    pub mails: usize,
 }
 
 fn other_poll<P>(place: &Place<P>, who: u32) -> Option<u32>
@@ -80,7 +80,8 @@ fn other_poll<P>(place: &Place<P>, who: u32) -> Option<u32>
     }
 }
 
-fn see<P: Drop, M: Labelled>(opens: &[Opened<P, M>], at: usize, who: u32) -> Seen
+/// What a call needs to know of the document there.
+pub fn see<P: Drop, M: Labelled>(opens: &[Opened<P, M>], at: usize, who: u32) -> Seen
     requires { at < length opens.now }
     ensures doc { result.doc ≡ (desk_at (sights M.tag opens.now) at).doc }
     ensures other { result.other ≡ other_than who (desk_at (sights M.tag opens.now) at).place }

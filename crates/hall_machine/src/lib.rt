@@ -7,6 +7,8 @@
 mod bag;
 mod checks;
 mod edits;
+mod moves;
+mod reads;
 mod state;
 #[cfg(test)]
 mod tests;

@@ -5,6 +5,10 @@ ghost use Rattle.hall_machine.specs.Machine.{enter_answer, post_answer};
 ghost use Rattle.hall_machine.specs.Book.{stage_of, IsLegal, entry, written, entered};
 ghost use Rattle.hall_machine.specs.States.{AnswersOrWants, refused, with_value, EntersOne, Posts};
 
+mod handover;
+mod mails;
+mod questions;
+
 use crate::checks::{check_enter, check_post};
 use crate::edits::{open_one, put_mail};
 use crate::words::{Act, Entered, Entry, Ground, HallFault, Labelled, Opened, Refused};
@@ -154,20 +158,5 @@ impl<P: Drop, M: Labelled> HallState<P, M> {
         });
         self.due += 1;
         Ok(())
-    }
-
-    /// The number of open documents; each of them has an owner or is in transit.
-    pub fn open_count(&self) -> u32
-        ensures legal { IsLegal self.now.ground_of self.now.book }
-        ensures count { result ≡ length (stage_of self.now.book).desks }
-    {
-        self.opens.len() as u32
-    }
-
-    /// The number of polls, which never changes.
-    pub fn polls(&self) -> u32
-        ensures { result ≡ self.now.ground_of.polls }
-    {
-        self.polls
     }
 }

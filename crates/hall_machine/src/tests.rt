@@ -1,4 +1,4 @@
-use crate::{Entered, HallFault, HallState, Label, Labelled, MailBag};
+use crate::{CloseFault, Entered, HallFault, HallState, Label, Labelled, MailBag, Owner};
 use cool_base::{DocId, FileId};
 use std::test::Fail;
 use turn_lock::Booked;
@@ -36,8 +36,33 @@ fn a_small_hall_is_full_at_its_numbers(rt: HostRuntime) -> Result<(), Fail> {
 }
 
 #[test]
-fn a_new_bag_is_empty(rt: HostRuntime) -> Result<(), Fail> {
-    let mut bag = MailBag::<Note>::new(rt.alloc())?;
-    assert!(rt; bag.take().is_none());
+fn a_document_moves_with_its_mail_and_is_closed(rt: HostRuntime) -> Result<(), Fail> {
+    let mut hall = HallState::<u32, Note>::new(rt.alloc(), 2, 16400)?;
+    let a = FileId::read("a").expect(&rt, "a file id");
+    let d = DocId(0);
+    assert!(rt; hall.enter(rt.alloc(), 0, &a).is_ok());
+    assert!(rt; hall.post(rt.alloc(), 1, d, Note(1), false).is_ok());
+    assert!(rt;
+        matches!(hall.depart(1, d, 0, 9), Err(r) if matches!(r.why, HallFault::NotHere(0)) && r.value == 9)
+    );
+    assert!(rt; hall.polls() == 2);
+    assert!(rt; hall.depart(0, d, 1, 77).is_ok());
+    assert!(rt; hall.post(rt.alloc(), 0, d, Note(2), false).is_ok());
+    assert!(rt; hall.arrive(0).is_none());
+    assert!(rt; hall.advise() == 0 && hall.spare() && matches!(hall.find(&a), Some(DocId(0))));
+    assert!(rt; matches!(hall.arrive(1), Some((DocId(0), 77))));
+    assert!(rt; matches!(hall.close(1, d), Err(CloseFault::Waiting(2))));
+    let (none, bag) = hall.collect(0, d, MailBag::new(rt.alloc())?);
+    assert!(rt; matches!(none, Err(Owner::NotHere(1))));
+    let (some, mut bag) = hall.collect(1, d, bag);
+    assert!(rt; matches!(some, Ok(2)));
+    assert!(rt;
+        matches!(bag.take(), Some(Note(1)))
+            && matches!(bag.take(), Some(Note(2)))
+            && bag.take().is_none()
+    );
+    assert!(rt; hall.close(1, d).is_ok() && hall.open_count() == 0 && hall.count() == 7);
+    let late = hall.post(rt.alloc(), 0, d, Note(5), true);
+    assert!(rt; matches!(late, Err(r) if matches!(r.why, HallFault::Gone) && r.value.0 == 5));
     Ok(())
 }

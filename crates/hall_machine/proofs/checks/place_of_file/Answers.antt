@@ -1,7 +1,6 @@
 use Rattle.std.proofs.Common.{sym, ◌∙◌}
-use Rattle.std.specs.Prelude.{◌==◌, nat_eq}
+use Rattle.std.specs.Prelude.{nat_eq}
 use Rattle.std.specs.Cmp.Lexicographic.{pointwise}
-use Rattle.hall_machine.specs.Machine.{is_bound_to}
 use Rattle.hall_machine.specs.States.{sight}
 use Rattle.hall_machine.proofs.Places.{position_seen}
 use Rattle.hall_machine.proofs.checks.place_of_file.Goals as goal

@@ -1,4 +1,4 @@
-use Rattle.std.proofs.Common.{◌≡◌, ◌∙◌, refl}
+use Rattle.std.proofs.Common.{◌∙◌, refl}
 use Rattle.hall_machine.proofs.Kept.{fresh}
 use Rattle.hall_machine.proofs.state.HallState.enter.Goals as goal
 

@@ -1,4 +1,4 @@
-use Rattle.std.proofs.Common.{◌≡◌, ◌∙◌, refl, sym, ap, length, Some, subst}
+use Rattle.std.proofs.Common.{◌≡◌, ◌∙◌, refl, sym, ap, length, Some}
 use Rattle.std.specs.List.{slice_get}
 use Rattle.hall_machine.proofs.Kept.{whole, posted_at, change}
 use Rattle.hall_machine.proofs.state.HallState.post.Goals as goal

@@ -1,0 +1,4 @@
+pub mod Lookups
+pub mod Steps
+pub mod Laws
+pub mod Parcels
