@@ -1,0 +1,12 @@
+//! Texts of formulas: which texts are formulas, and the expression that each of them says.
+//!
+//! - `read_formula` (`formulas`): the expression that a raw text holds.
+#![tactic(auto)]
+
+mod formulas;
+mod levels;
+mod signs;
+mod stop;
+mod tokens;
+
+pub use formulas::read_formula;
