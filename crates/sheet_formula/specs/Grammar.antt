@@ -24,6 +24,12 @@ is_of_level level.Product Multiply = true
 is_of_level level.Product Divide = true
 is_of_level _ _ = false
 
+-- the level of the operands of a level
+abbrev pub inner_level : Level → Option Level
+inner_level level.Fact = None
+inner_level level.Product = Some level.Fact
+inner_level level.Sum = Some level.Product
+
 -- a sign of the level
 abbrev pub sign_of_level : Level → Reading Operator
 sign_of_level level (Sign operator ∷ tokens) = if is_of_level level operator then Some (operator, tokens) else None

@@ -1,6 +1,6 @@
 //! Levels of precedence.
 ghost use Rattle.std.specs.Prelude.{◌≡◌};
-ghost use Rattle.sheet_formula.specs.Grammar.{is_of_level};
+ghost use Rattle.sheet_formula.specs.Grammar.{is_of_level, inner_level};
 
 use formula_base::Operator;
 
@@ -10,6 +10,19 @@ pub enum Level {
     Fact,
     Product,
     Sum,
+}
+
+impl Level {
+    /// The level of the operands of this one.
+    pub fn inner(self) -> Option<Level>
+        ensures { result ≡ inner_level self }
+    {
+        match self {
+            Level::Fact => None,
+            Level::Product => Some(Level::Fact),
+            Level::Sum => Some(Level::Product),
+        }
+    }
 }
 
 /// Whether the sign stands between the operands of the level.

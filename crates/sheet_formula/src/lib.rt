@@ -5,8 +5,10 @@
 
 mod formulas;
 mod levels;
+mod rules;
 mod signs;
 mod stop;
 mod tokens;
+mod trees;
 
 pub use formulas::read_formula;
