@@ -1,5 +1,5 @@
 -- A formula's text as words and signs.
-use Rattle.std.specs.Prelude.{ℕ, zero, suc, ℤ, pos, ◌+◌, ◌==◌, Bool, List, [], ◌∷◌, ◌++◌, length, take, drop, map, codes, slice_index, Option, Some, None, option_map, option_and_then, if◌then◌else◌}
+use Rattle.std.specs.Prelude.{ℕ, zero, suc, ℤ, pos, ◌+◌, ◌==◌, Bool, ◌||◌, List, [], ◌∷◌, ◌++◌, length, take, drop, map, codes, slice_index, Option, Some, None, option_map, option_and_then, if◌then◌else◌}
 use Rattle.std.specs.List.{prefix_len}
 use Rattle.std.specs.Char.{is_ascii_digit, to_ascii_lowercase}
 use Rattle.std.specs.Str.{bytes_eq}
@@ -19,12 +19,18 @@ Text = List ℕ
 abbrev pub Front : Type 0
 Front = Option (Token × Text)
 
--- the signs of one character, and those of two, of which `<=` comes before `<`
+-- the signs that compare, and how many characters they have; `<=` and `<>` come before `<`, and `>=` before `>`
+abbrev pub compared_of : ℕ → ℕ → Token × ℕ
+compared_of c d =
+    if c == 61 then (Compare comparison.Equal, 1)
+    else if c == 60 then (if d == 61 then (Compare comparison.AtMost, 2) else if d == 62 then (Compare comparison.NotEqual, 2) else (Compare comparison.Less, 1))
+    else if d == 61 then (Compare comparison.AtLeast, 2)
+    else (Compare comparison.Greater, 1)
+
+-- the sign that begins with a character, by the one behind it, and how many characters it has
 abbrev pub sign_of : ℕ → ℕ → Option (Token × ℕ)
 sign_of c d =
-    if c == 61 then Some (Compare comparison.Equal, 1)
-    else if c == 60 then (if d == 61 then Some (Compare comparison.AtMost, 2) else if d == 62 then Some (Compare comparison.NotEqual, 2) else Some (Compare comparison.Less, 1))
-    else if c == 62 then (if d == 61 then Some (Compare comparison.AtLeast, 2) else Some (Compare comparison.Greater, 1))
+    if c == 60 || c == 61 || c == 62 then Some (compared_of c d)
     else if c == 43 then Some (Sign sign.Add, 1)
     else if c == 45 then Some (Sign sign.Subtract, 1)
     else if c == 42 then Some (Sign sign.Multiply, 1)
@@ -35,18 +41,18 @@ sign_of c d =
     else if c == 58 then Some (Colon, 1)
     else None
 
--- the letters, with capitals made small
-abbrev pub small : Text → Text
-small letters = map to_ascii_lowercase letters
+-- whether letters are those of a name, in whichever case
+abbrev pub is_named : Text → Text → Bool
+is_named letters name = bytes_eq (map to_ascii_lowercase letters) (map to_ascii_lowercase name)
 
--- the function that letters name, in whichever case
+-- the function that letters name
 abbrev pub function_of : Text → Option Token
 function_of letters =
-    if bytes_eq (small letters) (codes "sum") then Some (Function function.Sum)
-    else if bytes_eq (small letters) (codes "min") then Some (Function function.Min)
-    else if bytes_eq (small letters) (codes "max") then Some (Function function.Max)
-    else if bytes_eq (small letters) (codes "count") then Some (Function function.Count)
-    else if bytes_eq (small letters) (codes "if") then Some If
+    if is_named letters (codes "SUM") then Some (Function function.Sum)
+    else if is_named letters (codes "MIN") then Some (Function function.Min)
+    else if is_named letters (codes "MAX") then Some (Function function.Max)
+    else if is_named letters (codes "COUNT") then Some (Function function.Count)
+    else if is_named letters (codes "IF") then Some If
     else None
 
 -- letters alone name a function, and letters with digits behind them a cell
@@ -89,14 +95,14 @@ quoted (c ∷ d ∷ text) =
 abbrev pub words_at : Text → Front
 words_at text = option_map (λ found. (Words found.0, found.1)) (quoted text)
 
--- the word or sign at the front of a text, by its first character
+-- a number, a name or a sign, by its first character
+abbrev pub bare_at : ℕ → Text → Front
+bare_at c text = if is_ascii_digit c then number_at text else if is_letter c then name_at text else sign_at text
+
+-- the word or sign at the front of a text
 unfoldable pub token_at : Text → Front
 token_at [] = None
-token_at (c ∷ text) =
-    if c == 34 then words_at text
-    else if is_ascii_digit c then number_at (c ∷ text)
-    else if is_letter c then name_at (c ∷ text)
-    else sign_at (c ∷ text)
+token_at (c ∷ text) = if c == 34 then words_at text else bare_at c (c ∷ text)
 
 -- a token in front of others
 abbrev pub with_token : Token → Option (List Token) → Option (List Token)

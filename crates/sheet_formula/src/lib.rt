@@ -3,8 +3,11 @@
 //! - `read_formula` (`formulas`): the expression that a raw text holds.
 #![tactic(auto)]
 
+mod bare;
+mod cuts;
 mod formulas;
 mod levels;
+mod quotes;
 mod rules;
 mod signs;
 mod stop;
@@ -12,3 +15,6 @@ mod tokens;
 mod trees;
 
 pub use formulas::read_formula;
+
+#[cfg(test)]
+mod tests;
