@@ -1,6 +1,6 @@
 -- Texts in quotes, piece by piece.
-use Rattle.std.proofs.Common.{◌≡◌, ◌≢◌, ℕ, zero, suc, ◌<◌, ◌≤◌, ◌+◌, ◌-◌, List, [], ◌∷◌, ◌++◌, length, get_or, drop, refl, sym, ◌∙◌, ap, subst, append_assoc, append-nil, length-append, arith}
-use Rattle.std.specs.Prelude.{Option, Some, None, option_map}
+use Rattle.std.proofs.Common.{◌≡◌, ◌≢◌, ℕ, suc, ◌<◌, ◌-◌, [], ◌∷◌, ◌++◌, length, get_or, drop, refl, sym, ◌∙◌, ap, append_assoc, append-nil, length-append, arith}
+use Rattle.std.specs.Prelude.{Option, Some, None}
 use Rattle.std.proofs.lemmas.Bool.{ne_eqb}
 use Rattle.std.proofs.Math.Seq.{drop-append_seam}
 use Rattle.sheet_formula.specs.Tokens.{Text, quoted, with_front}
@@ -53,9 +53,9 @@ pub quoted_more : (front text piece behind rest : Text) → text ≡ piece ++ 34
     → with_front ((front ++ piece) ++ 34 ∷ []) (quoted rest) ≡ with_front front (quoted text)
 quoted_more front text piece behind rest split none twice =
     sym (ap (λ (text : Text). with_front front (quoted text)) (split ∙ ap (λ (behind : Text). piece ++ 34 ∷ behind) twice)
-      ∙ ap (with_front front) (quoted_piece piece (34 ∷ rest) none)
-      ∙ front_front front piece (quoted (34 ∷ (34 ∷ rest)))
-      ∙ front_front (front ++ piece) (34 ∷ []) (quoted rest))
+    ∙ ap (with_front front) (quoted_piece piece (34 ∷ rest) none)
+    ∙ front_front front piece (quoted (34 ∷ (34 ∷ rest)))
+    ∙ front_front (front ++ piece) (34 ∷ []) (quoted rest))
 
 -- a piece, and the quote that closes
 pub quoted_end : (front text piece behind : Text) → text ≡ piece ++ 34 ∷ behind → HasNoQuote piece → ((rest : Text) → behind ≢ 34 ∷ rest)

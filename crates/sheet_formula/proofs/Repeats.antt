@@ -1,8 +1,7 @@
 -- The repeating rules, turn by turn, and the rules of levels and facts by what was read first.
-use Rattle.std.proofs.Common.{◌≡◌, ◌≢◌, ℕ, ℤ, zero, suc, ◌<◌, ◌≤◌, ◌+◌, ◌-◌, List, [], ◌∷◌, ◌++◌, length, refl, sym, ◌∙◌, ap, subst, append_assoc, append-nil, arith, lit<}
-use Rattle.std.specs.Prelude.{Option, Some, None, option_map, Result, Ok, Err}
+use Rattle.std.proofs.Common.{◌≡◌, ◌≢◌, ℕ, ℤ, zero, suc, ◌<◌, ◌+◌, ◌-◌, List, [], ◌∷◌, ◌++◌, length, refl, sym, ◌∙◌, ap, subst, append_assoc, append-nil, arith, lit<}
+use Rattle.std.specs.Prelude.{Option, Some, None, option_map, Result, Err}
 use Rattle.formula_base.specs.declared.expressions.Operator.{Operator}
-use Rattle.formula_base.specs.declared.expressions.Operator.TheVariants as sign
 use Rattle.formula_base.specs.declared.expressions.Argument.{Argument}
 use Rattle.formula_base.specs.declared.expressions.Link.{Link}
 use Rattle.formula_base.specs.declared.expressions.Expr.{Expr}

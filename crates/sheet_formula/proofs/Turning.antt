@@ -1,7 +1,7 @@
 -- Cutting a text, turn by turn.
-use Rattle.std.proofs.Common.{◌≡◌, ◌≢◌, ℕ, zero, suc, ◌<◌, ◌≤◌, ◌+◌, ◌-◌, List, [], ◌∷◌, ◌++◌, length, get_or, drop, refl, sym, ◌∙◌, ap, subst, append_assoc, append-nil, add-one, arith, drop-cons}
-use Rattle.std.specs.Prelude.{Option, Some, None, option_map, Result, Ok, Err}
-use Rattle.std.proofs.lemmas.Bool.{ne_eqb, eq-eqb}
+use Rattle.std.proofs.Common.{◌≡◌, ◌≢◌, ℕ, zero, suc, ◌<◌, ◌≤◌, ◌+◌, ◌-◌, List, [], ◌∷◌, ◌++◌, length, get_or, drop, refl, sym, ◌∙◌, ap, append_assoc, append-nil, add-one, arith, drop-cons}
+use Rattle.std.specs.Prelude.{Option, Some, None, option_map, Err}
+use Rattle.std.proofs.lemmas.Bool.{ne_eqb}
 use Rattle.std.proofs.lemmas.List.{drop_all, drop-drop}
 use Rattle.sheet_formula.specs.declared.tokens.Token.{Token}
 use Rattle.sheet_formula.specs.declared.stop.Stop.{Stop}
@@ -65,11 +65,13 @@ token_from zero text at len front token bound within other read some told = absu
 token_from (suc n) text at len front token bound within other read some told =
     let here = at_place text at within in
     let rest : drop len (drop at text) ≡ drop (at + len) text = drop-drop len at text in
-    let found : token_at (get_or text at 0 ∷ drop (at + 1) text) ≡ Some (token, drop (at + len) text) = ap token_at (sym here) ∙ read ∙ ap (λ (rest : Text). Some (token, rest)) rest in
-    (n, omega arith,
+    let found : token_at (get_or text at 0 ∷ drop (at + 1) text) ≡ Some (token, drop (at + len) text) = ap token_at (sym here) ∙ read ∙ ap (λ (rest : Text). Some (token, rest)) rest in (
+      n,
+      omega arith,
       sym (push_token front token (cut n (drop (at + len) text)))
-      ∙ ap (with_tokens front) (sym (ap (cut (suc n)) here ∙ cut_token n (get_or text at 0) (drop (at + 1) text) (drop (at + len) text) token other found))
-      ∙ told)
+          ∙ ap (with_tokens front) (sym (ap (cut (suc n)) here ∙ cut_token n (get_or text at 0) (drop (at + 1) text) (drop (at + len) text) token other found))
+          ∙ told,
+    )
 
 pub cuts_token : (text : Text) (at len : ℕ) (front : List Token) (token : Token) → Cuts text at front → at < length text → get_or text at 0 ≢ 32
     → token_at (drop at text) ≡ Some (token, drop len (drop at text)) → 0 < len → Cuts text (at + len) (front ++ token ∷ [])

@@ -1,6 +1,6 @@
 -- A raw text, by its first character.
-use Rattle.std.proofs.Common.{◌≡◌, ◌≢◌, ℕ, List, [], ◌∷◌, refl, sym, ◌∙◌, ap, subst}
-use Rattle.std.specs.Prelude.{Option, Some, None, option_and_then, Result, Ok, Err}
+use Rattle.std.proofs.Common.{◌≡◌, ◌≢◌, ℕ, List, [], ◌∷◌, refl, ◌∙◌, ap, subst}
+use Rattle.std.specs.Prelude.{Option, Some, None, option_and_then, Result, Err}
 use Rattle.std.proofs.lemmas.Bool.{ne_eqb}
 use Rattle.formula_base.specs.declared.expressions.Expr.{Expr}
 use Rattle.sheet_formula.specs.declared.stop.Stop.{Stop}

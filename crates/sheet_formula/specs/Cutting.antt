@@ -1,5 +1,5 @@
 -- What was found at the front of a text, and where it ends.
-use Rattle.std.specs.Prelude.{◌≡◌, ◌<◌, ◌≤◌, ℕ, List, length, drop, Option, Some, None, Result, Ok, Err}
+use Rattle.std.specs.Prelude.{◌≡◌, ◌<◌, ◌≤◌, ℕ, length, drop, Option, Some, None, Result, Ok, Err}
 use Rattle.sheet_formula.specs.declared.stop.Stop.{Stop}
 use Rattle.sheet_formula.specs.declared.stop.Stop.TheVariants.{Memory, NoFormula}
 use Rattle.sheet_formula.specs.Tokens.{Text}

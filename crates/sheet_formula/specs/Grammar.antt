@@ -1,5 +1,5 @@
 -- The grammar of formulas, over words and signs. A rule for each line of the grammar; the rules that nest take the rule one deeper as their argument.
-use Rattle.std.specs.Prelude.{ℕ, zero, suc, Bool, true, false, ◌&&◌, ◌==◌, List, [], ◌∷◌, length, slice_get, Option, Some, None, option_and_then, if◌then◌else◌}
+use Rattle.std.specs.Prelude.{ℕ, zero, suc, Bool, true, false, ◌==◌, List, [], ◌∷◌, length, Option, Some, None, option_and_then, if◌then◌else◌}
 use Rattle.formula_base.specs.declared.expressions.Operator.{Operator}
 use Rattle.formula_base.specs.declared.expressions.Operator.TheVariants.{Add, Subtract, Multiply, Divide}
 use Rattle.formula_base.specs.declared.expressions.Comparison.{Comparison}
@@ -14,7 +14,7 @@ use Rattle.sheet_formula.specs.declared.tokens.Token.TheVariants.{Number, Words,
 use Rattle.sheet_formula.specs.declared.levels.Level.{Level}
 use Rattle.sheet_formula.specs.declared.levels.Level.TheVariants as level
 use Rattle.sheet_formula.specs.Tokens.{Text, tokens_of}
-use Rattle.sheet_formula.specs.Reading.{Reading, pure, refused, next, on_read, ◌>>=◌}
+use Rattle.sheet_formula.specs.Reading.{Reading, pure, refused, next, ◌>>=◌}
 
 -- whether a sign stands between the operands of a level
 abbrev pub is_of_level : Level → Operator → Bool
@@ -63,8 +63,8 @@ unfoldable pub links : Level → Reading Expr → ℕ → Reading (List (Link Ex
 links level operand zero tokens = Some ([], tokens)
 links level operand (suc n) tokens =
     elim (sign_of_level level tokens) [
-      None ↦ Some ([], tokens)
-    | Some found ↦ (operand >>= λ right. links level operand n >>= λ more. pure (record { operator = found.0; operand = right } ∷ more)) found.1
+      | None ↦ Some ([], tokens)
+      | Some found ↦ (operand >>= λ right. links level operand n >>= λ more. pure (record { operator = found.0; operand = right } ∷ more)) found.1
     ]
 
 -- operand { sign operand }: each link takes a sign, so there are no more of them than words and signs
@@ -81,8 +81,8 @@ level_of level.Sum fact = chain level.Sum (chain level.Product fact)
 unfoldable pub compared_with : Reading Expr → Expr → Reading Expr
 compared_with sum left tokens =
     elim (comparison_sign tokens) [
-      None ↦ Some (left, tokens)
-    | Some found ↦ (sum >>= λ right. pure (e.Compare found.0 left right)) found.1
+      | None ↦ Some (left, tokens)
+      | Some found ↦ (sum >>= λ right. pure (e.Compare found.0 left right)) found.1
     ]
 
 -- cmp := sum [ sign sum ]

@@ -6,10 +6,9 @@ ghost use Rattle.sheet_formula.specs.Reading.{Gives};
 ghost use Rattle.sheet_formula.specs.Grammar.{level_of, comparison, part, fact, nested, choice, arguments, argument_of, joined, close_sign, comma_sign};
 
 use crate::levels::Level;
-use crate::signs;
 use crate::stop::Stop;
 use crate::tokens::Token;
-use crate::trees;
+use crate::{signs, trees};
 use formula_base::{Argument, Expr, Link, Operator};
 use sqlite_items::Items;
 use std::alloc::Global;
@@ -18,11 +17,7 @@ use std::collections::VecDeque;
 /// A sum, or two sums with a sign between them that compares them.
 #[cycle(rules)]
 #[tactic(auto, unfolding(crate::specs::Grammar::comparison, crate::specs::Grammar::compared_with))]
-pub fn comparison(
-    alloc: Global,
-    tokens: &mut VecDeque<Token>,
-    depth: u32,
-) -> Result<Expr, Stop>
+pub fn comparison(alloc: Global, tokens: &mut VecDeque<Token>, depth: u32) -> Result<Expr, Stop>
     ensures { Gives (comparison (fact depth) tokens.old.items) result tokens.new.items }
 {
     let left = level(alloc, tokens, depth, Level::Sum)?;
@@ -36,12 +31,7 @@ pub fn comparison(
 // Operands of a level with signs of it between them.
 #[cycle(rules)]
 #[tactic(auto, unfolding(crate::specs::Grammar::level_of, crate::specs::Grammar::chain))]
-fn level(
-    alloc: Global,
-    tokens: &mut VecDeque<Token>,
-    depth: u32,
-    this: Level,
-) -> Result<Expr, Stop>
+fn level(alloc: Global, tokens: &mut VecDeque<Token>, depth: u32, this: Level) -> Result<Expr, Stop>
     ensures { Gives (level_of this (fact depth) tokens.old.items) result tokens.new.items }
 {
     let Some(inner) = this.inner() else {
@@ -166,11 +156,7 @@ fn arguments(
 // An argument of a function.
 #[cycle(rules)]
 #[tactic(auto, unfolding(crate::specs::Grammar::argument_of))]
-fn argument(
-    alloc: Global,
-    tokens: &mut VecDeque<Token>,
-    depth: u32,
-) -> Result<Argument<Expr>, Stop>
+fn argument(alloc: Global, tokens: &mut VecDeque<Token>, depth: u32) -> Result<Argument<Expr>, Stop>
     ensures { Gives (argument_of (fact depth) tokens.old.items) result tokens.new.items }
 {
     if signs::is_range(tokens) {

@@ -103,7 +103,11 @@ fn depths(rt: HostRuntime) -> Result<(), Fail> {
         for _ in 0..depth {
             raw.push_str(close)?;
         }
-        assert_eq!(rt; shown(rt.alloc(), raw.as_str())?.as_str(), text, "{open} {depth}");
+        assert_eq!(rt;
+            shown(rt.alloc(), raw.as_str())?.as_str(),
+            text,
+            "{open} {depth}"
+        );
     }
     Ok(())
 }

@@ -26,12 +26,7 @@ pub fn joined(alloc: Global, first: Expr, links: Items<Link<Expr>>) -> Result<Ex
 }
 
 /// Two values and the sign that compares them.
-pub fn compared(
-    alloc: Global,
-    sign: Comparison,
-    left: Expr,
-    right: Expr,
-) -> Result<Expr, Memory>
+pub fn compared(alloc: Global, sign: Comparison, left: Expr, right: Expr) -> Result<Expr, Memory>
     ensures { IfOk result (λ made. made ≡ Compare sign left right) }
 {
     let left = Boxed::new(alloc, left)?;

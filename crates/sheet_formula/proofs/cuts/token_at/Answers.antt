@@ -1,4 +1,4 @@
-use Rattle.std.proofs.Common.{arith, lit<, get_or, ◌<◌, subst, sym, ℕ}
+use Rattle.std.proofs.Common.{lit<, get_or, ◌<◌, subst, sym, ℕ}
 use Rattle.std.proofs.lemmas.Str.{IsCharBoundary-after_ascii}
 use Rattle.sheet_formula.proofs.cuts.token_at.Goals as goal
 

@@ -1,4 +1,4 @@
-use Rattle.std.proofs.Common.{◌≡◌, length, ℕ, ◌+◌, ◌-◌, ◌*◌}
+use Rattle.std.proofs.Common.{◌≡◌, length, ◌+◌, ◌-◌, ◌*◌}
 use Rattle.sheet_formula.specs.Grammar.{level_of, fact, arguments, links}
 use Rattle.sheet_formula.proofs.Repeats.{with_more, rank}
 use Rattle.sheet_formula.proofs.rules.+rules.Given as goal
@@ -38,6 +38,6 @@ invariant-arguments-loop-turn l =
 abbrev pub invariant-level-loop-turn : goal.invariant-level-loop-turn
 invariant-level-loop-turn l = record {
   told : with_more l.links (links l.this (level_of l.inner (fact l.depth)) (l._turn-end - l._turn) l.tokens.items)
-    ≡ links l.this (level_of l.inner (fact l.depth)) (length l.initial.tokens.items) l.initial.tokens.items;
+      ≡ links l.this (level_of l.inner (fact l.depth)) (length l.initial.tokens.items) l.initial.tokens.items;
   kept : l.first ≡ l.initial.first;
 }
