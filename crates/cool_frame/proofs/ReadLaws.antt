@@ -69,6 +69,12 @@ gives_again bytes r g frame is e =
     let again : reading bytes ≡ Ok frame = rw (← e) (reads_again frame is) in
     rw again at g
 
+-- a tile of a wrong length is read as that, unless memory runs out
+pub gives_wrong : (bytes : List ℕ) (r : Result Frame FrameFault) → Gives r (reading bytes) → HasWrongLength bytes → Gives r (Err WrongLength)
+gives_wrong bytes r g h =
+    let wrong : reading bytes ≡ Err WrongLength = wrong_reads bytes h in
+    rw wrong at g
+
 pub one_frame : (frame other : Frame) → IsFrame frame → IsFrame other → frame_bytes frame ≡ frame_bytes other → frame ≡ other
 one_frame frame other a b e =
     let first : reading (frame_bytes frame) ≡ Ok frame = reads_again frame a in

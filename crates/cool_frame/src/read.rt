@@ -21,6 +21,7 @@ pub fn read_frame(alloc: Global, bytes: &[u8]) -> Result<Frame, FrameFault>
     ensures read { IfOk result (λ frame. IsFrame frame × (frame_bytes frame ≡ bytes.now)) }
     ensures fault { IfErr result (Says bytes.now) }
     ensures again { (frame : Frame) → IsFrame frame → frame_bytes frame ≡ bytes.now → Gives result (Ok frame) }
+    ensures wrong { HasWrongLength bytes.now → Gives result (Err FrameFault.WrongLength) }
 {
     frame_of(alloc, bytes)
 }
