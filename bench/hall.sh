@@ -119,7 +119,11 @@ impl<'a> Part<'a> {
     }
 }
 
-fn measure<R: Runtime + Threads + Wait + Sync>(rt: &R, alloc: Global, threads: usize) -> Result<()> {
+fn measure<R: Runtime + Threads + Wait + Sync>(
+    rt: &R,
+    alloc: Global,
+    threads: usize,
+) -> Result<()> {
     let state = HallState::<u32, Note>::new(alloc, 4, 2097152)?;
     let (lock, mut seat) = TurnLock::new(alloc, state)?;
     let hall = Hall { lock };
@@ -136,7 +140,7 @@ fn measure<R: Runtime + Threads + Wait + Sync>(rt: &R, alloc: Global, threads: u
     thread::for_each_mut(
         rt,
         &mut team[..threads.min(4)],
-        threads,
+        threads.max(1),
         &|_, part: &mut Part| part.work(rt),
     );
     let spent = start.elapsed(rt)?.as_micros();
