@@ -1,0 +1,5 @@
+pub mod PlaceLaws
+pub mod TextLaws
+pub mod LocalLaws
+pub mod PartLaws
+pub mod SettleLaws
