@@ -3,3 +3,7 @@ pub mod TextLaws
 pub mod LocalLaws
 pub mod PartLaws
 pub mod SettleLaws
+pub mod ShownLaws
+pub mod ListLaws
+pub mod ChangeLaws
+pub mod KeptLaws

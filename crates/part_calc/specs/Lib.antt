@@ -2,3 +2,5 @@ pub mod Contents
 pub mod Parts
 pub mod Shown
 pub mod Settling
+pub mod Kept
+pub mod Text

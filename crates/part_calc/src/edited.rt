@@ -12,6 +12,7 @@ use std::marker::Model;
 
 /// A part as it is once a cell has another raw text, of which no copy is made. Contracts see it as that
 /// part.
+#[derive(Drop)]
 pub struct Edited<'a> {
     cells: &'a BTreeMap<(u32, u32), Cell>,
     at: (u32, u32),

@@ -8,8 +8,13 @@
 mod contents;
 mod edited;
 mod order;
+mod part;
+mod places;
+mod recalculation;
 mod settling;
+mod shown;
 
 pub use contents::{Cell, Content};
 pub use edited::Edited;
 pub use settling::settle;
+pub use shown::{Shown, cell_text, shown_texts};
