@@ -1,20 +1,19 @@
 -- The cells whose shown text an edit changes.
-use Rattle.std.proofs.Common.{◌≡◌, ◌⊎◌, ◌↔◌, ◌≢◌, ℕ, Bool, true, false, cond, not, ◌||◌, ◌&&◌, List, [], ◌∷◌, ◌++◌, length, Option, Some, None, Bor, MatchOption, refl, ap, sym, ◌∙◌, subst, ⊎_elim, unwrap_or}
+use Rattle.std.proofs.Common.{◌≡◌, ◌⊎◌, ◌↔◌, ◌≢◌, ℕ, Bool, true, false, cond, not, ◌||◌, ◌&&◌, List, [], ◌∷◌, Option, Some, None, Bor, MatchOption, refl, ap, sym, ◌∙◌, ⊎_elim, unwrap_or}
 use Rattle.std.specs.Prelude.{fold}
 use Rattle.std.specs.BTreeMap.{is_at, insert_entry}
 use Rattle.std.specs.BTreeSet.{insert_key}
-use Rattle.std.specs.List.{list_any, filter, Contains, AllByRecursion}
+use Rattle.std.specs.List.{filter, Contains}
 use Rattle.std.specs.List.Sorted.{IsStrictlySortedBy}
 use Rattle.std.specs.Map.{lookup, keys_of, remove_entry}
 use Rattle.std.specs.Option.{is_some, is_none, option_copied}
 use Rattle.std.specs.Str.{bytes_eq}
-use Rattle.std.proofs.lemmas.Bool.{both_ways, cond-true, cond-false, or_cases, or_left, or_right, cases_Bool, not_from_true, not_from_false, false_from_ne_true}
+use Rattle.std.proofs.lemmas.Bool.{both_ways, or_cases, or_right, cases_Bool, not_from_true, not_from_false, false_from_ne_true}
 use Rattle.std.specs.Cmp.Lexicographic.{same_text}
 use Rattle.std.proofs.lemmas.Cmp.{nat_list_eq_equiv}
 use Rattle.std.proofs.lemmas.Map.Views.{Contains-from_any, list_any-from_Contains, tells_apart}
 use Rattle.std.proofs.lemmas.List.Kept.{IsStrictlySortedBy-filter}
 use Rattle.std.proofs.lemmas.Map.Made.{is_some-lookup}
-use Rattle.formula_base.specs.declared.values.Value.{Value}
 use Rattle.formula_base.specs.Ranges.{Place, place_cmp}
 use Rattle.part_calc.specs.declared.contents.Content.{Content}
 use Rattle.part_calc.specs.declared.contents.Content.TheVariants.{Plain, Formula}
@@ -180,9 +179,10 @@ changed_is cells edited at raw places taken changed sorted is ordered listed tak
 
 -- exactly the cells whose shown text differs are among the changes
 pub changed_iff : (old new : Part) (p : Place) → Contains (changed_cells old new) p ↔ (shown_at old p ≢ shown_at new p)
-changed_iff old new p =
-    (λ has same. both_ways (differs old new p) (not_from_true (bytes_eq (shown_at old p) (shown_at new p)) (texts_alike same)) (sym (changed_listed old new p) ∙ list_any-from_Contains same_places p (changed_cells old new) has),
-    λ apart. Contains-from_any (tells_apart exact_places) p (changed_cells old new) (changed_listed old new p ∙ not_from_false (bytes_eq (shown_at old p) (shown_at new p)) (false_from_ne_true (bytes_eq (shown_at old p) (shown_at new p)) (λ e. apart (same_text (shown_at old p) (shown_at new p) (sym e))))))
+changed_iff old new p = (
+  λ has same. both_ways (differs old new p) (not_from_true (bytes_eq (shown_at old p) (shown_at new p)) (texts_alike same)) (sym (changed_listed old new p) ∙ list_any-from_Contains same_places p (changed_cells old new) has),
+  λ apart. Contains-from_any (tells_apart exact_places) p (changed_cells old new) (changed_listed old new p ∙ not_from_false (bytes_eq (shown_at old p) (shown_at new p)) (false_from_ne_true (bytes_eq (shown_at old p) (shown_at new p)) (λ e. apart (same_text (shown_at old p) (shown_at new p) (sym e))))),
+)
   where
     bytes_same : (xs : List ℕ) → bytes_eq xs xs ≡ true
     bytes_same xs = nat_list_eq_equiv.refl xs

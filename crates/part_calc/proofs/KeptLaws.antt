@@ -1,21 +1,21 @@
 -- What is kept of a part stays right.
-use Rattle.std.proofs.Common.{◌≡◌, ◌≢◌, ◌↔◌, ℕ, ◌<◌, ◌≤◌, Bool, true, false, cond, List, [], ◌∷◌, length, refl, ap, sym, ◌∙◌, subst, arith}
+use Rattle.std.proofs.Common.{◌≡◌, ◌≢◌, ◌↔◌, ℕ, ◌<◌, Bool, true, false, cond, List, [], ◌∷◌, refl, ap, sym, ◌∙◌, subst, arith}
 use Rattle.std.specs.BTreeMap.{is_at, insert_entry}
 use Rattle.std.specs.List.{AllByRecursion, Contains}
 use Rattle.std.specs.List.Sorted.{IsStrictlySortedBy}
-use Rattle.std.specs.Map.{lookup, keys_of, remove_entry}
+use Rattle.std.specs.Map.{keys_of, remove_entry}
 use Rattle.std.specs.Ordering.{match_ordering}
 use Rattle.std.specs.declared.cmp.Ordering.{Ordering}
 use Rattle.std.specs.declared.cmp.Ordering.TheVariants.{Less, Equal, Greater}
 use Rattle.std.proofs.lemmas.Bool.{both_ways}
 use Rattle.sheet_cells.specs.Cells.{IsRaw}
 use Rattle.formula_base.specs.Ranges.{Place, place_cmp}
-use Rattle.part_calc.specs.Contents.{content_of, is_formula}
-use Rattle.part_calc.specs.Parts.{Part, text_at, with_text, content_at}
+use Rattle.part_calc.specs.Contents.{is_formula}
+use Rattle.part_calc.specs.Parts.{Part, text_at, with_text}
 use Rattle.part_calc.specs.Shown.{shown_at, changed_cells}
 use Rattle.part_calc.specs.Kept.{IsShown, IsEntry, IsPart}
 use Rattle.part_calc.proofs.PlaceLaws.{exact_places}
-use Rattle.part_calc.proofs.TextLaws.{empty_content}
+use Rattle.part_calc.proofs.TextLaws.{empty_content, text_same, text_other}
 use Rattle.part_calc.proofs.ChangeLaws.{changed_iff, changed_ordered}
 
 -- a part without cells
@@ -53,11 +53,13 @@ entries_kept part at (c ∷ raw) all row column valid =
 -- an edit
 pub set_kept : (inside after : Part) (at : Place) (cell raw : List ℕ) (shown : List (Place × List ℕ)) → IsPart inside → at.0 < 4096 → at.1 < 256 → IsRaw raw → cell ≡ raw → after ≡ with_text inside at cell → IsStrictlySortedBy place_cmp (keys_of after)
     → IsShown (with_text inside at cell) shown → IsPart after × IsShown after shown
-set_kept inside after at cell raw shown part row column valid is put sorted kept =
-    (record {
-      ordered = sorted;
-      entries = subst (AllByRecursion IsEntry) (sym put) (subst (λ (r : List ℕ). AllByRecursion IsEntry (with_text inside at r)) (sym is) (entries_kept inside at raw part.entries row column valid));
-    }, subst (λ (s : Part). IsShown s shown) (sym put) kept)
+set_kept inside after at cell raw shown part row column valid is put sorted kept = (
+  record {
+    ordered = sorted;
+    entries = subst (AllByRecursion IsEntry) (sym put) (subst (λ (r : List ℕ). AllByRecursion IsEntry (with_text inside at r)) (sym is) (entries_kept inside at raw part.entries row column valid));
+  },
+  subst (λ (s : Part). IsShown s shown) (sym put) kept,
+)
 
 -- what it answers
 pub set_exactly : (inside before after : Part) (at : Place) (cell : List ℕ) (changed : List Place) → inside ≡ before → after ≡ with_text inside at cell → changed ≡ changed_cells inside (with_text inside at cell) → (p : Place) → Contains changed p ↔ (shown_at before p ≢ shown_at after p)
@@ -67,3 +69,10 @@ set_exactly inside before after at cell changed view put told p =
 
 pub set_in_order : (inside : Part) (at : Place) (cell : List ℕ) (changed : List Place) → IsPart inside → changed ≡ changed_cells inside (with_text inside at cell) → IsStrictlySortedBy place_cmp changed
 set_in_order inside at cell changed part told = subst (IsStrictlySortedBy place_cmp) (sym told) (changed_ordered inside (with_text inside at cell) part.ordered)
+
+pub set_there : (inside after : Part) (at : Place) (cell raw : List ℕ) → IsPart inside → cell ≡ raw → after ≡ with_text inside at cell → text_at after at ≡ raw
+set_there inside after at cell raw part is put = ap (λ (s : Part). text_at s at) put ∙ text_same inside at cell part.ordered ∙ is
+
+pub set_elsewhere : (inside before after : Part) (at : Place) (cell : List ℕ) → IsPart inside → inside ≡ before → after ≡ with_text inside at cell → (other : Place) → other ≢ at → text_at after other ≡ text_at before other
+set_elsewhere inside before after at cell part view put other apart =
+    ap (λ (s : Part). text_at s other) put ∙ text_other inside at cell other part.ordered apart ∙ ap (λ (s : Part). text_at s other) view

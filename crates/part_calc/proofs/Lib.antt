@@ -7,3 +7,4 @@ pub mod ShownLaws
 pub mod ListLaws
 pub mod ChangeLaws
 pub mod KeptLaws
+pub mod LengthLaws

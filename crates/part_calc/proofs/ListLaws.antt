@@ -1,9 +1,9 @@
 -- Lists of cells in order.
-use Rattle.std.proofs.Common.{◌≡◌, ℕ, ◌+◌, ◌<◌, Bool, true, false, cond, ◌||◌, ◌&&◌, List, [], ◌∷◌, ◌++◌, length, take, get_or, refl, ap, sym, ◌∙◌, subst}
+use Rattle.std.proofs.Common.{◌≡◌, ℕ, ◌+◌, ◌<◌, Bool, true, false, ◌||◌, ◌&&◌, List, [], ◌∷◌, ◌++◌, length, take, get_or, refl, ap, sym, ◌∙◌}
 use Rattle.std.specs.Prelude.{fold}
 use Rattle.std.specs.BTreeMap.{is_at}
-use Rattle.std.specs.BTreeSet.{BTreeSet, insert_key}
-use Rattle.std.specs.List.{list_any, filter, AllByRecursion}
+use Rattle.std.specs.BTreeSet.{insert_key}
+use Rattle.std.specs.List.{filter, AllByRecursion}
 use Rattle.std.specs.List.Sorted.{IsStrictlySortedBy}
 use Rattle.std.specs.Ordering.{match_ordering, ordering_reverse}
 use Rattle.std.specs.declared.cmp.Ordering.{Ordering}
@@ -15,7 +15,7 @@ use Rattle.std.proofs.lemmas.List.Folds.{list_any-append}
 use Rattle.std.proofs.lemmas.List.Kept.{IsStrictlySortedBy-filter}
 use Rattle.formula_base.specs.Ranges.{Place, place_cmp}
 use Rattle.part_calc.specs.Settling.{is_listed}
-use Rattle.part_calc.proofs.PlaceLaws.{exact_places, places_total, same_places, at_one}
+use Rattle.part_calc.proofs.PlaceLaws.{exact_places, places_total, at_one}
 
 -- a cell is in a list with one more, put in order, exactly where it is that one or was in it
 pub listed_insert : (places : List Place) (k p : Place) → is_listed (insert_key place_cmp places k) p ≡ (is_at (place_cmp p) k || is_listed places p)

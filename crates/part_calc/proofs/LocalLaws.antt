@@ -1,5 +1,5 @@
 -- The value of an expression depends on the cells that it reads alone.
-use Rattle.std.proofs.Common.{◌≡◌, ℕ, List, [], ◌∷◌, ◌++◌, map, refl, ap, sym, ◌∙◌, subst}
+use Rattle.std.proofs.Common.{◌≡◌, List, [], ◌∷◌, ◌++◌, map, refl, ap, sym, ◌∙◌, subst}
 use Rattle.std.specs.Prelude.{fold}
 use Rattle.std.specs.List.{flat_map, AllByRecursion}
 use Rattle.std.specs.BTreeSet.{insert_key}
@@ -12,7 +12,7 @@ use Rattle.formula_base.specs.declared.expressions.Argument.TheVariants.{Range, 
 use Rattle.formula_base.specs.declared.expressions.Link.{Link}
 use Rattle.formula_base.specs.declared.expressions.Expr.{Expr}
 use Rattle.formula_base.specs.declared.expressions.Expr.TheOpen.{Expr-F}
-use Rattle.formula_base.specs.declared.expressions.Expr.TheFolds.{fold-Expr, fold-roll-Expr, ind-Expr, map-Expr}
+use Rattle.formula_base.specs.declared.expressions.Expr.TheFolds.{fold-roll-Expr, ind-Expr, map-Expr}
 use Rattle.formula_base.specs.declared.expressions.Expr.TheViews.{roll-Expr}
 use Rattle.formula_base.specs.declared.expressions.Expr.TheShapes.{former-Expr-Chain-1-at-2, former-Expr-Call-1-at-3}
 use Rattle.formula_base.specs.Ranges.{Place, place_cmp, cells_between}

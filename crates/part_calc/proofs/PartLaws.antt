@@ -5,8 +5,7 @@ use Rattle.std.specs.List.{filter, list_any, list_all, AllByRecursion, Contains}
 use Rattle.std.specs.Map.{lookup}
 use Rattle.std.proofs.lemmas.Bool.{both_ways, or_left, or_right}
 use Rattle.std.proofs.lemmas.Map.Views.{Contains-from_any, tells_apart}
-use Rattle.calc_base.specs.Walks.{walks, circular}
-use Rattle.calc_base.specs.Values.{value}
+use Rattle.calc_base.specs.Walks.{walks}
 use Rattle.calc_base.specs.Laws.{Covers, IsLocal, Follows}
 use Rattle.calc_base.proofs.WalkLaws.{circular_iff}
 use Rattle.calc_base.proofs.ValueLaws.{value_follows, value_only, found_follows, at_circular}
@@ -21,9 +20,6 @@ use Rattle.part_calc.specs.Parts.{Part, text_at, content_at, formulas, reads_at,
 use Rattle.part_calc.proofs.PlaceLaws.{exact_places}
 use Rattle.part_calc.proofs.TextLaws.{empty_content}
 use Rattle.part_calc.proofs.LocalLaws.{eval_local}
-
-
-
 
 -- a cell with a formula is among the formulas
 formula_listed : (part : Part) (p : Place) → is_formula (content_at part p) ≡ true → list_any (is_at (place_cmp p)) (formulas part) ≡ true

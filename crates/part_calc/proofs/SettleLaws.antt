@@ -1,10 +1,9 @@
 -- Finding values cell by cell: what is seen stays right, and what is not seen when nothing moves is circular.
-use Rattle.std.proofs.Common.{◌≡◌, ◌⊎◌, ℕ, suc, ◌+◌, ◌<◌, ◌≤◌, Bool, true, false, cond, ◌||◌, List, [], ◌∷◌, ◌++◌, length, take, drop, get_or, Option, Some, None, refl, ap, sym, ◌∙◌, subst, ⊎_elim, arith, unwrap_or, drop-cons, drop_of_length-le, length-append, add-one}
+use Rattle.std.proofs.Common.{◌≡◌, ℕ, suc, ◌+◌, ◌<◌, ◌≤◌, Bool, true, false, cond, ◌||◌, List, [], ◌∷◌, ◌++◌, length, drop, get_or, Option, Some, None, refl, ap, sym, ◌∙◌, subst, ⊎_elim, arith, unwrap_or, drop-cons, drop_of_length-le, length-append, add-one}
 use Rattle.std.specs.BTreeMap.{is_at, insert_entry}
 use Rattle.std.specs.List.{list_any, list_all, AllByRecursion}
-use Rattle.std.specs.Map.{lookup}
 use Rattle.std.specs.Option.{is_some, is_none}
-use Rattle.std.proofs.lemmas.Bool.{both_ways, cases_Bool, or_cases, or_left, or_right, and_cases, cond-true, cond-false}
+use Rattle.std.proofs.lemmas.Bool.{both_ways, or_cases, or_left, or_right, and_cases, cond-true, cond-false}
 use Rattle.std.proofs.lemmas.List.Folds.{list_any-append}
 use Rattle.calc_base.proofs.ValueLaws.{found_follows, lost_circular}
 use Rattle.formula_base.specs.declared.values.Value.{Value}
@@ -18,7 +17,7 @@ use Rattle.part_calc.specs.declared.contents.Content.TheVariants.{Plain, Formula
 use Rattle.part_calc.specs.Contents.{is_formula, reads_in, value_with}
 use Rattle.part_calc.specs.Parts.{Part, content_at, formulas, reads_at, step_at, is_circular, value_at}
 use Rattle.part_calc.specs.Settling.{Known, known_at, seen_in, seen_at, look_at, is_ready, attempted, known_after, left_after, IsSound, is_listed, Covers, AllWait, IsSwept, IsSettled}
-use Rattle.part_calc.proofs.PlaceLaws.{at_itself, at_one, lookup_insert}
+use Rattle.part_calc.proofs.PlaceLaws.{at_one, lookup_insert}
 use Rattle.part_calc.proofs.PartLaws.{covers, local, plain_cell, circular_value}
 
 -- ---- what is seen
@@ -164,7 +163,6 @@ rest_listed waiting i place p h is =
 push_listed : (left : List Place) (place p : Place) → is_listed (left ++ place ∷ []) p ≡ (is_listed left p || (is_at (place_cmp p) place || false))
 push_listed left place p = list_any-append (is_at (place_cmp p)) left (place ∷ [])
 
-
 dropped : (a b c : Bool) → (b ≡ true → ⊥) → (a || (b || c)) ≡ true → (a || c) ≡ true
 dropped true b c f h = refl
 dropped false true c f h = absurd (f refl)
@@ -181,9 +179,9 @@ unfolding seen_at
 turn_known part known waiting i left place v turn h is found = record {
   sound = turn.sound;
   covered = λ p lost.
-    dropped (is_listed left p) (is_at (place_cmp p) place) (is_listed (drop (i + 1) waiting) p)
-    (λ at. seen_found (content_at part p) v (subst (λ (o : Option Value). is_none (seen_in (content_at part p) o) ≡ true) (ap (known_at known) (at_one p place at) ∙ found) lost))
-    (subst (λ (b : Bool). (is_listed left p || b) ≡ true) (rest_listed waiting i place p h is) (turn.covered p lost));
+      dropped (is_listed left p) (is_at (place_cmp p) place) (is_listed (drop (i + 1) waiting) p)
+      (λ at. seen_found (content_at part p) v (subst (λ (o : Option Value). is_none (seen_in (content_at part p) o) ≡ true) (ap (known_at known) (at_one p place at) ∙ found) lost))
+      (subst (λ (b : Bool). (is_listed left p || b) ≡ true) (rest_listed waiting i place p h is) (turn.covered p lost));
   count = omega (arith, turn.count);
   still = λ e. absurd (omega (arith, turn.count, e));
 }
@@ -199,8 +197,8 @@ turn_found : (part : Part) (known : Known) (waiting : List Place) (i : ℕ) (lef
 turn_found part known waiting i left place v turn h is tried = record {
   sound = sound_more part known place v turn.sound tried;
   covered = λ p lost.
-    by p (is_at (place_cmp p) place) refl (subst (λ (o : Option Value). is_none o ≡ true) (seen_insert part known place v p) lost)
-    (λ before. subst (λ (b : Bool). (is_listed left p || b) ≡ true) (rest_listed waiting i place p h is) (turn.covered p before));
+      by p (is_at (place_cmp p) place) refl (subst (λ (o : Option Value). is_none o ≡ true) (seen_insert part known place v p) lost)
+      (λ before. subst (λ (b : Bool). (is_listed left p || b) ≡ true) (rest_listed waiting i place p h is) (turn.covered p before));
   count = omega (arith, turn.count);
   still = λ e. absurd (omega (arith, turn.count, e));
 }
@@ -220,9 +218,9 @@ turn_waits part known waiting i left place turn h is tried =
     record {
       sound = turn.sound;
       covered = λ p lost.
-        subst (λ (b : Bool). (b || is_listed (drop (i + 1) waiting) p) ≡ true) (sym (push_listed left place p))
-        (joined (is_listed left p) (is_at (place_cmp p) place) (is_listed (drop (i + 1) waiting) p)
-        (subst (λ (b : Bool). (is_listed left p || b) ≡ true) (rest_listed waiting i place p h is) (turn.covered p lost)));
+          subst (λ (b : Bool). (b || is_listed (drop (i + 1) waiting) p) ≡ true) (sym (push_listed left place p))
+          (joined (is_listed left p) (is_at (place_cmp p) place) (is_listed (drop (i + 1) waiting) p)
+          (subst (λ (b : Bool). (is_listed left p || b) ≡ true) (rest_listed waiting i place p h is) (turn.covered p lost)));
       count = omega (arith, turn.count, longer);
       still = λ e. all_push (λ q. list_any (λ r. is_none (seen_at part known r)) (reads_at part q) ≡ true) left place (turn.still (omega (arith, longer, e))) (attempt_waits part known place tried);
     }
@@ -247,7 +245,7 @@ swept part known waiting i left h k turn =
     record {
       sound = turn.sound;
       covers = λ p lost.
-        none_more (is_listed left p) (is_listed (drop i waiting) p) (ap (λ (xs : List Place). is_listed xs p) (drop_of_length-le waiting h)) (turn.covered p lost);
+          none_more (is_listed left p) (is_listed (drop i waiting) p) (ap (λ (xs : List Place). is_listed xs p) (drop_of_length-le waiting h)) (turn.covered p lost);
       fewer = omega (arith, turn.count);
       still = λ e. turn.still (e ∙ sym all);
     }

@@ -1,19 +1,18 @@
 -- The shown texts that are kept.
-use Rattle.std.proofs.Common.{◌≡◌, ◌⊎◌, ℕ, ◌+◌, ◌<◌, ◌≤◌, Bool, true, false, cond, ◌||◌, List, [], ◌∷◌, ◌++◌, length, take, get_or, Option, Some, None, Bor, refl, ap, sym, ◌∙◌, subst, ⊎_elim, unwrap_or}
+use Rattle.std.proofs.Common.{◌≡◌, ◌⊎◌, ℕ, ◌+◌, ◌<◌, ◌≤◌, Bool, true, false, cond, ◌||◌, List, [], ◌∷◌, ◌++◌, length, take, get_or, Option, Some, None, Bor, refl, ap, sym, ◌∙◌, ⊎_elim, unwrap_or}
 use Rattle.std.specs.Option.{option_copied}
 use Rattle.part_calc.specs.declared.contents.Content.{Content}
 use Rattle.part_calc.proofs.TextLaws.{empty_content}
 use Rattle.std.specs.BTreeMap.{is_at, insert_entry}
-use Rattle.std.specs.List.{list_any}
 use Rattle.std.specs.Map.{lookup}
-use Rattle.std.proofs.lemmas.Bool.{both_ways, cond-true, cond-false, or_cases}
+use Rattle.std.proofs.lemmas.Bool.{both_ways, cond-true, or_cases}
 use Rattle.std.proofs.lemmas.List.{take_all, take_more}
 use Rattle.std.proofs.lemmas.List.Folds.{list_any-append}
 use Rattle.formula_base.specs.declared.values.Value.{Value}
 use Rattle.formula_base.specs.declared.values.Value.TheVariants.{Fault}
 use Rattle.formula_base.specs.declared.values.CellFault.TheVariants.{Circ}
 use Rattle.formula_base.specs.Ranges.{Place, place_cmp}
-use Rattle.part_calc.specs.Contents.{content_of, is_formula}
+use Rattle.part_calc.specs.Contents.{is_formula}
 use Rattle.part_calc.specs.Parts.{Part, text_at, content_at, value_at}
 use Rattle.part_calc.specs.Shown.{shown_at, shown_value}
 use Rattle.part_calc.specs.Settling.{Known, known_at, is_listed, IsSettled}

@@ -1,5 +1,5 @@
 -- What cells show, and where two parts show different texts.
-use Rattle.std.specs.Prelude.{ℕ, Bool, not, List, [], fold, codes, if◌then◌else◌}
+use Rattle.std.specs.Prelude.{ℕ, Bool, not, List, fold, codes, if◌then◌else◌}
 use Rattle.std.specs.List.{filter}
 use Rattle.std.specs.Map.{keys_of}
 use Rattle.std.specs.BTreeSet.{insert_key}

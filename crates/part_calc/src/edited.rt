@@ -38,11 +38,7 @@ impl<'a> Model for Edited<'a> {
 
 impl<'a> Edited<'a> {
     /// The part of these cells once the cell at a place is this one.
-    pub fn of(
-        cells: &'a BTreeMap<(u32, u32), Cell>,
-        at: (u32, u32),
-        cell: &'a Cell,
-    ) -> Edited<'a>
+    pub fn of(cells: &'a BTreeMap<(u32, u32), Cell>, at: (u32, u32), cell: &'a Cell) -> Edited<'a>
         ensures { result ≡ with_text cells.now.entries at cell.now }
     {
         let _count = cells.len();

@@ -1,5 +1,5 @@
 //! `Part`: the cells of one part, with what they show.
-ghost use Rattle.std.specs.Prelude.{◌≡◌, ◌≢◌, ◌<◌, ◌↔◌, [], length, IfOk, OnOk, OnErr};
+ghost use Rattle.std.specs.Prelude.{◌≡◌, ◌≢◌, ◌<◌, ◌^◌, ◌↔◌, [], length, IfOk, OnOk, OnErr};
 ghost use Rattle.std.specs.List.{Contains};
 ghost use Rattle.std.specs.List.Sorted.{IsStrictlySortedBy};
 ghost use Rattle.std.specs.Map.{keys_of};
@@ -7,9 +7,10 @@ ghost use Rattle.sheet_cells.specs.Cells.{IsRaw};
 ghost use Rattle.formula_base.specs.Ranges.{Place, place_cmp};
 ghost use Rattle.part_calc.specs.Parts.{text_at, with_text};
 ghost use Rattle.part_calc.specs.Shown.{shown_at, changed_cells};
-ghost use Rattle.part_calc.specs.Kept.{IsPart};
+ghost use Rattle.part_calc.specs.Text.{part_lines};
 
 use crate::contents::Cell;
+use crate::lengths::lines_len;
 use crate::recalculation::{old_text, recalculate};
 use crate::shown::Shown;
 use cool_base::{ListOf, Memory};
@@ -64,6 +65,8 @@ impl Part {
         requires column { at.1 < 256 }
         requires valid { IsRaw raw.now }
         ensures ok { OnOk result (self.new ≡ with_text self.old at raw.now) }
+        ensures there { OnOk result (text_at self.new at ≡ raw.now) }
+        ensures elsewhere { OnOk result ((other : Place) → other ≢ at → text_at self.new other ≡ text_at self.old other) }
         ensures changed { IfOk result (λ changed. changed ≡ changed_cells self.old (with_text self.old at raw.now)) }
         ensures exactly { IfOk result (λ changed. (p : Place) → Contains changed p ↔ (shown_at self.old p ≢ shown_at self.new p)) }
         ensures in_order { IfOk result (λ changed. IsStrictlySortedBy place_cmp changed) }
@@ -93,15 +96,21 @@ impl Part {
             None => "",
         }
     }
+
+    /// How many bytes the part's lines have in the text of a file, as the part of this number: below
+    /// 2^31. The number is below 16.
+    pub fn text_len(&self, number: u32) -> u64
+        requires { number < 16 }
+        ensures length { result ≡ length (part_lines number self.now) }
+        ensures small { result < 2 ^ 31 }
+    {
+        lines_len(&self.cells, number)
+    }
 }
 
 // Gives the cell a text, or takes it out where the text is empty. After `Memory` all is unchanged.
 #[tactic(auto, unfolding(crate::specs::Parts::with_text))]
-fn put(
-    cells: &mut BTreeMap<(u32, u32), Cell>,
-    at: (u32, u32),
-    cell: Cell,
-) -> Result<(), Memory>
+fn put(cells: &mut BTreeMap<(u32, u32), Cell>, at: (u32, u32), cell: Cell) -> Result<(), Memory>
     ensures ok { OnOk result (cells.new.entries ≡ with_text cells.old.entries at cell) }
     ensures ordered { OnOk result (IsStrictlySortedBy place_cmp (keys_of cells.new.entries)) }
     ensures err { OnErr result (cells.new.entries ≡ cells.old.entries) }

@@ -58,10 +58,7 @@ fn into_list(alloc: Global, set: BTreeSet<(u32, u32)>) -> Result<Vec<(u32, u32)>
 }
 
 // The cells that have a text, as a list.
-fn list(
-    alloc: Global,
-    cells: &BTreeMap<(u32, u32), Cell>,
-) -> Result<Vec<(u32, u32)>, Memory>
+fn list(alloc: Global, cells: &BTreeMap<(u32, u32), Cell>) -> Result<Vec<(u32, u32)>, Memory>
     ensures { IfOk result (λ list. list.items ≡ keys_of cells.now.entries) }
 {
     Ok(cells.keys().copied().collect(alloc)?)

@@ -12,8 +12,8 @@ ghost use Rattle.formula_base.specs.declared.values.CellFault.TheVariants.{Circ}
 ghost use Rattle.formula_base.specs.Evaluation.{eval_of, reads_of};
 ghost use Rattle.part_calc.specs.Settling.{seen_in, seen_at, look_at, attempted, known_at, known_after, left_after, IsSound, Covers, IsSwept, IsSettled};
 
-use crate::edited::Edited;
 use crate::contents::Content;
+use crate::edited::Edited;
 use crate::order::order;
 use cool_base::Memory;
 use formula_base::{CellFault, Expr, Lookup, Value, eval, reads};
@@ -141,11 +141,7 @@ fn attempt_formula(
 }
 
 // Whether each of the cells is seen.
-fn are_seen(
-    edited: &Edited<'_>,
-    known: &BTreeMap<(u32, u32), Value>,
-    places: &[(u32, u32)],
-) -> bool
+fn are_seen(edited: &Edited<'_>, known: &BTreeMap<(u32, u32), Value>, places: &[(u32, u32)]) -> bool
     ensures { result ≡ list_all (λ r. is_some (seen_at edited.now known.now.entries r)) places.now }
 {
     places.iter().all(|place| is_seen(edited, known, *place))
@@ -153,11 +149,7 @@ fn are_seen(
 
 // Whether the cell's value is seen: the cell has no formula, or its value was found.
 #[tactic(auto, using(crate::proofs::SettleLaws::is_seen_plain, crate::proofs::SettleLaws::seen_formula))]
-fn is_seen(
-    edited: &Edited<'_>,
-    known: &BTreeMap<(u32, u32), Value>,
-    place: (u32, u32),
-) -> bool
+fn is_seen(edited: &Edited<'_>, known: &BTreeMap<(u32, u32), Value>, place: (u32, u32)) -> bool
     ensures { result ≡ is_some (seen_at edited.now known.now.entries place) }
 {
     match edited.formula(place) {

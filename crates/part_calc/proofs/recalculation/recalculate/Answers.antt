@@ -1,9 +1,3 @@
-use Rattle.std.proofs.Common.{◌≡◌, true, List, ap, ◌∙◌}
-use Rattle.std.specs.List.{filter}
-use Rattle.formula_base.specs.Ranges.{Place}
-use Rattle.part_calc.specs.Contents.{is_formula}
-use Rattle.part_calc.specs.Parts.{Part, with_text, content_at}
-use Rattle.part_calc.specs.Settling.{is_listed}
 use Rattle.part_calc.proofs.ChangeLaws.{covers_formulas, computed_cover, changed_is}
 use Rattle.part_calc.proofs.recalculation.recalculate.Goals as goal
 

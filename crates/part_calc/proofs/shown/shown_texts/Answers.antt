@@ -5,7 +5,7 @@ use Rattle.part_calc.proofs.ShownLaws.{shown_turn, shown_end}
 use Rattle.part_calc.proofs.shown.shown_texts.Goals as goal
 
 pub loop-place-preserved : goal.loop-place-preserved
-loop-place-preserved c = 
+loop-place-preserved c =
     let formulas = c.args.formulas.now in
     let i = c.loop-place.place-index in
     let within : i < length formulas = omega arith in
