@@ -1,0 +1,4 @@
+pub mod Repeats
+pub mod Quoting
+pub mod Turning
+pub mod Wholes

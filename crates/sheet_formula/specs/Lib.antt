@@ -1,0 +1,4 @@
+pub mod Tokens
+pub mod Cutting
+pub mod Reading
+pub mod Grammar
