@@ -1,12 +1,10 @@
 -- What the grammar says is read, whatever follows that can't go on.
-use Rattle.std.proofs.Common.{◌≡◌, ◌≢◌, ◌⊎◌, inl, inr, ℕ, ℤ, zero, suc, ◌<◌, ◌≤◌, ◌+◌, Bool, true, false, List, [], ◌∷◌, ◌++◌, length, refl, sym, ◌∙◌, ap, subst, append_assoc, append-nil, length-append, arith}
+use Rattle.std.proofs.Common.{◌≡◌, ◌≢◌, inl, inr, ℕ, zero, suc, ◌≤◌, ◌+◌, Bool, true, false, List, [], ◌∷◌, ◌++◌, length, refl, sym, ◌∙◌, ap, subst, append_assoc, append-nil, length-append, arith}
 use Rattle.std.specs.Prelude.{Option, Some, None, option_and_then, cond, ◌==◌, if◌then◌else◌}
 use Rattle.formula_base.specs.declared.expressions.Argument.{Argument}
 use Rattle.formula_base.specs.declared.expressions.Argument.TheVariants as argument
 use Rattle.formula_base.specs.declared.expressions.Operator.{Operator}
 use Rattle.formula_base.specs.declared.expressions.Operator.TheVariants as sign
-use Rattle.formula_base.specs.declared.expressions.Comparison.{Comparison}
-use Rattle.formula_base.specs.declared.expressions.Function.{Function as Named}
 use Rattle.formula_base.specs.declared.expressions.Link.{Link}
 use Rattle.formula_base.specs.declared.expressions.Expr.{Expr}
 use Rattle.formula_base.specs.declared.expressions.Expr.TheVariants as e
@@ -14,11 +12,11 @@ use Rattle.sheet_formula.specs.declared.tokens.Token.{Token}
 use Rattle.sheet_formula.specs.declared.tokens.Token.TheVariants.{Number, Words, Cell, Function, If, Sign, Compare, Open, Close, Comma, Colon}
 use Rattle.sheet_formula.specs.declared.levels.Level.{Level}
 use Rattle.sheet_formula.specs.declared.levels.Level.TheVariants as level
-use Rattle.sheet_formula.specs.Tokens.{Text, tokens_of}
+use Rattle.sheet_formula.specs.Tokens.{Text}
 use Rattle.sheet_formula.specs.Reading.{Reading, pure, refused, next, on_read, ◌>>=◌}
-use Rattle.sheet_formula.specs.Grammar.{is_of_level, sign_of_level, comparison_sign, open_sign, close_sign, comma_sign, joined, links, chain, level_of, compared_with, comparison, part, is_range, cell, range, argument_of, arguments, behind_argument, choice, nested, by_token, fact, formula, formula_of}
-use Rattle.formula_laws.specs.Language.{Says, AreLinks, IsChain, IsSum, AreCompared, IsComparison, IsArgument, AreArguments, IsLeaf, IsNegation, IsBracket, IsCall, IsChoice, IsNested, IsFact, IsFormula}
-use Rattle.formula_laws.proofs.Sound.{links_none, links_step, no_some, same_some, compared_none, compared_some, range_true, argument_plain, three}
+use Rattle.sheet_formula.specs.Grammar.{is_of_level, sign_of_level, comparison_sign, close_sign, comma_sign, joined, links, chain, level_of, compared_with, comparison, part, is_range, range, argument_of, arguments, behind_argument, choice, nested, by_token, fact, formula, formula_of}
+use Rattle.formula_laws.specs.Language.{Says, AreLinks, IsChain, IsSum, IsComparison, IsArgument, AreArguments, IsLeaf, IsNegation, IsBracket, IsCall, IsChoice, IsFact, IsFormula}
+use Rattle.formula_laws.proofs.Sound.{links_none, links_step, same_some, compared_none, compared_some, range_true, argument_plain, three}
 
 -- what is said is read, where what follows is of a kind
 abbrev pub Complete : {A : Type 0} → Reading A → Says A → (List Token → Type 0) → Type 0
@@ -115,7 +113,7 @@ sum_complete : (fact : Reading Expr) (Is : Says Expr) → Complete fact Is Anyth
 unfolding level_of
 sum_complete fact Is complete =
     chain_complete level.Sum (chain level.Product fact) (IsChain level.Product Is) NoOperator (NoSign level.Product)
-      (chain_complete level.Product fact Is (NoSign level.Product) Anything complete product_ends) sum_ends
+    (chain_complete level.Product fact Is (NoSign level.Product) Anything complete product_ends) sum_ends
 
 comparison_complete : (fact : Reading Expr) (Is : Says Expr) → Complete fact Is Anything → Complete (comparison fact) (IsComparison Is) EndsComparison
 unfolding comparison
@@ -243,7 +241,7 @@ call_complete depth complete cells front rest value is follows =
     ∙ nested_token depth (Function is.0) (Open ∷ ((a ++ Close ∷ []) ++ rest)) refl
     ∙ ap (λ (ts : List Token). on_read (read ts) (λ (values : List (Argument Expr)). pure (e.Call is.0 values))) (append_assoc a (Close ∷ []) rest)
     ∙ then_read (read (a ++ Close ∷ rest)) (λ values. pure (e.Call is.0 values)) values rest
-        (arguments_complete (fact depth) (IsFact depth) complete cells values (length (a ++ Close ∷ rest)) a rest (omega (arith, few, length-append a (Close ∷ rest))) is.5)
+    (arguments_complete (fact depth) (IsFact depth) complete cells values (length (a ++ Close ∷ rest)) a rest (omega (arith, few, length-append a (Close ∷ rest))) is.5)
     ∙ ap (λ (x : Expr). Some (x, rest)) (sym is.3)
 
 choice_complete : (depth : ℕ) → Complete (fact depth) (IsFact depth) Anything → Complete (fact (suc depth)) (IsChoice (IsFact depth)) Anything
@@ -284,14 +282,14 @@ unfolding IsFact
 fact_complete zero front rest value is follows = leaf_complete zero front rest value is follows
 fact_complete (suc depth) front rest value is follows =
     elim is [
-      inl leaf ↦ leaf_complete (suc depth) front rest value leaf follows
-    | inr inside ↦ elim inside [
-        inl a ↦ negate_complete depth (fact_complete depth) front rest value a follows
-      | inr others ↦ elim others [
-          inl b ↦ bracket_complete depth (fact_complete depth) front rest value b follows
-        | inr calls ↦ elim calls [
-            inl c ↦ call_complete depth (fact_complete depth) (cells_are_facts depth) front rest value c follows
-          | inr d ↦ choice_complete depth (fact_complete depth) front rest value d follows
+      | inl leaf ↦ leaf_complete (suc depth) front rest value leaf follows
+      | inr inside ↦ elim inside [
+        | inl a ↦ negate_complete depth (fact_complete depth) front rest value a follows
+        | inr others ↦ elim others [
+          | inl b ↦ bracket_complete depth (fact_complete depth) front rest value b follows
+          | inr calls ↦ elim calls [
+            | inl c ↦ call_complete depth (fact_complete depth) (cells_are_facts depth) front rest value c follows
+            | inr d ↦ choice_complete depth (fact_complete depth) front rest value d follows
           ]
         ]
       ]

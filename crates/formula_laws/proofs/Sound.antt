@@ -1,5 +1,5 @@
 -- What is read is said by the grammar.
-use Rattle.std.proofs.Common.{◌≡◌, ◌⊎◌, inl, inr, ℕ, ℤ, zero, suc, Bool, true, false, List, [], ◌∷◌, ◌++◌, length, refl, sym, ◌∙◌, ap, subst, append_assoc, append-nil, arith}
+use Rattle.std.proofs.Common.{◌≡◌, ◌⊎◌, inl, inr, ℕ, zero, suc, Bool, true, false, List, [], ◌∷◌, ◌++◌, length, refl, sym, ◌∙◌, ap, subst, append_assoc, append-nil, arith}
 use Rattle.std.proofs.lemmas.Bool.{eqb-true}
 use Rattle.std.specs.Prelude.{Option, Some, None, option_and_then, cond, nat_eq, ◌==◌, if◌then◌else◌}
 use Rattle.formula_base.specs.declared.expressions.Argument.{Argument}
@@ -18,7 +18,7 @@ use Rattle.sheet_formula.specs.declared.levels.Level.TheVariants as level
 use Rattle.sheet_formula.specs.Tokens.{Text, tokens_of}
 use Rattle.sheet_formula.specs.Reading.{Reading, pure, refused, next, on_read, ◌>>=◌}
 use Rattle.sheet_formula.specs.Grammar.{is_of_level, sign_of_level, comparison_sign, open_sign, close_sign, comma_sign, joined, links, chain, level_of, compared_with, comparison, part, is_range, cell, range, argument_of, arguments, behind_argument, choice, nested, by_token, fact, formula, formula_of}
-use Rattle.formula_laws.specs.Language.{Says, AreLinks, IsChain, IsSum, AreCompared, IsComparison, IsArgument, AreArguments, IsLeaf, IsNegation, IsBracket, IsCall, IsChoice, IsNested, IsFact, IsFormula}
+use Rattle.formula_laws.specs.Language.{Says, AreLinks, IsChain, IsSum, AreCompared, IsComparison, IsArgument, AreArguments, IsLeaf, IsCall, IsChoice, IsNested, IsFact, IsFormula}
 
 -- what was read stands at the front, and is said so
 abbrev pub Front : {A : Type 0} → Says A → List Token → A → List Token → Type 0
@@ -107,8 +107,8 @@ links_from this operand Is sound n tokens rest values more (Some found) e h =
     let p = sound found.1 a.1 a.0 a.2 in
     let q = more a.1 b.1 b.0 b.2 in
     given (AreLinks this Is) tokens (Sign found.0 ∷ (p.0 ++ q.0)) b.1 rest (record { operator = found.0; operand = a.0 } ∷ b.0) values b.3
-      (signed.0 ∙ ap (λ (ts : List Token). Sign found.0 ∷ ts) (p.1 ∙ ap (λ (ts : List Token). p.0 ++ ts) q.1 ∙ sym (append_assoc p.0 q.0 b.1)))
-      (p.0, q.0, refl, signed.1, p.2, q.2)
+    (signed.0 ∙ ap (λ (ts : List Token). Sign found.0 ∷ ts) (p.1 ∙ ap (λ (ts : List Token). p.0 ++ ts) q.1 ∙ sym (append_assoc p.0 q.0 b.1)))
+    (p.0, q.0, refl, signed.1, p.2, q.2)
 
 links_sound : (this : Level) (operand : Reading Expr) (Is : Says Expr) → Sound operand Is → (n : ℕ) → Sound (links this operand n) (AreLinks this Is)
 links_sound this operand Is sound zero tokens rest values h = no_links this Is tokens rest values (sym (links_zero this operand tokens) ∙ h)
@@ -122,8 +122,8 @@ chain_sound this operand Is sound tokens rest value h =
     let p = sound tokens a.1 a.0 a.2 in
     let q = links_sound this operand Is sound (length a.1) a.1 b.1 b.0 b.2 in
     given (IsChain this Is) tokens (p.0 ++ q.0) b.1 rest (joined a.0 b.0) value b.3
-      (p.1 ∙ ap (λ (ts : List Token). p.0 ++ ts) q.1 ∙ sym (append_assoc p.0 q.0 b.1))
-      (a.0, b.0, p.0, q.0, refl, refl, p.2, q.2)
+    (p.1 ∙ ap (λ (ts : List Token). p.0 ++ ts) q.1 ∙ sym (append_assoc p.0 q.0 b.1))
+    (a.0, b.0, p.0, q.0, refl, refl, p.2, q.2)
 
 sum_sound : (fact : Reading Expr) (Is : Says Expr) → Sound fact Is → Sound (level_of level.Sum fact) (IsSum Is)
 unfolding level_of
@@ -148,8 +148,8 @@ compared_from sum Is sound front behind rest left value is (Some found) seen h =
     let a = first_read (sum found.1) (λ right. pure (e.Compare found.0 left right)) value rest (sym (compared_some sum left behind found.1 found.0 seen) ∙ h) in
     let p = sound found.1 a.1 a.0 a.2 in
     given (λ (ts : List Token) (x : Expr). Is ts x ⊎ AreCompared Is ts x) (front ++ behind) (front ++ Compare found.0 ∷ p.0) a.1 rest (e.Compare found.0 left a.0) value a.3
-      (ap (λ (ts : List Token). front ++ ts) (signed ∙ ap (λ (ts : List Token). Compare found.0 ∷ ts) p.1) ∙ sym (append_assoc front (Compare found.0 ∷ p.0) a.1))
-      (inr (found.0, left, a.0, front, p.0, refl, refl, is, p.2))
+    (ap (λ (ts : List Token). front ++ ts) (signed ∙ ap (λ (ts : List Token). Compare found.0 ∷ ts) p.1) ∙ sym (append_assoc front (Compare found.0 ∷ p.0) a.1))
+    (inr (found.0, left, a.0, front, p.0, refl, refl, is, p.2))
 
 comparison_sound : (fact : Reading Expr) (Is : Says Expr) → Sound fact Is → Sound (comparison fact) (IsComparison Is)
 unfolding comparison
@@ -171,7 +171,7 @@ part_sound fact Is end mark sound marked tokens rest value h =
     let b = first_read (end a.1) (λ _. pure a.0) value rest a.3 in
     let p = comparison_sound fact Is sound tokens a.1 a.0 a.2 in
     subst (λ (q : Expr × List Token). Ended Is mark tokens q.0 q.1) (same_some (a.0, b.1) (value, rest) b.3)
-      (p.0, p.1 ∙ ap (λ (ts : List Token). p.0 ++ ts) (marked a.1 b.1 b.0 b.2), p.2)
+    (p.0, p.1 ∙ ap (λ (ts : List Token). p.0 ++ ts) (marked a.1 b.1 b.0 b.2), p.2)
 
 pub range_true : (tokens : List Token) → is_range tokens ≡ true → (first : ℕ × ℕ) × (rest : List Token) × (tokens ≡ Cell first ∷ (Colon ∷ rest))
 range_true (Cell first ∷ (Colon ∷ rest)) h = (first, rest, refl)
@@ -201,8 +201,8 @@ range_sound Is tokens rest value seen h =
     let ends = cell_read b.1 c.1 c.0 c.2 in
     let colon : b.0 ≡ Colon = colon_of s.0 a.0 b.0 s.1 b.1 (sym s.2 ∙ begins ∙ ap (λ (ts : List Token). Cell a.0 ∷ ts) behind) in
     given (IsArgument Is) tokens (Cell a.0 ∷ (Colon ∷ (Cell c.0 ∷ []))) c.1 rest (argument.Range a.0 c.0) value c.3
-      (begins ∙ ap (λ (ts : List Token). Cell a.0 ∷ ts) (behind ∙ ap (λ (t : Token). t ∷ b.1) colon ∙ ap (λ (ts : List Token). Colon ∷ ts) ends))
-      refl
+    (begins ∙ ap (λ (ts : List Token). Cell a.0 ∷ ts) (behind ∙ ap (λ (t : Token). t ∷ b.1) colon ∙ ap (λ (ts : List Token). Colon ∷ ts) ends))
+    refl
 
 pub argument_plain : (fact : Reading Expr) (tokens : List Token) → is_range tokens ≡ false → argument_of fact tokens ≡ (comparison fact >>= λ value. pure (argument.One value)) tokens
 unfolding argument_of
@@ -226,10 +226,11 @@ Listed Is tokens values rest = (front : List Token) × (tokens ≡ front ++ Clos
 -- an argument, a comma and further ones
 listed_more : (Is : Says Expr) (tokens front behind rest : List Token) (value : Argument Expr) (values : List (Argument Expr)) → tokens ≡ front ++ Comma ∷ behind → IsArgument Is front value → Listed Is behind values rest → Listed Is tokens (value ∷ values) rest
 listed_more Is tokens front behind rest value [] split is more = absurd more.2
-listed_more Is tokens front behind rest value (other ∷ values) split is more =
-    (front ++ Comma ∷ more.0,
-     split ∙ ap (λ (ts : List Token). front ++ Comma ∷ ts) more.1 ∙ sym (append_assoc front (Comma ∷ more.0) (Close ∷ rest)),
-     (front, more.0, refl, is, more.2))
+listed_more Is tokens front behind rest value (other ∷ values) split is more = (
+  front ++ Comma ∷ more.0,
+  split ∙ ap (λ (ts : List Token). front ++ Comma ∷ ts) more.1 ∙ sym (append_assoc front (Comma ∷ more.0) (Close ∷ rest)),
+  (front, more.0, refl, is, more.2),
+)
 
 further_sound : (Is : Says Expr) (further : Reading (List (Argument Expr))) → ((tokens rest : List Token) (values : List (Argument Expr)) → further tokens ≡ Some (values, rest) → Listed Is tokens values rest)
     → (tokens front behind rest : List Token) (value : Argument Expr) (values : List (Argument Expr)) (token : Token) → tokens ≡ front ++ token ∷ behind → IsArgument Is front value
@@ -261,9 +262,9 @@ choice_sound fact Is sound tokens rest value h =
     let q = part_sound fact Is comma_sign Comma sound comma_read a.1 b.1 b.0 b.2 in
     let r = part_sound fact Is close_sign Close sound close_read b.1 c.1 c.0 c.2 in
     given (IsChoice Is) (If ∷ tokens) (If ∷ (Open ∷ (p.0 ++ Comma ∷ (q.0 ++ Comma ∷ (r.0 ++ Close ∷ []))))) c.1 rest (e.If a.0 b.0 c.0) value c.3
-      (ap (λ (ts : List Token). If ∷ ts) (open_read tokens o.1 o.0 o.2 ∙ ap (λ (ts : List Token). Open ∷ ts) (p.1 ∙ ap (λ (ts : List Token). p.0 ++ Comma ∷ ts) (q.1 ∙ ap (λ (ts : List Token). q.0 ++ Comma ∷ ts) r.1)))
-        ∙ ap (λ (ts : List Token). If ∷ (Open ∷ ts)) (three p.0 q.0 r.0 c.1))
-      (a.0, b.0, c.0, p.0, q.0, r.0, refl, refl, p.2, q.2, r.2)
+    (ap (λ (ts : List Token). If ∷ ts) (open_read tokens o.1 o.0 o.2 ∙ ap (λ (ts : List Token). Open ∷ ts) (p.1 ∙ ap (λ (ts : List Token). p.0 ++ Comma ∷ ts) (q.1 ∙ ap (λ (ts : List Token). q.0 ++ Comma ∷ ts) r.1)))
+    ∙ ap (λ (ts : List Token). If ∷ (Open ∷ ts)) (three p.0 q.0 r.0 c.1))
+    (a.0, b.0, c.0, p.0, q.0, r.0, refl, refl, p.2, q.2, r.2)
 
 call_sound : (fact : Reading Expr) (Is : Says Expr) → Sound fact Is → (name : Named) (tokens rest : List Token) (value : Expr) → (open_sign >>= λ _. (λ tokens. arguments fact (length tokens) tokens) >>= λ values. pure (e.Call name values)) tokens ≡ Some (value, rest) → Front (IsCall Is) (Function name ∷ tokens) value rest
 call_sound fact Is sound name tokens rest value h =
@@ -271,8 +272,8 @@ call_sound fact Is sound name tokens rest value h =
     let a = first_read (arguments fact (length o.1) o.1) (λ values. pure (e.Call name values)) value rest o.3 in
     let p = arguments_sound fact Is sound (length o.1) o.1 a.1 a.0 a.2 in
     given (IsCall Is) (Function name ∷ tokens) (Function name ∷ (Open ∷ (p.0 ++ Close ∷ []))) a.1 rest (e.Call name a.0) value a.3
-      (ap (λ (ts : List Token). Function name ∷ ts) (open_read tokens o.1 o.0 o.2 ∙ ap (λ (ts : List Token). Open ∷ ts) (p.1 ∙ sym (append_assoc p.0 (Close ∷ []) a.1))))
-      (name, a.0, p.0, refl, refl, p.2)
+    (ap (λ (ts : List Token). Function name ∷ ts) (open_read tokens o.1 o.0 o.2 ∙ ap (λ (ts : List Token). Open ∷ ts) (p.1 ∙ sym (append_assoc p.0 (Close ∷ []) a.1))))
+    (name, a.0, p.0, refl, refl, p.2)
 
 nested_sound : (fact : Reading Expr) (Is : Says Expr) → Sound fact Is → (token : Token) (tokens rest : List Token) (value : Expr) → nested fact token tokens ≡ Some (value, rest) → Front (IsNested Is) (token ∷ tokens) value rest
 unfolding nested
