@@ -1,0 +1,75 @@
+#!/bin/sh
+# Times one edit of a chain of 4,096 cells: A1 holds a number, and every further cell of column A is one
+# more than the cell above it. Run it at the top of the repository; it takes what is committed there, and
+# works in a folder of its own.
+set -eu
+folder=$(mktemp -d)
+trap 'rm -rf "$folder"' EXIT
+git archive HEAD crates crates.txt HANDLES | tar -x -C "$folder"
+cd "$folder"
+rt new crates/chain_bench start_io >/dev/null
+rm -rf crates/chain_bench/BUILD.bazel crates/chain_bench/stdin crates/chain_bench/stdout crates/chain_bench/proofs/* crates/chain_bench/specs/*
+: >crates/chain_bench/specs/Lib.antt
+echo "chain_bench: cool_base sheet_cells sheet_calc" >>crates.txt
+cat >crates/chain_bench/src/main.rt <<'END'
+//! Times one edit of a chain of 4,096 cells.
+#![tactic(auto)]
+
+use sheet_calc::{Book, Changed, is_raw};
+use sheet_cells::CellRef;
+use std::alloc::Global;
+use std::process::ExitCode;
+use std::time::Instant;
+
+fn main(rt: HostRuntime) -> ExitCode {
+    match timed(&rt) {
+        Some(()) => ExitCode::SUCCESS,
+        None => ExitCode::FAILURE,
+    }
+}
+
+fn timed(rt: &HostRuntime) -> Option<()> {
+    let begun = Instant::now(rt).ok()?;
+    let mut book = chain(rt.alloc())?;
+    let built = begun.elapsed(rt).ok()?.as_millis();
+    let start = Instant::now(rt).ok()?;
+    let changed = edit(rt.alloc(), &mut book, 0, "2")?;
+    let taken = start.elapsed(rt).ok()?.as_micros();
+    let count = changed.places.get().len();
+    println!(rt; "4,096 edits that build the chain: {built} ms").ok()?;
+    println!(rt; "one edit of its first cell: {taken} us, {count} cells changed").ok()?;
+    Some(())
+}
+
+// The chain, whose first cell holds 1.
+fn chain(alloc: Global) -> Option<Book> {
+    let mut book = Book::new(alloc, 1).ok()?;
+    edit(alloc, &mut book, 0, "1")?;
+    for row in 1..4096u32 {
+        let raw = format!(in alloc; "=A{row}+1").ok()?;
+        edit(alloc, &mut book, row, raw.as_str())?;
+    }
+    Some(book)
+}
+
+// Gives a cell of column A a raw text.
+fn edit(alloc: Global, book: &mut Book, row: u32, raw: &str) -> Option<Changed> {
+    if !is_raw(raw) {
+        return None;
+    }
+    if row >= 4096 {
+        return None;
+    }
+    if book.parts() == 0 {
+        return None;
+    }
+    let at = CellRef {
+        part: 0,
+        row,
+        col: 0,
+    };
+    book.set(alloc, &at, raw).ok()
+}
+END
+cd crates/chain_bench
+rt "${1:-run}"

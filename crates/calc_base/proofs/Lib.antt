@@ -1,0 +1,4 @@
+pub mod Counting
+pub mod WalkLaws
+pub mod ValueLaws
+pub mod Examples

@@ -1,0 +1,78 @@
+-- What is kept of a part stays right.
+use Rattle.std.proofs.Common.{◌≡◌, ◌≢◌, ◌↔◌, ℕ, ◌<◌, Bool, true, false, cond, List, [], ◌∷◌, refl, ap, sym, ◌∙◌, subst, arith}
+use Rattle.std.specs.BTreeMap.{is_at, insert_entry}
+use Rattle.std.specs.List.{AllByRecursion, Contains}
+use Rattle.std.specs.List.Sorted.{IsStrictlySortedBy}
+use Rattle.std.specs.Map.{keys_of, remove_entry}
+use Rattle.std.specs.Ordering.{match_ordering}
+use Rattle.std.specs.declared.cmp.Ordering.{Ordering}
+use Rattle.std.specs.declared.cmp.Ordering.TheVariants.{Less, Equal, Greater}
+use Rattle.std.proofs.lemmas.Bool.{both_ways}
+use Rattle.sheet_cells.specs.Cells.{IsRaw}
+use Rattle.formula_base.specs.Ranges.{Place, place_cmp}
+use Rattle.part_calc.specs.Contents.{is_formula}
+use Rattle.part_calc.specs.Parts.{Part, text_at, with_text}
+use Rattle.part_calc.specs.Shown.{shown_at, changed_cells}
+use Rattle.part_calc.specs.Kept.{IsShown, IsEntry, IsPart}
+use Rattle.part_calc.proofs.PlaceLaws.{exact_places}
+use Rattle.part_calc.proofs.TextLaws.{empty_content, text_same, text_other}
+use Rattle.part_calc.proofs.ChangeLaws.{changed_iff, changed_ordered}
+
+-- a part without cells
+empty_kept : (shown : List (Place × List ℕ)) → IsPart [] × IsShown [] shown
+unfolding text_at IsStrictlySortedBy
+empty_kept shown = (record { ordered = tt; entries = tt }, λ p is. absurd (both_ways false refl (ap is_formula (sym empty_content) ∙ is)))
+
+pub none_kept : (part : Part) (shown : List (Place × List ℕ)) → part ≡ [] → IsPart part × IsShown part shown
+none_kept part shown none = subst (λ (s : Part). IsPart s × IsShown s shown) (sym none) (empty_kept shown)
+
+-- entries keep to what they are
+remove_keeps : (P : Place × List ℕ → Type 0) (test : Place → Bool) (part : Part) → AllByRecursion P part → AllByRecursion P (remove_entry test part)
+remove_keeps P test [] all = tt
+remove_keeps P test (e ∷ part) all = by (test e.0) (remove_keeps P test part all.1)
+  where
+    by : (b : Bool) → AllByRecursion P (remove_entry test part) → AllByRecursion P (cond b part (e ∷ remove_entry test part))
+    by true ih = all.1
+    by false ih = (all.0, ih)
+
+insert_keeps : (P : Place × List ℕ → Type 0) (part : Part) (k : Place) (raw : List ℕ) → AllByRecursion P part → P (k, raw) → AllByRecursion P (insert_entry place_cmp part k raw)
+insert_keeps P [] k raw all here = (here, tt)
+insert_keeps P (e ∷ part) k raw all here = by (place_cmp k e.0) refl (insert_keeps P part k raw all.1 here)
+  where
+    by : (o : Ordering) → place_cmp k e.0 ≡ o → AllByRecursion P (insert_entry place_cmp part k raw) → AllByRecursion P (match_ordering o ((k, raw) ∷ e ∷ part) ((e.0, raw) ∷ part) (e ∷ insert_entry place_cmp part k raw))
+    by Less h ih = (here, all)
+    by Equal h ih = (subst (λ (q : Place). P (q, raw)) (exact_places k e.0 h) here, all.1)
+    by Greater h ih = (all.0, ih)
+
+entries_kept : (part : Part) (at : Place) (raw : List ℕ) → AllByRecursion IsEntry part → at.0 < 4096 → at.1 < 256 → IsRaw raw → AllByRecursion IsEntry (with_text part at raw)
+unfolding with_text
+entries_kept part at [] all row column valid = remove_keeps IsEntry (is_at (place_cmp at)) part all
+entries_kept part at (c ∷ raw) all row column valid =
+    insert_keeps IsEntry part at (c ∷ raw) all (record { row = row; column = column; some = omega arith; raw = valid })
+
+-- an edit
+pub set_kept : (inside after : Part) (at : Place) (cell raw : List ℕ) (shown : List (Place × List ℕ)) → IsPart inside → at.0 < 4096 → at.1 < 256 → IsRaw raw → cell ≡ raw → after ≡ with_text inside at cell → IsStrictlySortedBy place_cmp (keys_of after)
+    → IsShown (with_text inside at cell) shown → IsPart after × IsShown after shown
+set_kept inside after at cell raw shown part row column valid is put sorted kept = (
+  record {
+    ordered = sorted;
+    entries = subst (AllByRecursion IsEntry) (sym put) (subst (λ (r : List ℕ). AllByRecursion IsEntry (with_text inside at r)) (sym is) (entries_kept inside at raw part.entries row column valid));
+  },
+  subst (λ (s : Part). IsShown s shown) (sym put) kept,
+)
+
+-- what it answers
+pub set_exactly : (inside before after : Part) (at : Place) (cell : List ℕ) (changed : List Place) → inside ≡ before → after ≡ with_text inside at cell → changed ≡ changed_cells inside (with_text inside at cell) → (p : Place) → Contains changed p ↔ (shown_at before p ≢ shown_at after p)
+set_exactly inside before after at cell changed view put told p =
+    subst (λ (ps : List Place). Contains ps p ↔ (shown_at before p ≢ shown_at after p))
+    (sym (told ∙ ap (changed_cells inside) (sym put) ∙ ap (λ (s : Part). changed_cells s after) view)) (changed_iff before after p)
+
+pub set_in_order : (inside : Part) (at : Place) (cell : List ℕ) (changed : List Place) → IsPart inside → changed ≡ changed_cells inside (with_text inside at cell) → IsStrictlySortedBy place_cmp changed
+set_in_order inside at cell changed part told = subst (IsStrictlySortedBy place_cmp) (sym told) (changed_ordered inside (with_text inside at cell) part.ordered)
+
+pub set_there : (inside after : Part) (at : Place) (cell raw : List ℕ) → IsPart inside → cell ≡ raw → after ≡ with_text inside at cell → text_at after at ≡ raw
+set_there inside after at cell raw part is put = ap (λ (s : Part). text_at s at) put ∙ text_same inside at cell part.ordered ∙ is
+
+pub set_elsewhere : (inside before after : Part) (at : Place) (cell : List ℕ) → IsPart inside → inside ≡ before → after ≡ with_text inside at cell → (other : Place) → other ≢ at → text_at after other ≡ text_at before other
+set_elsewhere inside before after at cell part view put other apart =
+    ap (λ (s : Part). text_at s other) put ∙ text_other inside at cell other part.ordered apart ∙ ap (λ (s : Part). text_at s other) view

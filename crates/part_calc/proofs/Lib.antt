@@ -1,0 +1,10 @@
+pub mod PlaceLaws
+pub mod TextLaws
+pub mod LocalLaws
+pub mod PartLaws
+pub mod SettleLaws
+pub mod ShownLaws
+pub mod ListLaws
+pub mod ChangeLaws
+pub mod KeptLaws
+pub mod LengthLaws

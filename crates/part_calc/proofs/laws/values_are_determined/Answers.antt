@@ -1,0 +1,7 @@
+use Rattle.part_calc.specs.Parts.{is_circular}
+use Rattle.part_calc.proofs.PartLaws.{part_only}
+use Rattle.part_calc.proofs.laws.values_are_determined.Goals as goal
+
+pub returns : goal.returns
+unfolding is_circular
+returns c = part_only

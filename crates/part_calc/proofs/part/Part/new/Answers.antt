@@ -1,0 +1,5 @@
+use Rattle.part_calc.proofs.KeptLaws.{none_kept}
+use Rattle.part_calc.proofs.part.Part.new.Goals as goal
+
+pub invariant_of-result : goal.invariant_of-result
+invariant_of-result c = none_kept c.new.result.entries c.new-2.result.entries c.new.ensures.empty

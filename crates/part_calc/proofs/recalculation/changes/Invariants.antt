@@ -1,0 +1,7 @@
+use Rattle.std.proofs.Common.{◌≡◌, take}
+use Rattle.std.specs.List.{filter}
+use Rattle.part_calc.specs.Shown.{differs}
+use Rattle.part_calc.proofs.recalculation.changes.Given as goal
+
+abbrev pub invariant-loop-place : goal.invariant-loop-place
+invariant-loop-place l = l.changed ≡ filter (differs l.cells.entries l.edited) (take l.place-index l.places)

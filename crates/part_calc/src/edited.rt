@@ -1,0 +1,90 @@
+//! A part as it is with one more edit.
+ghost use Rattle.std.specs.Prelude.{◌≡◌, [], false, MatchOption};
+ghost use Rattle.part_calc.specs.Contents.{is_formula, content_of};
+ghost use Rattle.part_calc.specs.Parts.{text_at, with_text, content_at};
+ghost use Rattle.part_calc.specs.declared.contents.Content.TheVariants.{Plain, Formula};
+ghost use Rattle.formula_base.specs.declared.values.Value.TheVariants.{Empty};
+
+use crate::contents::{Cell, Content};
+use formula_base::Expr;
+use std::collections::BTreeMap;
+use std::marker::Model;
+
+/// A part as it is once a cell has another raw text, of which no copy is made. Contracts see it as that
+/// part.
+#[derive(Drop)]
+pub struct Edited<'a> {
+    cells: &'a BTreeMap<(u32, u32), Cell>,
+    at: (u32, u32),
+    cell: &'a Cell,
+}
+
+impl<'a> Model for Edited<'a> {
+    ghost use Rattle.std.specs.Prelude.{List, ℕ};
+    ghost use Rattle.std.specs.Map.{keys_of};
+    ghost use Rattle.std.specs.List.Sorted.{IsStrictlySortedBy};
+    ghost use Rattle.std.specs.Coded.{coded×, coded_list, coded_ℕ};
+    ghost use Rattle.formula_base.specs.Ranges.{place_cmp};
+    ghost use Rattle.part_calc.specs.Parts.{Part, with_text};
+
+    ghost Value = { Part };
+
+    ghost coded = { coded_list (coded× (coded× coded_ℕ coded_ℕ) (coded_list coded_ℕ)) };
+
+    ghost view = { λ e. with_text e.cells.now.entries e.at e.cell.now };
+
+    ghost invariant = { λ e. IsStrictlySortedBy place_cmp (keys_of e.cells.now.entries) };
+}
+
+impl<'a> Edited<'a> {
+    /// The part of these cells once the cell at a place is this one.
+    pub fn of(cells: &'a BTreeMap<(u32, u32), Cell>, at: (u32, u32), cell: &'a Cell) -> Edited<'a>
+        ensures { result ≡ with_text cells.now.entries at cell.now }
+    {
+        let _count = cells.len();
+        Edited { cells, at, cell }
+    }
+
+    /// The cell at a place; None only where it has no raw text.
+    pub fn cell(&self, place: (u32, u32)) -> Option<&'a Cell>
+        ensures { MatchOption result (text_at self.now place ≡ []) (λ cell. cell.now ≡ text_at self.now place) }
+    {
+        if place == self.at {
+            Some(self.cell)
+        } else {
+            self.cells.get(&place)
+        }
+    }
+
+    /// What the text at a place says; None only where there is none.
+    #[tactic(auto, using(crate::proofs::TextLaws::empty_at))]
+    pub fn content(&self, place: (u32, u32)) -> Option<&'a Content>
+        ensures { MatchOption result (content_at self.now place ≡ Plain Empty) (λ content. content.now ≡ content_at self.now place) }
+    {
+        match self.cell(place) {
+            Some(cell) => Some(cell.content()),
+            None => None,
+        }
+    }
+
+    /// The formula at a place.
+    #[tactic(auto, using(crate::proofs::TextLaws::no_formula))]
+    pub fn formula(&self, place: (u32, u32)) -> Option<&'a Expr>
+        ensures { MatchOption result (is_formula (content_at self.now place) ≡ false) (λ expression. content_at self.now place ≡ Formula expression.now) }
+    {
+        match self.cell(place) {
+            Some(cell) => formula_of(cell),
+            None => None,
+        }
+    }
+}
+
+// The formula that the cell's text holds.
+fn formula_of(cell: &Cell) -> Option<&Expr>
+    ensures { MatchOption result (is_formula (content_of cell.now) ≡ false) (λ expression. content_of cell.now ≡ Formula expression.now) }
+{
+    match cell.content() {
+        Content::Formula(expression) => Some(expression),
+        Content::Plain(_) => None,
+    }
+}

@@ -1,0 +1,49 @@
+//! How long the lines of a part are in the text of a file.
+ghost use Rattle.std.specs.Prelude.{◌≡◌, ◌^◌, ◌<◌, ◌≤◌, length, nat_lt, if◌then◌else◌};
+ghost use Rattle.std.specs.Fmt.{decimal};
+ghost use Rattle.part_calc.specs.Text.{cell_line, part_lines};
+
+use crate::contents::Cell;
+use std::collections::BTreeMap;
+
+/// How many bytes the lines of these cells have, as those of the part of this number.
+pub fn lines_len(cells: &BTreeMap<(u32, u32), Cell>, number: u32) -> u64
+    requires { length (part_lines number cells.now.entries) < 2 ^ 31 }
+    ensures { result ≡ length (part_lines number cells.now.entries) }
+{
+    let mut total: u64 = 0;
+    for (place, cell) in cells {
+        total += line_len(number, *place, cell.raw());
+    }
+    total
+}
+
+// How many bytes a cell's line has.
+fn line_len(number: u32, place: (u32, u32), raw: &str) -> u64
+    ensures { result ≡ length (cell_line number (place, raw.now)) }
+{
+    let part = digits(u64::from(number));
+    let column = letters(place.1);
+    let row = digits(u64::from(place.0) + 1);
+    part + column + row + raw.len() as u64 + 3
+}
+
+// How many letters name the column.
+fn letters(column: u32) -> u64
+    ensures { result ≡ (if nat_lt column 26 then 1 else 2) }
+{
+    if column < 26 { 1 } else { 2 }
+}
+
+/// How many decimal digits the number has.
+#[tactic(auto, using(crate::proofs::LengthLaws::one_digit, crate::proofs::LengthLaws::more_digits))]
+pub fn digits(number: u64) -> u64
+    ensures length { result ≡ length (decimal number) }
+    ensures few { result ≤ 20 }
+{
+    if number < 10 {
+        1
+    } else {
+        digits(number / 10) + 1
+    }
+}

@@ -1,0 +1,29 @@
+//! The values of the cells of one part, and what they show.
+//!
+//! - `Part` (`part`): the cells of a part; an edit, and which cells show another text after it.
+//! - `recalculate` (`recalculation`): what an edit leaves, found before anything is changed.
+//! - `settle` (`settling`): the values of all formulas, by sweeps in the order of `order`.
+//! - `Edited` (`edited`): a part as it is once a cell has another text.
+//! - `Cell`, `Content` (`contents`): a raw text and what it says.
+//! - `laws`: what the values of cells are, whatever finds them.
+#![tactic(auto)]
+
+mod contents;
+mod edited;
+mod laws;
+mod lengths;
+mod order;
+mod part;
+mod places;
+mod recalculation;
+mod settling;
+mod shown;
+
+pub use contents::{Cell, Content};
+pub use edited::Edited;
+pub use laws::{circular_cells_never_end, values_are_determined, values_follow};
+pub use lengths::digits;
+pub use part::Part;
+pub use recalculation::{Recalculated, recalculate};
+pub use settling::settle;
+pub use shown::Shown;

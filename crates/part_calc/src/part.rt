@@ -1,0 +1,124 @@
+//! `Part`: the cells of one part, with what they show.
+ghost use Rattle.std.specs.Prelude.{◌≡◌, ◌≢◌, ◌<◌, ◌^◌, ◌↔◌, [], length, IfOk, OnOk, OnErr};
+ghost use Rattle.std.specs.List.{Contains};
+ghost use Rattle.std.specs.List.Sorted.{IsStrictlySortedBy};
+ghost use Rattle.std.specs.Map.{keys_of};
+ghost use Rattle.sheet_cells.specs.Cells.{IsRaw};
+ghost use Rattle.formula_base.specs.Ranges.{Place, place_cmp};
+ghost use Rattle.part_calc.specs.Parts.{text_at, with_text};
+ghost use Rattle.part_calc.specs.Shown.{shown_at, changed_cells};
+ghost use Rattle.part_calc.specs.Text.{part_lines};
+
+use crate::contents::Cell;
+use crate::lengths::lines_len;
+use crate::recalculation::{old_text, recalculate};
+use crate::shown::Shown;
+use cool_base::{ListOf, Memory};
+use std::alloc::Global;
+use std::collections::BTreeMap;
+use std::marker::Model;
+
+/// The cells of one part: 4,096 rows and 256 columns, each cell a row and a column counted from 0.
+/// Contracts see it as the raw texts of the cells that have one, by rows and then columns. What the
+/// formulas show is kept, and is always what they show when their values are found from scratch.
+#[derive(Drop)]
+pub struct Part {
+    cells: BTreeMap<(u32, u32), Cell>,
+    shown: Shown,
+}
+
+impl Model for Part {
+    ghost use Rattle.std.specs.Prelude.{List, ℕ};
+    ghost use Rattle.std.specs.Coded.{coded×, coded_list, coded_ℕ};
+    ghost use Rattle.formula_base.specs.Ranges.{Place};
+    ghost use Rattle.part_calc.specs.Kept.{IsPart, IsShown};
+
+    ghost Value = { List (Place × List ℕ) };
+
+    ghost coded = { coded_list (coded× (coded× coded_ℕ coded_ℕ) (coded_list coded_ℕ)) };
+
+    ghost view = { λ part. part.cells.entries };
+
+    ghost invariant = { λ part. IsPart part.cells.entries × IsShown part.cells.entries part.shown.entries };
+}
+
+impl Part {
+    /// A part whose cells are all empty.
+    pub fn new(alloc: Global) -> Part
+        ensures { result ≡ [] }
+    {
+        Part {
+            cells: BTreeMap::new(alloc),
+            shown: BTreeMap::new(alloc),
+        }
+    }
+
+    /// Gives the cell the raw text, and answers the cells whose shown text differs from what it was.
+    /// After `Memory` all is unchanged.
+    pub fn set(
+        &mut self,
+        alloc: Global,
+        at: (u32, u32),
+        raw: &str,
+    ) -> Result<ListOf<(u32, u32)>, Memory>
+        requires row { at.0 < 4096 }
+        requires column { at.1 < 256 }
+        requires valid { IsRaw raw.now }
+        ensures ok { OnOk result (self.new ≡ with_text self.old at raw.now) }
+        ensures there { OnOk result (text_at self.new at ≡ raw.now) }
+        ensures elsewhere { OnOk result ((other : Place) → other ≢ at → text_at self.new other ≡ text_at self.old other) }
+        ensures changed { IfOk result (λ changed. changed ≡ changed_cells self.old (with_text self.old at raw.now)) }
+        ensures exactly { IfOk result (λ changed. (p : Place) → Contains changed p ↔ (shown_at self.old p ≢ shown_at self.new p)) }
+        ensures in_order { IfOk result (λ changed. IsStrictlySortedBy place_cmp changed) }
+        ensures err { OnErr result (self.new ≡ self.old) }
+    {
+        let cell = Cell::of(alloc, raw)?;
+        let found = recalculate(alloc, &self.cells, &self.shown, at, &cell)?;
+        put(&mut self.cells, at, cell)?;
+        self.shown = found.shown;
+        Ok(found.changed)
+    }
+
+    /// What the cell shows: the value of its formula, and else its raw text.
+    pub fn shown(&self, at: (u32, u32)) -> &str
+        ensures { result.now ≡ shown_at self.now at }
+    {
+        old_text(&self.cells, &self.shown, at)
+    }
+
+    /// The cell's raw text, empty where it has none.
+    #[tactic(auto, unfolding(crate::specs::Parts::text_at))]
+    pub fn raw(&self, at: (u32, u32)) -> &str
+        ensures { result.now ≡ text_at self.now at }
+    {
+        match self.cells.get(&at) {
+            Some(cell) => cell.raw(),
+            None => "",
+        }
+    }
+
+    /// How many bytes the part's lines have in the text of a file, as the part of this number: below
+    /// 2^31. The number is below 16.
+    pub fn text_len(&self, number: u32) -> u64
+        requires { number < 16 }
+        ensures length { result ≡ length (part_lines number self.now) }
+        ensures small { result < 2 ^ 31 }
+    {
+        lines_len(&self.cells, number)
+    }
+}
+
+// Gives the cell a text, or takes it out where the text is empty. After `Memory` all is unchanged.
+#[tactic(auto, unfolding(crate::specs::Parts::with_text))]
+fn put(cells: &mut BTreeMap<(u32, u32), Cell>, at: (u32, u32), cell: Cell) -> Result<(), Memory>
+    ensures ok { OnOk result (cells.new.entries ≡ with_text cells.old.entries at cell) }
+    ensures ordered { OnOk result (IsStrictlySortedBy place_cmp (keys_of cells.new.entries)) }
+    ensures err { OnErr result (cells.new.entries ≡ cells.old.entries) }
+{
+    if cell.raw().is_empty() {
+        let _ = cells.remove(&at);
+        return Ok(());
+    }
+    cells.insert(at, cell)?;
+    Ok(())
+}

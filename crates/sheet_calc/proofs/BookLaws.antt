@@ -1,0 +1,118 @@
+-- An edit of a book is an edit of one of its parts.
+use Rattle.std.proofs.Common.{◌≡◌, ◌≢◌, ◌⊎◌, ◌↔◌, ℕ, suc, ◌+◌, ◌*◌, ◌^◌, ◌<◌, ◌≤◌, List, [], ◌∷◌, ◌++◌, length, get_or, drop, refl, ap, sym, ◌∙◌, subst, ⊎_elim, arith, length-append, drop-cons, add-one, get_or-set_same, get_or-set_other, drop_of_length-le}
+use Rattle.std.proofs.Math.ListN.{set, length-set}
+use Rattle.std.proofs.lemmas.Bool.{cases_eq}
+use Rattle.std.proofs.lemmas.List.{get_or_default}
+use Rattle.std.specs.Fmt.{decimal}
+use Rattle.std.specs.Prelude.{codes}
+use Rattle.std.specs.List.{Contains}
+use Rattle.sheet_cells.specs.declared.cells.CellRef.{CellRef}
+use Rattle.formula_base.specs.Ranges.{Place}
+use Rattle.part_calc.specs.Parts.{Part, text_at, with_text}
+use Rattle.part_calc.specs.Shown.{shown_at}
+use Rattle.part_calc.specs.Text.{part_lines}
+use Rattle.sheet_calc.specs.declared.changed.Changed.{Changed}
+use Rattle.sheet_calc.specs.Books.{Parts, place_of, part_at, text_of, shown_of, with_cell, IsAmong}
+use Rattle.sheet_calc.specs.FileText.{all_lines, file_text}
+
+-- the part of a cell once it was put back
+part_same : (parts : Parts) (n : ℕ) (part : Part) → n < length parts → part_at (set parts n part) n ≡ part
+part_same parts n part h = rw get_or-set_same refl
+
+part_other : (parts : Parts) (n m : ℕ) (part : Part) → m ≢ n → part_at (set parts n part) m ≡ part_at parts m
+part_other parts n m part apart = rw get_or-set_other refl
+
+-- two cells of one part with one place are one
+same_cell : (a b : CellRef) → a.part ≡ b.part → place_of a ≡ place_of b → a ≡ b
+same_cell a b part place =
+    ap (λ (n : ℕ). record { part = n; row = a.row; col = a.col }) part
+    ∙ ap (λ (p : Place). record { part = b.part; row = p.0; col = p.1 }) place
+
+-- ---- what an edit leaves
+
+abbrev pub Elsewhere : Part → Part → Place → Type 0
+Elsewhere before after at = (other : Place) → other ≢ at → text_at after other ≡ text_at before other
+
+pub there : (parts : Parts) (part : Part) (at : CellRef) (raw : List ℕ) → at.part < length parts → text_at part (place_of at) ≡ raw → text_of (set parts at.part part) at ≡ raw
+unfolding text_of
+there parts part at raw h is = ap (λ (s : Part). text_at s (place_of at)) (part_same parts at.part part h) ∙ is
+
+pub elsewhere : (parts : Parts) (part : Part) (at : CellRef) → at.part < length parts → Elsewhere (part_at parts at.part) part (place_of at) → (other : CellRef) → other ≢ at → text_of (set parts at.part part) other ≡ text_of parts other
+unfolding text_of
+elsewhere parts part at h kept other apart =
+    ⊎_elim
+    (λ (same : other.part ≡ at.part).
+    ap (λ (n : ℕ). text_at (part_at (set parts at.part part) n) (place_of other)) same
+    ∙ ap (λ (s : Part). text_at s (place_of other)) (part_same parts at.part part h)
+    ∙ kept (place_of other) (λ place. apart (same_cell other at same place))
+    ∙ ap (λ (n : ℕ). text_at (part_at parts n) (place_of other)) (sym same))
+    (λ (differs : other.part ≡ at.part → ⊥). ap (λ (s : Part). text_at s (place_of other)) (part_other parts at.part other.part part differs))
+    (cases_eq other.part at.part)
+
+pub exactly : (parts : Parts) (part : Part) (at : CellRef) (places : List Place) → at.part < length parts → ((p : Place) → Contains places p ↔ (shown_at (part_at parts at.part) p ≢ shown_at part p))
+    → (cell : CellRef) → IsAmong (record { part = at.part; places = places }) cell ↔ (shown_of parts cell ≢ shown_of (set parts at.part part) cell)
+unfolding shown_of
+exactly parts part at places h told cell = (
+  λ among same.
+      (told (place_of cell)).0 among.1
+      (sym (ap (λ (n : ℕ). shown_at (part_at parts n) (place_of cell)) among.0) ∙ same ∙ after among.0),
+  λ differs.
+      ⊎_elim
+      (λ (same : cell.part ≡ at.part).
+      (same, (told (place_of cell)).1 (λ alike. differs (ap (λ (n : ℕ). shown_at (part_at parts n) (place_of cell)) same ∙ alike ∙ sym (after same)))))
+      (λ (apart : cell.part ≡ at.part → ⊥). absurd (differs (ap (λ (s : Part). shown_at s (place_of cell)) (sym (part_other parts at.part cell.part part apart)))))
+      (cases_eq cell.part at.part),
+)
+  where
+    after : cell.part ≡ at.part → shown_at (part_at (set parts at.part part) cell.part) (place_of cell) ≡ shown_at part (place_of cell)
+    after same = ap (λ (n : ℕ). shown_at (part_at (set parts at.part part) n) (place_of cell)) same ∙ ap (λ (s : Part). shown_at s (place_of cell)) (part_same parts at.part part h)
+
+-- ---- the length of the file
+
+pub lines_turn : (parts : Parts) (n total more : ℕ) → n < length parts → total + length (all_lines n (drop n parts)) ≡ length (all_lines 0 parts) → more ≡ length (part_lines n (part_at parts n)) → total + more + length (all_lines (n + 1) (drop (n + 1) parts)) ≡ length (all_lines 0 parts)
+lines_turn parts n total more h told line =
+    let split : length (all_lines n (drop n parts)) ≡ length (part_lines n (part_at parts n)) + length (all_lines (n + 1) (drop (n + 1) parts)) =
+    ap (λ (s : Parts). length (all_lines n s)) (drop-cons parts n [] h)
+    ∙ length-append (part_lines n (part_at parts n)) (all_lines (n + 1) (drop (suc n) parts))
+    ∙ ap (λ (j : ℕ). length (part_lines n (part_at parts n)) + length (all_lines (n + 1) (drop j parts))) (sym (add-one n)) in
+    omega (arith, told, line, split)
+
+pub lines_end : (parts : Parts) (n total : ℕ) → length parts ≤ n → total + length (all_lines n (drop n parts)) ≡ length (all_lines 0 parts) → total ≡ length (all_lines 0 parts)
+lines_end parts n total h told =
+    let none : length (all_lines n (drop n parts)) ≡ 0 = ap (λ (s : Parts). length (all_lines n s)) (drop_of_length-le parts h) in
+    omega (arith, told, none)
+
+pub text_is : (parts : Parts) (a b : ℕ) → a ≡ length (decimal (length parts)) → b ≡ length (all_lines 0 parts) → a + 19 + b ≡ length (file_text parts)
+unfolding file_text
+text_is parts a b x y = simp length-append (omega (arith, x, y))
+
+-- ---- for the code: the part that is lent, and what is put back
+
+the_part : (parts : Parts) (n : ℕ) (old : Part) → n < length parts → old ≡ get_or parts n old → old ≡ part_at parts n
+the_part parts n old h is = is ∙ get_or_default parts n old [] h
+
+within : (inside before : Parts) (n : ℕ) → inside ≡ before → n < length before → n < length inside
+within inside before n view h = subst (λ (s : Parts). n < length s) (sym view) h
+
+pub set_ok : (inside before : Parts) (at : CellRef) (raw : List ℕ) (old after : Part) → inside ≡ before → at.part < length before → old ≡ get_or inside at.part old → after ≡ with_text old (place_of at) raw → set inside at.part after ≡ with_cell before at raw
+unfolding with_cell
+set_ok inside before at raw old after view h lent put =
+    ap (set inside at.part) (put ∙ ap (λ (s : Part). with_text s (place_of at) raw) (the_part inside at.part old (within inside before at.part view h) lent))
+    ∙ ap (λ (s : Parts). set s at.part (with_text (part_at s at.part) (place_of at) raw)) view
+
+pub set_there : (inside before : Parts) (at : CellRef) (raw : List ℕ) (after : Part) → inside ≡ before → at.part < length before → text_at after (place_of at) ≡ raw → text_of (set inside at.part after) at ≡ raw
+set_there inside before at raw after view h is = there inside after at raw (within inside before at.part view h) is
+
+pub set_elsewhere : (inside before : Parts) (at : CellRef) (old after : Part) → inside ≡ before → at.part < length before → old ≡ get_or inside at.part old → Elsewhere old after (place_of at)
+    → (other : CellRef) → other ≢ at → text_of (set inside at.part after) other ≡ text_of before other
+set_elsewhere inside before at old after view h lent kept other apart =
+    let k = within inside before at.part view h in
+    elsewhere inside after at k (subst (λ (s : Part). Elsewhere s after (place_of at)) (the_part inside at.part old k lent) kept) other apart
+    ∙ ap (λ (s : Parts). text_of s other) view
+
+pub set_exactly : (inside before : Parts) (at : CellRef) (places : List Place) (old after : Part) → inside ≡ before → at.part < length before → old ≡ get_or inside at.part old → ((p : Place) → Contains places p ↔ (shown_at old p ≢ shown_at after p))
+    → (cell : CellRef) → IsAmong (record { part = at.part; places = places }) cell ↔ (shown_of before cell ≢ shown_of (set inside at.part after) cell)
+set_exactly inside before at places old after view h lent told cell =
+    let k = within inside before at.part view h in
+    subst (λ (s : Parts). IsAmong (record { part = at.part; places = places }) cell ↔ (shown_of s cell ≢ shown_of (set inside at.part after) cell)) view
+    (exactly inside after at places k (subst (λ (s : Part). (p : Place) → Contains places p ↔ (shown_at s p ≢ shown_at after p)) (the_part inside at.part old k lent) told) cell)

@@ -1,0 +1,18 @@
+use Rattle.sheet_calc.proofs.BookLaws.{set_ok, set_there, set_elsewhere, set_exactly}
+use Rattle.sheet_calc.proofs.book.Book.set.Goals as goal
+
+pub returns-clause-ok : goal.returns-clause-ok
+returns-clause-ok c =
+    set_ok c.self.inside.parts.items c.args.self.now c.args.at.now c.args.raw.now c.index_mut-part.result.now c.set.new.self c.self.view_is c.requires.cell.part c.index_mut-part.ensures.value c.in_ok-places.ensures.ok
+
+pub returns-clause-there : goal.returns-clause-there
+returns-clause-there c =
+    set_there c.self.inside.parts.items c.args.self.now c.args.at.now c.args.raw.now c.set.new.self c.self.view_is c.requires.cell.part c.in_ok-places.ensures.there
+
+pub returns-clause-elsewhere : goal.returns-clause-elsewhere
+returns-clause-elsewhere c =
+    set_elsewhere c.self.inside.parts.items c.args.self.now c.args.at.now c.index_mut-part.result.now c.set.new.self c.self.view_is c.requires.cell.part c.index_mut-part.ensures.value c.in_ok-places.ensures.elsewhere
+
+pub returns-clause-exactly : goal.returns-clause-exactly
+returns-clause-exactly c =
+    set_exactly c.self.inside.parts.items c.args.self.now c.args.at.now c.in_ok-places.places c.index_mut-part.result.now c.set.new.self c.self.view_is c.requires.cell.part c.index_mut-part.ensures.value c.in_ok-places.ensures.exactly

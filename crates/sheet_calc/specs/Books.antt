@@ -1,0 +1,36 @@
+-- The parts of a sheet document.
+use Rattle.std.specs.Prelude.{◌≡◌, ℕ, ◌<◌, List, [], slice_index_or, slice_set}
+use Rattle.std.specs.List.{Contains}
+use Rattle.sheet_cells.specs.declared.cells.CellRef.{CellRef}
+use Rattle.formula_base.specs.Ranges.{Place}
+use Rattle.part_calc.specs.Parts.{Part, text_at, with_text}
+use Rattle.part_calc.specs.Shown.{shown_at}
+use Rattle.sheet_calc.specs.declared.changed.Changed.{Changed}
+
+-- the parts in order: of each, the cells that have a raw text
+abbrev pub Parts : Type 0
+Parts = List Part
+
+-- a cell's place in its part
+abbrev pub place_of : CellRef → Place
+place_of at = (at.row, at.col)
+
+-- a part by its number
+abbrev pub part_at : Parts → ℕ → Part
+part_at parts n = slice_index_or parts n []
+
+-- the raw text of a cell
+unfoldable pub text_of : Parts → CellRef → List ℕ
+text_of parts at = text_at (part_at parts at.part) (place_of at)
+
+-- what a cell shows: its part's values are found from scratch
+unfoldable pub shown_of : Parts → CellRef → List ℕ
+shown_of parts at = shown_at (part_at parts at.part) (place_of at)
+
+-- the parts with this raw text at the cell
+unfoldable pub with_cell : Parts → CellRef → List ℕ → Parts
+with_cell parts at raw = slice_set parts at.part (with_text (part_at parts at.part) (place_of at) raw)
+
+-- whether a cell is among the changed ones
+abbrev pub IsAmong : Changed → CellRef → Type 0
+IsAmong changed at = (at.part ≡ changed.part) × Contains changed.places (place_of at)

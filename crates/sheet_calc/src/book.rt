@@ -1,0 +1,119 @@
+//! `Book`: the parts of a sheet document.
+ghost use Rattle.std.specs.Prelude.{◌≡◌, ◌≢◌, ◌<◌, ◌≤◌, ◌^◌, ◌↔◌, [], length, replicate, IfOk, OnOk, OnErr};
+ghost use Rattle.std.specs.List.Sorted.{IsStrictlySortedBy};
+ghost use Rattle.sheet_cells.specs.Cells.{IsCell, IsRaw};
+ghost use Rattle.sheet_cells.specs.declared.cells.CellRef.{CellRef};
+ghost use Rattle.formula_base.specs.Ranges.{place_cmp};
+ghost use Rattle.sheet_calc.specs.Books.{text_of, shown_of, with_cell, IsAmong};
+ghost use Rattle.sheet_calc.specs.FileText.{all_lines, file_text};
+
+use crate::changed::Changed;
+use cool_base::Memory;
+use part_calc::{Part, digits};
+use sheet_cells::CellRef;
+use std::alloc::Global;
+use std::marker::Model;
+
+/// The parts of a sheet document, of which there are at most 16. Contracts see it as the raw texts of
+/// the cells that have one, part by part. What the cells show is kept, and is always what they show
+/// when their values are found from scratch.
+#[derive(Drop)]
+pub struct Book {
+    parts: Vec<Part>,
+}
+
+impl Model for Book {
+    ghost use Rattle.std.specs.Prelude.{ℕ, ◌≤◌, List, length};
+    ghost use Rattle.std.specs.Coded.{coded×, coded_list, coded_ℕ};
+    ghost use Rattle.formula_base.specs.Ranges.{Place};
+
+    ghost Value = { List (List (Place × List ℕ)) };
+
+    ghost coded = { coded_list (coded_list (coded× (coded× coded_ℕ coded_ℕ) (coded_list coded_ℕ))) };
+
+    ghost view = { λ book. book.parts.items };
+
+    ghost invariant = { λ book. length book.parts.items ≤ 16 };
+}
+
+impl Book {
+    /// This many parts, in which all cells are empty.
+    pub fn new(alloc: Global, parts: u32) -> Result<Book, Memory>
+        requires some { 1 ≤ parts }
+        requires few { parts ≤ 16 }
+        ensures { IfOk result (λ book. book ≡ replicate parts []) }
+    {
+        let mut list = Vec::new(alloc);
+        for _part in 0..parts {
+            list.push(Part::new(alloc))?;
+        }
+        Ok(Book { parts: list })
+    }
+
+    /// How many parts there are.
+    pub fn parts(&self) -> u32
+        ensures count { result ≡ length self.now }
+        ensures few { result ≤ 16 }
+    {
+        self.parts.len() as u32
+    }
+
+    /// Gives the cell the raw text, and answers the cells whose shown text differs from what it was.
+    /// After `Memory` all is unchanged.
+    pub fn set(&mut self, alloc: Global, at: &CellRef, raw: &str) -> Result<Changed, Memory>
+        requires cell { IsCell (length self.old) at.now }
+        requires valid { IsRaw raw.now }
+        ensures ok { OnOk result (self.new ≡ with_cell self.old at.now raw.now) }
+        ensures there { OnOk result (text_of self.new at.now ≡ raw.now) }
+        ensures elsewhere { OnOk result ((other : CellRef) → other ≢ at.now → text_of self.new other ≡ text_of self.old other) }
+        ensures exactly { IfOk result (λ changed. (cell : CellRef) → IsAmong changed cell ↔ (shown_of self.old cell ≢ shown_of self.new cell)) }
+        ensures in_order { IfOk result (λ changed. IsStrictlySortedBy place_cmp changed.places) }
+        ensures err { OnErr result (self.new ≡ self.old) }
+    {
+        let part = &mut self.parts[at.part as usize];
+        let places = part.set(alloc, (at.row, at.col), raw)?;
+        Ok(Changed {
+            part: at.part,
+            places,
+        })
+    }
+
+    /// What the cell shows: the value of its formula, and else its raw text.
+    #[tactic(auto, unfolding(crate::specs::Books::shown_of))]
+    pub fn shown(&self, at: &CellRef) -> &str
+        requires { IsCell (length self.now) at.now }
+        ensures { result.now ≡ shown_of self.now at.now }
+    {
+        self.parts[at.part as usize].shown((at.row, at.col))
+    }
+
+    /// The cell's raw text, empty where it has none.
+    #[tactic(auto, unfolding(crate::specs::Books::text_of))]
+    pub fn raw(&self, at: &CellRef) -> &str
+        requires { IsCell (length self.now) at.now }
+        ensures { result.now ≡ text_of self.now at.now }
+    {
+        self.parts[at.part as usize].raw((at.row, at.col))
+    }
+
+    /// How many bytes the text of the book's file has.
+    pub fn text_len(&self) -> u64
+        ensures { result ≡ length (file_text self.now) }
+    {
+        let count = self.parts.len() as u64;
+        digits(count) + 19 + lines_len(self.parts.as_slice())
+    }
+}
+
+// How many bytes the lines of all parts have.
+fn lines_len(parts: &[Part]) -> u64
+    requires { length parts.now ≤ 16 }
+    ensures length { result ≡ length (all_lines 0 parts.now) }
+    ensures small { result < 2 ^ 36 }
+{
+    let mut total: u64 = 0;
+    for number in 0..parts.len() {
+        total += parts[number].text_len(number as u32);
+    }
+    total
+}

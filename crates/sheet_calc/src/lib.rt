@@ -1,0 +1,17 @@
+//! `Book`: the cells of a whole sheet document, with what they show.
+//!
+//! - `Book` (`book`): the parts; an edit, and which cells show another text after it.
+//! - `Changed` (`changed`): the cells that an edit changed.
+//! - `is_raw` (`raws`): which raw texts a cell may have.
+#![tactic(auto)]
+
+mod book;
+mod changed;
+mod raws;
+
+pub use book::Book;
+pub use changed::Changed;
+pub use raws::is_raw;
+
+#[cfg(test)]
+mod tests;
