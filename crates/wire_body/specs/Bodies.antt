@@ -47,9 +47,9 @@ open_body = record { phase = Open; left = body_limit; room = 0; line = 0 }
 abbrev pub expects : ℕ → BodyState → BodyState → ℕ → BodyState
 expects wanted next s b = if b == wanted then next else in_phase Bad s
 
--- one byte of content less to come, and behind the last the next phase
-abbrev pub taken : Phase → BodyState → BodyState
-taken next s = if nat_le s.left 1 then record s { phase = next; left = 0 } else record s { left = s.left - 1 }
+-- so many bytes of content less to come, and behind the last the next phase
+abbrev pub taken : Phase → ℕ → BodyState → BodyState
+taken next count s = if nat_le s.left count then record s { phase = next; left = 0 } else record s { left = s.left - count }
 
 -- a chunk's size with one more digit, which no longer size makes good where it is past the room
 abbrev pub with_digit : BodyState → ℕ → BodyState
@@ -92,10 +92,10 @@ within_line s b = if s.line == 0 then in_phase Bad s else line_step s.phase (rec
 
 -- the state behind one more byte, by the phase before it
 abbrev pub step_in : Phase → BodyState → ℕ → BodyState
-step_in Counted s b = taken Done s
-step_in Open s b = taken Full s
+step_in Counted s b = taken Done 1 s
+step_in Open s b = taken Full 1 s
 step_in Full s b = in_phase TooLong s
-step_in Data s b = taken DataEnd s
+step_in Data s b = taken DataEnd 1 s
 step_in DataEnd s b = expects carriage_return (in_phase DataFeed s) s b
 step_in DataFeed s b = expects line_feed (on_new_line Size s) s b
 step_in Done s b = s
@@ -113,6 +113,13 @@ is_content Counted = true
 is_content Open = true
 is_content Data = true
 is_content _ = false
+
+-- the phase behind the last byte of content
+abbrev pub behind : Phase → Phase
+behind Counted = Done
+behind Open = Full
+behind Data = DataEnd
+behind p = p
 
 -- whether no byte changes anything any more
 abbrev pub is_final : Phase → Bool

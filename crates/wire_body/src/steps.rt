@@ -1,7 +1,7 @@
 // One byte of a body.
 ghost use Rattle.std.specs.Prelude.{◌≡◌, ◌<◌, ◌≤◌, if◌then◌else◌};
 ghost use Rattle.std.specs.Char.{is_ascii_hexdigit, digit_value};
-ghost use Rattle.wire_body.specs.Bodies.{no_body, body_of, chunked_body, open_body, in_phase, on_new_line, expects, taken, with_digit, behind_size, behind_size_line, ends_line, line_step, within_line, step, is_content, is_final};
+ghost use Rattle.wire_body.specs.Bodies.{no_body, body_of, chunked_body, open_body, in_phase, on_new_line, expects, taken, with_digit, behind_size, behind_size_line, ends_line, line_step, within_line, step, is_content, behind, is_final};
 
 use crate::states::{BODY_LIMIT, BodyState, LINE_LIMIT, Phase};
 use httparse::{is_header_name_token, is_header_value_token, parse_hex_digit};
@@ -12,6 +12,18 @@ impl Phase {
         ensures { result ≡ is_content self }
     {
         matches!(self, Phase::Counted | Phase::Open | Phase::Data)
+    }
+
+    // The phase behind the last byte of content.
+    pub(crate) fn behind(self) -> Phase
+        ensures { result ≡ behind self }
+    {
+        match self {
+            Phase::Counted => Phase::Done,
+            Phase::Open => Phase::Full,
+            Phase::Data => Phase::DataEnd,
+            other => other,
+        }
     }
 
     /// Whether no byte changes anything any more.
@@ -105,10 +117,11 @@ impl BodyState {
         }
     }
 
-    fn taken(self, next: Phase) -> BodyState
-        ensures { result ≡ taken next self }
+    // Behind so many bytes of content.
+    pub(crate) fn taken(self, next: Phase, count: u32) -> BodyState
+        ensures { result ≡ taken next count self }
     {
-        if self.left <= 1 {
+        if self.left <= count {
             BodyState {
                 phase: next,
                 left: 0,
@@ -116,7 +129,7 @@ impl BodyState {
             }
         } else {
             BodyState {
-                left: self.left - 1,
+                left: self.left - count,
                 ..self
             }
         }
@@ -268,10 +281,10 @@ impl BodyState {
         ensures { result ≡ step self byte }
     {
         match self.phase {
-            Phase::Counted => self.taken(Phase::Done),
-            Phase::Open => self.taken(Phase::Full),
+            Phase::Counted => self.taken(Phase::Done, 1),
+            Phase::Open => self.taken(Phase::Full, 1),
             Phase::Full => self.moved(Phase::TooLong),
-            Phase::Data => self.taken(Phase::DataEnd),
+            Phase::Data => self.taken(Phase::DataEnd, 1),
             Phase::DataEnd => self.expect(b'\r', self.moved(Phase::DataFeed), byte),
             Phase::DataFeed => self.expect(b'\n', self.on_new_line(Phase::Size), byte),
             Phase::Done | Phase::TooLong | Phase::Bad => self,
