@@ -1,6 +1,5 @@
 -- The pieces of a body that came over a wire, and what they lead to.
-use Rattle.std.proofs.Common.{ℕ, ◌≡◌, Bool, true, false, cond, List, [], ◌++◌, Option, Some, None, Result, Ok, Err, refl, sym, ap, ◌∙◌, subst, append_assoc, append-nil}
-use Rattle.outside.specs.declared.faults.WireFault.{WireFault}
+use Rattle.std.proofs.Common.{ℕ, ◌≡◌, Bool, true, false, List, [], ◌++◌, Option, None, Result, Err, refl, sym, ap, ◌∙◌, subst, append_assoc, append-nil}
 use Rattle.outside.specs.declared.faults.WireFault.TheVariants.{ReadFault}
 use Rattle.outside.specs.Wires.{Talk, Hears}
 use Rattle.outside.proofs.Talks.{hears_nothing, hears_more}

@@ -1,11 +1,11 @@
 -- Bytes one after another: by one, by a block of content, by two pieces.
-use Rattle.std.proofs.Common.{ℕ, ◌≡◌, ◌+◌, ◌-◌, ◌<◌, ◌≤◌, Bool, true, false, cond, List, [], ◌∷◌, ◌++◌, length, refl, sym, ap, ◌∙◌, subst, arith, append_assoc, max, take, drop, get_or}
+use Rattle.std.proofs.Common.{ℕ, ◌≡◌, ◌+◌, ◌-◌, ◌<◌, ◌≤◌, true, false, cond, List, [], ◌∷◌, ◌++◌, length, refl, sym, ap, ◌∙◌, arith, append_assoc, max, take, drop, get_or}
 use Rattle.std.proofs.lemmas.List.{length-take-le, take-append-drop}
 use Rattle.wire_body.specs.declared.states.BodyState.{BodyState}
 use Rattle.wire_body.specs.declared.states.Phase.{Phase}
-use Rattle.wire_body.specs.declared.states.Phase.TheVariants.{Counted, Open, Full, Size, Digits, Pad, Extension, SizeEnd, Data, DataEnd, DataFeed, Trailer, Name, Value, ValueEnd, LastEnd, Done, TooLong, Bad}
+use Rattle.wire_body.specs.declared.states.Phase.TheVariants.{Counted, Open, Data}
 use Rattle.std.proofs.lemmas.Bool.Decides.{nat_tests}
-use Rattle.wire_body.specs.Bodies.{run, reached, Reached, step, taken, behind, is_content, is_final}
+use Rattle.wire_body.specs.Bodies.{run, reached, step, taken, behind, is_content}
 
 -- no byte
 pub run_none : (s : BodyState) (body : List ℕ) → run s body [] ≡ reached s body

@@ -1,5 +1,5 @@
 -- A body, byte by byte: what each byte does, what all the bytes together make, and what they say.
-use Rattle.std.specs.Prelude.{ℕ, ◌≡◌, ◌+◌, ◌-◌, ◌*◌, Bool, true, false, ◌==◌, nat_le, if◌then◌else◌, List, [], ◌∷◌, ◌++◌, Option, Some, None, Result, Ok, Err, ⊤}
+use Rattle.std.specs.Prelude.{ℕ, ◌+◌, ◌-◌, ◌*◌, Bool, true, false, ◌==◌, nat_le, if◌then◌else◌, List, [], ◌∷◌, ◌++◌, Option, Some, None, Result, Ok, Err}
 use Rattle.std.specs.Char.{is_ascii_hexdigit, digit_value}
 use Rattle.httparse.specs.Grammar.{is_ows, is_token_byte, is_value_byte}
 use Rattle.httparse.specs.Ascii.{line_feed, carriage_return, colon, semicolon}

@@ -1,6 +1,6 @@
-use Rattle.std.proofs.Common.{ℕ, ◌≡◌, ◌≤◌, ◌∙◌, ◌++◌, ap, arith, Bool, true, false, drop, take, length, sym, max}
+use Rattle.std.proofs.Common.{◌≡◌, ◌∙◌, ◌++◌, ap, arith, drop, take, sym}
 use Rattle.std.proofs.lemmas.Grind.{common_steps}
-use Rattle.wire_body.specs.Bodies.{run, is_content, taken, behind}
+use Rattle.wire_body.specs.Bodies.{run, taken, behind}
 use Rattle.wire_body.proofs.Runs.{one_of_piece, block_of_piece}
 use Rattle.wire_body.proofs.feeds.feed_front.Goals as goal
 
