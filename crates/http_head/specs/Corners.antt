@@ -15,3 +15,11 @@ starts_plain (b ∷ bytes) = if b == 32 then true else (is_ascii_graphic b && st
 -- how many lines end in the bytes
 abbrev pub ends_in : List ℕ → ℕ
 ends_in bytes = count_by (λ b. b == 10) bytes
+
+-- a head that is begun, with a plain target and at most 64 lines so far
+abbrev pub is_request_fine : List ℕ → Bool
+is_request_fine bytes = starts_plain (behind_blank bytes) && nat_le (ends_in (behind_blank bytes)) 65
+
+-- the same of a response, which has no target
+abbrev pub is_response_fine : List ℕ → Bool
+is_response_fine bytes = nat_le (ends_in (behind_blank bytes)) 65

@@ -22,20 +22,24 @@ method_named name = if bytes_eq name (codes "GET") then Get else (if bytes_eq na
 abbrev pub request_lines : RequestHead → List (List ℕ × List ℕ)
 request_lines h = map name_and_value h.fields
 
--- what a head says, with this framing of the body
-abbrev pub request_with : RequestHead → Framing → RequestParts
-request_with h framing = record {
-  method = method_named h.method;
-  target = h.target;
-  lock = text_named (codes "x-wopi-lock") (request_lines h);
-  over = text_named (codes "x-wopi-override") (request_lines h);
-  old_lock = has_line (codes "x-wopi-oldlock") (request_lines h);
+-- what method, target and lines say, with this framing of the body
+abbrev pub request_with : (method target : List ℕ) (lines : List (List ℕ × List ℕ)) → Framing → RequestParts
+request_with method target lines framing = record {
+  method = method_named method;
+  target = target;
+  lock = text_named (codes "x-wopi-lock") lines;
+  over = text_named (codes "x-wopi-override") lines;
+  old_lock = has_line (codes "x-wopi-oldlock") lines;
   framing = framing;
 }
 
+-- the same; None where what the lines say of the body is wrong
+abbrev pub request_by : (method target : List ℕ) (lines : List (List ℕ × List ℕ)) → Option RequestParts
+request_by method target lines = option_map (request_with method target lines) (request_framing (lines_said lines))
+
 -- what a head says; None where what it says of the body is wrong
 abbrev pub request_said : RequestHead → Option RequestParts
-request_said h = option_map (request_with h) (request_framing (lines_said (request_lines h)))
+request_said h = request_by h.method h.target (request_lines h)
 
 -- each byte is from 33 to 126
 abbrev pub is_plain : List ℕ → Bool
@@ -79,3 +83,12 @@ abbrev pub ScansRequest : List ℕ → Scan RequestParts → Type 0
 ScansRequest bytes (Whole parts len) = (len ≤ length bytes) × ReadsRequestHead bytes parts (drop len bytes)
 ScansRequest bytes Begun = BeginsRequest bytes
 ScansRequest bytes NoHead = IsNoRequest bytes
+
+-- a head that says this, of so many bytes, or one that is wrong
+abbrev pub scan_said : {P : Type 0} → Option P → ℕ → Scan P
+scan_said None len = NoHead
+scan_said (Some parts) len = Whole parts len
+
+-- what a whole head comes to
+abbrev pub request_judged : (method target : List ℕ) (lines : List (List ℕ × List ℕ)) → ℕ → Scan RequestParts
+request_judged method target lines len = if is_plain target then scan_said (request_by method target lines) len else NoHead

@@ -14,17 +14,21 @@ use Rattle.http_head.specs.Framings.{lines_said, response_framing}
 abbrev pub response_lines : ResponseHead → List (List ℕ × List ℕ)
 response_lines h = map name_and_value h.fields
 
--- what a head says, with this framing of the body
-abbrev pub response_with : ResponseHead → Framing → ResponseParts
-response_with h framing = record {
-  status = status_code h;
-  lock = text_named (codes "x-wopi-lock") (response_lines h);
+-- what status and lines say, with this framing of the body
+abbrev pub response_with : (status : ℕ) (lines : List (List ℕ × List ℕ)) → Framing → ResponseParts
+response_with status lines framing = record {
+  status = status;
+  lock = text_named (codes "x-wopi-lock") lines;
   framing = framing;
 }
 
+-- the same; None where what the lines say of the body is wrong
+abbrev pub response_by : (status : ℕ) (lines : List (List ℕ × List ℕ)) → Option ResponseParts
+response_by status lines = option_map (response_with status lines) (response_framing status (lines_said lines))
+
 -- what a head says; None where what it says of the body is wrong
 abbrev pub response_said : ResponseHead → Option ResponseParts
-response_said h = option_map (response_with h) (response_framing (status_code h) (lines_said (response_lines h)))
+response_said h = response_by (status_code h) (response_lines h)
 
 -- the bytes are a whole head of at most 64 lines that says this, and then rest
 abbrev pub ReadsResponseHead : List ℕ → ResponseParts → List ℕ → Type 0

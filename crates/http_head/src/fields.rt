@@ -49,6 +49,7 @@ fn is_shown(value: &[u8]) -> bool
     value.iter().all(|byte| *byte >= 32 && *byte <= 126)
 }
 
+#[tactic(auto, using(crate::proofs::Texts::texts))]
 fn shown(alloc: Global, value: &[u8]) -> Result<TextOf, Memory>
     ensures { IfOk result (λ text. text ≡ shown value.now) }
 {

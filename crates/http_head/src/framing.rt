@@ -27,6 +27,7 @@ pub(crate) enum Said {
     Wrong,
 }
 
+#[tactic(auto, using(crate::proofs::Texts::texts))]
 fn length_said(value: &[u8]) -> Said
     ensures { result ≡ length_said value.now }
 {

@@ -1,0 +1,6 @@
+pub mod Texts
+pub mod Tails
+pub mod Cuts
+pub mod Counts
+pub mod RequestHeads
+pub mod ResponseHeads
