@@ -1,5 +1,5 @@
 -- What the bytes of a message say, whatever its kind of head.
-use Rattle.std.specs.Prelude.{ℕ, ◌≡◌, ◌+◌, ◌<◌, ◌≤◌, Bool, true, false, if◌then◌else◌, List, length, ◌++◌, take, drop, ⊤, Option, Some, None, Result, Ok, Err}
+use Rattle.std.specs.Prelude.{ℕ, ◌≡◌, ◌+◌, ◌<◌, ◌≤◌, Bool, false, if◌then◌else◌, List, length, ◌++◌, take, drop, ⊤, Option, Some, None, Result, Ok, Err}
 use Rattle.outside.specs.declared.faults.WireFault.{WireFault}
 use Rattle.outside.specs.declared.faults.WireFault.TheVariants.{BadHead, HeadTooLong, CutOff}
 use Rattle.outside.specs.Wires.{Talk, Hears}
