@@ -4,3 +4,5 @@ pub mod Cuts
 pub mod Counts
 pub mod RequestHeads
 pub mod ResponseHeads
+pub mod RequestLaws
+pub mod ResponseLaws
