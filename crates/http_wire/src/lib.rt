@@ -1,0 +1,4 @@
+//! Requests and responses of HTTP, read from any wire.
+#![tactic(auto)]
+
+mod heads;
