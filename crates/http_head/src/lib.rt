@@ -19,7 +19,7 @@ mod responses;
 #[cfg(test)]
 mod tests;
 
-pub use framing::Framing;
+pub use framing::{Framing, Said};
 pub use laws::{requests_are_read_in_one_way, responses_are_read_in_one_way};
 pub use parts::{RequestParts, ResponseParts, Scan};
 pub use requests::scan_head;
