@@ -1,9 +1,9 @@
 -- Parts that are put one behind another.
-use Rattle.std.proofs.Common.{◌≡◌, ℕ, ◌+◌, List, [], ◌∷◌, ◌++◌, refl, sym, ap, ◌∙◌, append_assoc}
+use Rattle.std.proofs.Common.{◌≡◌, ℕ, ◌+◌, List, [], ◌∷◌, ◌++◌, sym, ap, ◌∙◌, append_assoc}
 use Rattle.std.specs.Prelude.{codes}
 use Rattle.std.proofs.lemmas.Grind.{flat_map-append}
 use Rattle.http1.specs.Fields.{Header}
-use Rattle.http1.specs.Head.{print_header, print_headers, section_text, status_digits, request_text, response_text}
+use Rattle.http1.specs.Head.{print_header, print_headers, status_digits, request_text, response_text}
 use Rattle.http1.proofs.HeadLemmas.{request_text_is, response_text_is}
 
 -- lines and then lines

@@ -61,12 +61,7 @@ fn put_old(out: &mut Vec<u8>, old_lock: bool) -> Result<(), Memory>
     }
 }
 
-fn put_lines(
-    alloc: Global,
-    out: &mut Vec<u8>,
-    host: &str,
-    request: &Request,
-) -> Result<(), Memory>
+fn put_lines(alloc: Global, out: &mut Vec<u8>, host: &str, request: &Request) -> Result<(), Memory>
     ensures { OnOk result (out.new.items ≡ out.old.items ++ print_headers (request_lines host.now request.now)) }
 {
     put_line(out, b"Host", host.as_bytes())?;
@@ -143,11 +138,7 @@ fn put_size(alloc: Global, out: &mut Vec<u8>, status: u16, body: &[u8]) -> Resul
     }
 }
 
-fn put_response_lines(
-    alloc: Global,
-    out: &mut Vec<u8>,
-    response: &Response,
-) -> Result<(), Memory>
+fn put_response_lines(alloc: Global, out: &mut Vec<u8>, response: &Response) -> Result<(), Memory>
     ensures { OnOk result (out.new.items ≡ out.old.items ++ print_headers (response_lines response.now)) }
 {
     put_line(out, b"Connection", b"close")?;
