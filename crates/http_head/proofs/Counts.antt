@@ -1,16 +1,16 @@
 -- How many lines end in the front of a head, whose first line and header lines have one end each.
-use Rattle.std.proofs.Common.{◌≡◌, ◌≢◌, ℕ, ◌+◌, ◌≤◌, ◌<◌, Bool, true, false, not, eqb, cond, ◌&&◌, List, [], ◌∷◌, ◌++◌, ◌⊎◌, inl, inr, refl, sym, ap, ◌∙◌, subst, arith, length, take, drop, append_assoc}
+use Rattle.std.proofs.Common.{◌≡◌, ◌≢◌, ℕ, ◌+◌, ◌≤◌, ◌<◌, Bool, true, false, not, List, [], ◌∷◌, ◌++◌, ◌⊎◌, inl, inr, refl, sym, ap, ◌∙◌, arith, length, take, drop, append_assoc}
 use Rattle.std.specs.Prelude.{All, ◌==◌}
 use Rattle.std.specs.List.{list_all, flat_map}
 use Rattle.std.proofs.lemmas.Bool.{and_parts}
 use Rattle.std.proofs.lemmas.Bool.Decides.{nat_tests}
 use Rattle.std.proofs.lemmas.Grind.{common_steps, flat_map-append}
-use Rattle.std.proofs.lemmas.List.{append_cancel_right, take-append-drop, length-take-le, append-nil}
+use Rattle.std.proofs.lemmas.List.{take-append-drop, length-take-le, append-nil}
 use Rattle.std.proofs.lemmas.List.Sums.{list_all-from_AllPass}
 use Rattle.std.proofs.lemmas.List.Elements.{All-head, All-tail, All-take}
-use Rattle.httparse.specs.Grammar.{is_token_byte, is_value_byte, LineEnd, crlf, lf, print_end, print_blank, Field, print_field, IsField}
+use Rattle.httparse.specs.Grammar.{is_token_byte, is_value_byte, LineEnd, crlf, lf, print_end, Field, print_field, IsField}
 use Rattle.http_head.specs.Corners.{behind_blank, ends_in}
-use Rattle.http_head.proofs.Tails.{no_blank, no_end, ends_in-append, ends_in-none, ends_behind-more}
+use Rattle.http_head.proofs.Tails.{ends_in-append, ends_in-none, ends_behind-more}
 use Rattle.http_head.proofs.Cuts.{two_cuts, last_of}
 
 -- bytes of a class without this byte are other bytes
@@ -97,7 +97,7 @@ lines_last (f ∷ g ∷ fields) all some =
     let count = later.2 in
     (print_field f ++ later.0, ap (λ t. print_field f ++ t) later.1 ∙ sym (append_assoc (print_field f) later.0 (10 ∷ [])), omega (arith, both, here, count))
 
-snoc_some : (a : List ℕ) (x : ℕ) → a ++ x ∷ [] ≡ [] → ⊥
+pub snoc_some : (a : List ℕ) (x : ℕ) → a ++ x ∷ [] ≡ [] → ⊥
 snoc_some [] x e = cc
 snoc_some (y ∷ a) x e = cc
 
@@ -133,13 +133,13 @@ pub begun_few : (start : List ℕ) → IsStart start → (fields : List Field) (
     → (bytes more : List ℕ) → bytes ++ more ≡ start ++ (lines_of fields ++ print_end last) → (more ≡ [] → ⊥)
     → ends_in (behind_blank bytes) ≤ length fields + 1
 begun_few start is fields last all bytes more e unfinished = elim (last_of more) [
-    inl none ↦ absurd (unfinished none)
+  | inl none ↦ absurd (unfinished none)
   | inr w ↦
-    let whole : (bytes ++ w.0) ++ w.1 ∷ [] ≡ start ++ (lines_of fields ++ print_end last) = append_assoc bytes w.0 (w.1 ∷ []) ∙ ap (λ t. bytes ++ t) (sym w.2) ∙ e in
-    let count = before_last start is fields last all (bytes ++ w.0) w.1 whole in
-    let less = ends_behind-more bytes w.0 in
-    omega arith
-  ]
+      let whole : (bytes ++ w.0) ++ w.1 ∷ [] ≡ start ++ (lines_of fields ++ print_end last) = append_assoc bytes w.0 (w.1 ∷ []) ∙ ap (λ t. bytes ++ t) (sym w.2) ∙ e in
+      let count = before_last start is fields last all (bytes ++ w.0) w.1 whole in
+      let less = ends_behind-more bytes w.0 in
+      omega arith
+]
 
 -- where 66 lines end, 65 whole lines stand there
 pub lines_inside : (start : List ℕ) → IsStart start → (fields : List Field) (last : LineEnd) → All IsField fields
@@ -152,10 +152,10 @@ lines_inside start is fields last all bytes more e unfinished many =
     let parts : lines_of fields ≡ lines_of (take 65 fields) ++ lines_of (drop 65 fields) = ap lines_of (sym (take-append-drop 65 fields)) ∙ flat_map-append print_field (take 65 fields) (drop 65 fields) in
     let later = lines_of (drop 65 fields) ++ print_end last in
     let cut : bytes ++ more ≡ (start ++ lines_of (take 65 fields)) ++ later =
-        e ∙ ap (λ t. start ++ (t ++ print_end last)) parts ∙ ap (λ t. start ++ t) (append_assoc (lines_of (take 65 fields)) (lines_of (drop 65 fields)) (print_end last)) ∙ sym (append_assoc start (lines_of (take 65 fields)) later) in
+    e ∙ ap (λ t. start ++ (t ++ print_end last)) parts ∙ ap (λ t. start ++ t) (append_assoc (lines_of (take 65 fields)) (lines_of (drop 65 fields)) (print_end last)) ∙ sym (append_assoc start (lines_of (take 65 fields)) later) in
     elim (two_cuts bytes more (start ++ lines_of (take 65 fields)) later cut) [
-      inl w ↦ (w.0, w.1, enough)
-    | inr w ↦ inside enough w.0 w.1 (last_of w.0)
+      | inl w ↦ (w.0, w.1, enough)
+      | inr w ↦ inside enough w.0 w.1 (last_of w.0)
     ]
   where
     inside : 65 ≤ length fields → (m : List ℕ) → start ++ lines_of (take 65 fields) ≡ bytes ++ m
@@ -167,7 +167,7 @@ lines_inside start is fields last all bytes more e unfinished many =
         let long : length (take 65 fields) ≡ 65 = length-take-le 65 fields enough in
         let end = lines_last (take 65 fields) (All-take IsField 65 fields all) (omega arith) in
         let whole : (start ++ end.0) ++ 10 ∷ [] ≡ (bytes ++ w.0) ++ w.1 ∷ [] =
-            append_assoc start end.0 (10 ∷ []) ∙ ap (λ t. start ++ t) (sym end.1) ∙ begins ∙ ap (λ t. bytes ++ t) w.2 ∙ sym (append_assoc bytes w.0 (w.1 ∷ [])) in
+        append_assoc start end.0 (10 ∷ []) ∙ ap (λ t. start ++ t) (sym end.1) ∙ begins ∙ ap (λ t. bytes ++ t) w.2 ∙ sym (append_assoc bytes w.0 (w.1 ∷ [])) in
         let same : start ++ end.0 ≡ bytes ++ w.0 = snoc_front (start ++ end.0) (bytes ++ w.0) 10 w.1 whole in
         let count = ap (λ t. ends_in (behind_blank t)) (sym same) ∙ is.counts end.0 in
         let less = ends_behind-more bytes w.0 in

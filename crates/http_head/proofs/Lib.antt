@@ -4,3 +4,6 @@ pub mod Cuts
 pub mod Counts
 pub mod RequestHeads
 pub mod ResponseHeads
+pub mod RequestLaws
+pub mod ResponseLaws
+pub mod Written

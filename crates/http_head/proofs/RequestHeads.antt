@@ -1,29 +1,28 @@
 -- From what httparse says of the bytes to whether they are the head of a request, begin one, or are none.
-use Rattle.std.proofs.Common.{◌≡◌, ◌≢◌, ℕ, zero, suc, ◌+◌, ◌≤◌, ◌<◌, Bool, true, false, ◌&&◌, nat_le, leb-true, List, [], ◌∷◌, ◌++◌, ◌⊎◌, inl, inr, refl, sym, ap, ◌∙◌, subst, arith, length, take, drop, map, append_assoc, Option, Some, None, Result, Ok, Err, lit<}
-use Rattle.std.specs.Prelude.{All, IfOk, IsUtf8, ◌==◌, if◌then◌else◌, codes}
-use Rattle.std.specs.List.{list_all, flat_map}
+use Rattle.std.proofs.Common.{◌≡◌, ℕ, zero, suc, ◌+◌, ◌≤◌, Bool, true, false, ◌&&◌, nat_le, leb-true, List, [], ◌∷◌, ◌++◌, inl, inr, refl, sym, ap, ◌∙◌, subst, arith, length, take, drop, map, append_assoc, Option, Some, None, Result, Ok, Err, lit<}
+use Rattle.std.specs.Prelude.{IfOk, if◌then◌else◌}
+use Rattle.std.specs.List.{list_all}
 use Rattle.std.specs.Char.{is_ascii_graphic}
 use Rattle.std.proofs.lemmas.Bool.{and_parts}
 use Rattle.std.proofs.lemmas.Bool.Decides.{nat_tests}
-use Rattle.std.proofs.lemmas.Grind.{common_steps}
 use Rattle.std.proofs.lemmas.List.{length-map, length-take, length-take-le, length-append, append-nil}
 use Rattle.std.proofs.lemmas.List.Folds.{list_all-append}
 use Rattle.std.proofs.lemmas.List.Sums.{list_all-from_AllPass, AllPass-from_list_all}
 use Rattle.std.proofs.lemmas.List.Elements.{All-nil, All-take, All-weaker}
 use Rattle.httparse.specs.declared.spans.HeaderSpan.{HeaderSpan}
 use Rattle.httparse.specs.declared.spans.RequestSpans.{RequestSpans}
-use Rattle.httparse.specs.Grammar.{is_token_byte, is_uri_byte, IsToken, AllPass, LineEnd, crlf, lf, print_end, print_blank, print_version, print_section, RequestHead, IsRequestHead, print_request, ReadsRequest, HasNoRequest, MayBecomeRequest, EndsInTarget, NeverHasRequest, IsField}
-use Rattle.httparse.specs.Spans.{IsRequestAt, IsRequestOf, IsRequestWithin, RequestExceeds, header_bytes, span_bytes, name_and_value, AreFieldsAt}
-use Rattle.httparse.proofs.GrammarLemmas.{cons-append, print_request-append, request_unique, ReadsRequest-append}
+use Rattle.httparse.specs.Grammar.{is_token_byte, is_uri_byte, IsToken, AllPass, LineEnd, crlf, lf, print_end, print_blank, print_version, RequestHead, IsRequestHead, print_request, ReadsRequest, HasNoRequest, MayBecomeRequest, EndsInTarget, IsField}
+use Rattle.httparse.specs.Spans.{IsRequestAt, IsRequestOf, IsRequestWithin, RequestExceeds, header_bytes, span_bytes, name_and_value}
+use Rattle.httparse.proofs.GrammarLemmas.{cons-append, print_request-append}
 use Rattle.http_head.specs.declared.parts.RequestParts.{RequestParts}
 use Rattle.http_head.specs.declared.parts.Scan.{Scan}
 use Rattle.http_head.specs.declared.parts.Scan.TheVariants.{NoHead}
 use Rattle.http_head.specs.Corners.{behind_blank, starts_plain, ends_in, is_request_fine}
-use Rattle.http_head.specs.Requests.{is_plain, ReadsPlain, request_lines, request_by, request_said, request_judged, scan_said, CanEndRequest, NeverRequest, BeginsRequest, IsNoRequest, ScansRequest}
-use Rattle.http_head.proofs.Tails.{no_blank, no_end, behind_blank-at, behind_blank-more, starts_plain-front, starts_plain-word, starts_plain-last, ends_in-append, ends_in-none, ends_behind-more, plain_behind-front}
+use Rattle.http_head.specs.Requests.{is_plain, ReadsPlain, request_lines, request_said, request_judged, scan_said, CanEndRequest, NeverRequest, BeginsRequest, IsNoRequest, ScansRequest}
+use Rattle.http_head.proofs.Tails.{no_blank, behind_blank-at, starts_plain-front, starts_plain-word, starts_plain-last, ends_in-append, ends_in-none, ends_behind-more, plain_behind-front}
 use Rattle.http_head.proofs.Texts.{plain_is_text}
 use Rattle.http_head.proofs.Cuts.{two_cuts}
-use Rattle.http_head.proofs.Counts.{other_than, lines_of, ends_in-print_end, IsStart, before_last, begun_few, lines_inside}
+use Rattle.http_head.proofs.Counts.{other_than, lines_of, ends_in-print_end, IsStart, before_last, lines_inside}
 
 -- ---- the first line
 
@@ -79,16 +78,18 @@ ends_in_version (suc zero) small = refl
 ends_in_version (suc (suc n)) small = absurd (omega arith)
 
 pub request_start_is : (h : RequestHead) → IsRequestHead h → IsStart (request_start h)
-request_start_is h is = record { counts = λ t.
-    let target = no_end_in_target h.target is.target.1 in
-    let version = ends_in_version h.minor is.minor in
-    let end = ends_in-print_end h.line_end in
-    let one = ends_in-append (print_version h.minor) (print_end h.line_end) in
-    let two = ends_in-append (print_version h.minor ++ print_end h.line_end) t in
-    let three = ends_in-append h.target (32 ∷ ((print_version h.minor ++ print_end h.line_end) ++ t)) in
-    let blank : ends_in (32 ∷ ((print_version h.minor ++ print_end h.line_end) ++ t)) ≡ 0 + ends_in ((print_version h.minor ++ print_end h.line_end) ++ t) = ends_in-append (32 ∷ []) ((print_version h.minor ++ print_end h.line_end) ++ t) in
-    let here = ap ends_in (behind_start h is t) in
-    omega arith }
+request_start_is h is = record {
+  counts = λ t.
+      let target = no_end_in_target h.target is.target.1 in
+      let version = ends_in_version h.minor is.minor in
+      let end = ends_in-print_end h.line_end in
+      let one = ends_in-append (print_version h.minor) (print_end h.line_end) in
+      let two = ends_in-append (print_version h.minor ++ print_end h.line_end) t in
+      let three = ends_in-append h.target (32 ∷ ((print_version h.minor ++ print_end h.line_end) ++ t)) in
+      let blank : ends_in (32 ∷ ((print_version h.minor ++ print_end h.line_end) ++ t)) ≡ 0 + ends_in ((print_version h.minor ++ print_end h.line_end) ++ t) = ends_in-append (32 ∷ []) ((print_version h.minor ++ print_end h.line_end) ++ t) in
+      let here = ap ends_in (behind_start h is t) in
+      omega arith;
+}
 
 -- the target that a head shows is its target
 pub target_seen : (h : RequestHead) → IsRequestHead h → (rest : List ℕ) → starts_plain (behind_blank (print_request h ++ rest)) ≡ is_plain h.target
@@ -107,7 +108,7 @@ never_by_target bytes other = λ more h rest reads.
 
 -- ---- begun
 
-can_end_front : (bytes m : List ℕ) → CanEndRequest (bytes ++ m) → CanEndRequest bytes
+pub can_end_front : (bytes m : List ℕ) → CanEndRequest (bytes ++ m) → CanEndRequest bytes
 can_end_front bytes m can = (m ++ can.0, can.1, subst (λ t. ReadsPlain t can.1 []) (append_assoc bytes m can.0) can.2)
 
 graphic_is_uri : (b : ℕ) → is_ascii_graphic b ≡ true → is_uri_byte b ≡ true
@@ -176,13 +177,13 @@ can_end_front_of : (bytes more : List ℕ) (h : RequestHead) → ReadsRequest (b
 can_end_front_of bytes more h reads plain =
     let text : request_start h ++ (lines_of h.fields ++ print_end h.last) ≡ (before_target h ++ 32 ∷ []) ++ (h.target ++ behind_target h) = simp (append_assoc, cons-append) in
     elim (two_cuts bytes more (before_target h ++ 32 ∷ []) (h.target ++ behind_target h) (reads.1 ∙ request_ends h ∙ text)) [
-      inl w ↦
-      let is : bytes ≡ before_target h ++ 32 ∷ w.0 = w.1 ∙ append_assoc (before_target h) (32 ∷ []) w.0 in
-      elim (two_cuts h.target (behind_target h) w.0 more w.2) [
-        inl v ↦ inside_it h reads.0 bytes w.0 v.0 is v.1 plain
-      | inr v ↦ (more, h, (reads, past_it h reads.0 bytes w.0 v.0 is v.1 plain))
-      ]
-    | inr w ↦ before_it h reads.0 bytes w.0 w.1
+      | inl w ↦
+          let is : bytes ≡ before_target h ++ 32 ∷ w.0 = w.1 ∙ append_assoc (before_target h) (32 ∷ []) w.0 in
+          elim (two_cuts h.target (behind_target h) w.0 more w.2) [
+            | inl v ↦ inside_it h reads.0 bytes w.0 v.0 is v.1 plain
+            | inr v ↦ (more, h, (reads, past_it h reads.0 bytes w.0 v.0 is v.1 plain))
+          ]
+      | inr w ↦ before_it h reads.0 bytes w.0 w.1
     ]
 
 can_end : (bytes : List ℕ) → MayBecomeRequest bytes → starts_plain (behind_blank bytes) ≡ true → CanEndRequest bytes
@@ -231,9 +232,9 @@ begins bytes short may fine =
       not_whole = short;
       can_end = can_end bytes may parts.0;
       few_lines = λ many.
-        let more = exceeding_ends bytes many in
-        let few = leb-true (ends_in (behind_blank bytes)) 65 parts.1 in
-        omega arith;
+          let more = exceeding_ends bytes many in
+          let few = leb-true (ends_in (behind_blank bytes)) 65 parts.1 in
+          omega arith;
     }
 
 pub is_none : (bytes : List ℕ) → HasNoRequest bytes → MayBecomeRequest bytes → is_request_fine bytes ≡ false → IsNoRequest bytes
@@ -252,7 +253,7 @@ judged_scans bytes headers spans h room within at =
     let count = ap length at.fields in
     let few : length h.fields ≤ 64 = omega (arith, count, length-map (take spans.headers headers) (header_bytes bytes), length-map h.fields name_and_value, length-take spans.headers headers, room) in
     let same : request_judged (span_bytes bytes spans.method) (span_bytes bytes spans.path) (map (header_bytes bytes) (take spans.headers headers)) spans.len ≡ request_judged h.method h.target (request_lines h) spans.len =
-        λ i. request_judged (at.method i) (at.path i) (at.fields i) spans.len in
+    λ i. request_judged (at.method i) (at.path i) (at.fields i) spans.len in
     subst (ScansRequest bytes) (sym same) (judged_by few (is_plain h.target) refl)
   where
     said_by : length h.fields ≤ 64 → is_plain h.target ≡ true → (said : Option RequestParts) → request_said h ≡ said → ScansRequest bytes (scan_said said spans.len)

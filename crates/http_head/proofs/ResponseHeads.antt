@@ -1,27 +1,25 @@
 -- From what httparse says of the bytes to whether they are the head of a response, begin one, or are none.
-use Rattle.std.proofs.Common.{◌≡◌, ◌≢◌, ℕ, zero, suc, ◌+◌, ◌≤◌, ◌<◌, Bool, true, false, ◌&&◌, nat_le, leb-true, List, [], ◌∷◌, ◌++◌, ◌⊎◌, inl, inr, refl, sym, ap, ◌∙◌, subst, arith, length, take, drop, map, append_assoc, Option, Some, None, Result, Ok, Err}
-use Rattle.std.specs.Prelude.{All, IfOk, ◌==◌, if◌then◌else◌, codes}
-use Rattle.std.specs.List.{list_all, flat_map}
+use Rattle.std.proofs.Common.{◌≡◌, ℕ, zero, suc, ◌+◌, ◌≤◌, true, false, leb-true, List, [], ◌∷◌, ◌++◌, inl, inr, refl, sym, ap, ◌∙◌, subst, arith, length, take, drop, map, append_assoc, Option, Some, None, Result, Ok, Err}
+use Rattle.std.specs.Prelude.{IfOk}
+use Rattle.std.specs.List.{list_all}
 use Rattle.std.specs.Char.{is_ascii_digit}
-use Rattle.std.proofs.lemmas.Bool.{and_parts}
 use Rattle.std.proofs.lemmas.Bool.Decides.{nat_tests}
-use Rattle.std.proofs.lemmas.Grind.{common_steps}
 use Rattle.std.proofs.lemmas.List.{length-map, length-take, length-take-le, append-nil}
 use Rattle.std.proofs.lemmas.List.Folds.{list_all-append}
 use Rattle.std.proofs.lemmas.List.Sums.{list_all-from_AllPass}
 use Rattle.std.proofs.lemmas.List.Elements.{All-take}
 use Rattle.httparse.specs.declared.spans.HeaderSpan.{HeaderSpan}
 use Rattle.httparse.specs.declared.spans.ResponseSpans.{ResponseSpans}
-use Rattle.httparse.specs.Grammar.{is_value_byte, AllPass, LineEnd, crlf, lf, print_end, print_blank, print_version, print_reason, reason_phrase, print_section, IsField, ResponseHead, IsResponseHead, print_response, ReadsResponse, HasNoResponse, MayBecomeResponse, NeverHasResponse, status_code}
+use Rattle.httparse.specs.Grammar.{is_value_byte, AllPass, LineEnd, crlf, lf, print_end, print_blank, print_version, print_reason, reason_phrase, IsField, ResponseHead, IsResponseHead, print_response, ReadsResponse, HasNoResponse, MayBecomeResponse}
 use Rattle.httparse.specs.Spans.{IsResponseAt, IsResponseOf, IsResponseWithin, ResponseExceeds, header_bytes, name_and_value}
 use Rattle.httparse.proofs.GrammarLemmas.{cons-append, print_response-append}
 use Rattle.http_head.specs.declared.parts.ResponseParts.{ResponseParts}
 use Rattle.http_head.specs.declared.parts.Scan.{Scan}
 use Rattle.http_head.specs.Corners.{behind_blank, ends_in, is_response_fine}
 use Rattle.http_head.specs.Requests.{scan_said}
-use Rattle.http_head.specs.Responses.{response_lines, response_by, response_said, BeginsResponse, IsNoResponse, ScansResponse}
-use Rattle.http_head.proofs.Tails.{no_blank, no_end, behind_blank-at, ends_in-append, ends_in-none, ends_behind-more}
-use Rattle.http_head.proofs.Counts.{other_than, lines_of, ends_in-print_end, IsStart, before_last, begun_few, lines_inside}
+use Rattle.http_head.specs.Responses.{response_by, response_said, BeginsResponse, IsNoResponse, ScansResponse}
+use Rattle.http_head.proofs.Tails.{no_blank, behind_blank-at, ends_in-append, ends_in-none, ends_behind-more}
+use Rattle.http_head.proofs.Counts.{other_than, lines_of, ends_in-print_end, IsStart, before_last, lines_inside}
 
 -- ---- the first line
 
@@ -77,15 +75,17 @@ no_end_in_reason (Some phrase) all =
     omega arith
 
 pub response_start_is : (h : ResponseHead) → IsResponseHead h → IsStart (response_start h)
-response_start_is h is = record { counts = λ t.
-    let digits = no_end_in_digits h.digits is.digits.1 in
-    let reason = no_end_in_reason h.reason is.reason in
-    let end = ends_in-print_end h.line_end in
-    let one = ends_in-append (print_reason h.reason) (print_end h.line_end) in
-    let two = ends_in-append (print_reason h.reason ++ print_end h.line_end) t in
-    let three = ends_in-append h.digits ((print_reason h.reason ++ print_end h.line_end) ++ t) in
-    let here = ap ends_in (behind_start h is t) in
-    omega arith }
+response_start_is h is = record {
+  counts = λ t.
+      let digits = no_end_in_digits h.digits is.digits.1 in
+      let reason = no_end_in_reason h.reason is.reason in
+      let end = ends_in-print_end h.line_end in
+      let one = ends_in-append (print_reason h.reason) (print_end h.line_end) in
+      let two = ends_in-append (print_reason h.reason ++ print_end h.line_end) t in
+      let three = ends_in-append h.digits ((print_reason h.reason ++ print_end h.line_end) ++ t) in
+      let here = ap ends_in (behind_start h is t) in
+      omega arith;
+}
 
 -- ---- too many lines
 
@@ -124,9 +124,9 @@ begins bytes short may fine =
       not_whole = short;
       can_end = may;
       few_lines = λ many.
-        let more = exceeding_ends bytes many in
-        let few = leb-true (ends_in (behind_blank bytes)) 65 fine in
-        omega arith;
+          let more = exceeding_ends bytes many in
+          let few = leb-true (ends_in (behind_blank bytes)) 65 fine in
+          omega arith;
     }
 
 pub is_none : (bytes : List ℕ) → HasNoResponse bytes → MayBecomeResponse bytes → is_response_fine bytes ≡ false → IsNoResponse bytes
@@ -141,7 +141,7 @@ judged_scans bytes headers spans h room within at =
     let count = ap length at.fields in
     let few : length h.fields ≤ 64 = omega (arith, count, length-map (take spans.headers headers) (header_bytes bytes), length-map h.fields name_and_value, length-take spans.headers headers, room) in
     let same : scan_said (response_by spans.code (map (header_bytes bytes) (take spans.headers headers))) spans.len ≡ scan_said (response_said h) spans.len =
-        λ i. scan_said (response_by (at.code i) (at.fields i)) spans.len in
+    λ i. scan_said (response_by (at.code i) (at.fields i)) spans.len in
     subst (ScansResponse bytes) (sym same) (said_by few (response_said h) refl)
   where
     said_by : length h.fields ≤ 64 → (said : Option ResponseParts) → response_said h ≡ said → ScansResponse bytes (scan_said said spans.len)

@@ -1,18 +1,16 @@
 -- Values of visible ASCII are text; a length of 19 digits fits.
-use Rattle.std.proofs.Common.{◌≡◌, ℕ, ◌<◌, ◌≤◌, ◌^◌, ◌&&◌, Bool, true, false, List, length, Some, None, refl, arith, sym, ap, nat_le, nat_lt, le-leb, leb-true, rules, cond}
-use Rattle.std.specs.Prelude.{All, IsUtf8, if◌then◌else◌}
+use Rattle.std.proofs.Common.{◌≡◌, ℕ, ◌<◌, ◌≤◌, ◌&&◌, Bool, true, false, List, length, Some, None, refl, arith, ap, nat_le, nat_lt, le-leb, leb-true, rules}
+use Rattle.std.specs.Prelude.{IsUtf8, if◌then◌else◌}
 use Rattle.std.specs.List.{list_all}
 use Rattle.std.specs.Char.{is_ascii_digit, is_ascii_graphic}
 use Rattle.std.specs.Str.Parse.{digits_value}
-use Rattle.std.proofs.lemmas.Bool.{and_parts}
 use Rattle.std.proofs.lemmas.Bool.Decides.{nat_tests}
-use Rattle.std.proofs.lemmas.Grind.{common_steps}
 use Rattle.std.proofs.lemmas.List.Sums.{AllPass-from_list_all}
 use Rattle.std.proofs.lemmas.List.Elements.{All-weaker}
 use Rattle.std.proofs.lemmas.Str.{IsUtf8-from_ascii}
 use Rattle.std.proofs.lemmas.Str.Ascii.{IsAscii-from_all}
 use Rattle.std.proofs.lemmas.Str.Parse.{IsDigitsTest, IsNumeralModel, numerals_by_value, digits_value_short}
-use Rattle.cool_base.specs.Numbers.{number, is_decimal, decimal_value}
+use Rattle.cool_base.specs.Numbers.{number, decimal_value}
 use Rattle.http_head.specs.declared.framing.Said.TheVariants.{Length, Wrong}
 use Rattle.http_head.specs.Lines.{is_shown}
 use Rattle.http_head.specs.Framings.{length_said}

@@ -1,5 +1,5 @@
 -- The part of a head behind its first blank: the target of a request, and the ends of the lines.
-use Rattle.std.specs.Prelude.{ℕ, ◌≤◌, ◌==◌, Bool, true, ◌&&◌, nat_le, List, [], ◌∷◌, if◌then◌else◌, count_by}
+use Rattle.std.specs.Prelude.{ℕ, ◌==◌, Bool, true, ◌&&◌, nat_le, List, [], ◌∷◌, if◌then◌else◌, count_by}
 use Rattle.std.specs.Char.{is_ascii_graphic}
 
 -- the bytes behind the first blank, or none where there is no blank

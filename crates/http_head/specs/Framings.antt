@@ -1,6 +1,5 @@
 -- What the lines of a head say of the body behind it.
-use Rattle.std.specs.Prelude.{ℕ, Bool, true, false, ◌&&◌, ◌||◌, nat_le, ◌==◌, List, [], ◌∷◌, Option, Some, None, option_and_then, if◌then◌else◌, codes, bytes_eq, length}
-use Rattle.std.specs.List.{list_all}
+use Rattle.std.specs.Prelude.{ℕ, Bool, ◌&&◌, ◌||◌, nat_le, ◌==◌, List, [], ◌∷◌, Option, Some, None, option_and_then, if◌then◌else◌, codes, bytes_eq, length}
 use Rattle.cool_base.specs.Numbers.{is_decimal, decimal_value}
 use Rattle.http_head.specs.declared.framing.Framing.{Framing}
 use Rattle.http_head.specs.declared.framing.Framing.TheVariants.{Empty, Sized, Chunked, ToEnd}

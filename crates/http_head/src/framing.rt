@@ -20,10 +20,11 @@ pub enum Framing {
 
 /// What lines say of the body.
 #[derive(Clone, Copy)]
-pub(crate) enum Said {
+pub enum Said {
     Nothing,
     Length(u64),
     Chunks,
+    /// Two that contradict each other, or one that is unknown or out of form.
     Wrong,
 }
 

@@ -4,17 +4,23 @@
 //!
 //! - `scan_head`, `scan_response_head`: whether bytes begin with a whole head, begin one, or are none.
 //! - `RequestParts`, `ResponseParts` (`parts`): what a whole head says.
+//! - `requests_are_read_in_one_way`, `responses_are_read_in_one_way` (`laws`): one reading, and three
+//!   kinds of bytes that exclude one another.
 //! - `Framing` (`framing`): which body is behind it.
 #![tactic(auto)]
 
 mod corners;
 mod fields;
 mod framing;
+mod laws;
 mod parts;
 mod requests;
 mod responses;
+#[cfg(test)]
+mod tests;
 
-pub use framing::Framing;
+pub use framing::{Framing, Said};
+pub use laws::{requests_are_read_in_one_way, responses_are_read_in_one_way};
 pub use parts::{RequestParts, ResponseParts, Scan};
 pub use requests::scan_head;
 pub use responses::scan_response_head;

@@ -61,13 +61,7 @@ fn whole(
     requires { IsResponseWithin bytes.now lines.now spans.now }
     ensures { IfOk result (λ scan. scan ≡ scan_said (response_by spans.now.code (map (header_bytes bytes.now) (take spans.now.headers lines.now))) spans.now.len) }
 {
-    judged(
-        alloc,
-        spans.code,
-        bytes,
-        &lines[..spans.headers],
-        spans.len,
-    )
+    judged(alloc, spans.code, bytes, &lines[..spans.headers], spans.len)
 }
 
 #[tactic(auto, using(crate::proofs::ResponseHeads::opens))]
