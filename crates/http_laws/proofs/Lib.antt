@@ -1,0 +1,4 @@
+pub mod Finals
+pub mod Counts
+pub mod Fronts
+pub mod HeadLaws
