@@ -7,7 +7,9 @@
 #![tactic(auto)]
 
 mod bodies;
+mod chunks;
 mod messages;
 
 pub use bodies::{bodies_have_their_length, bodies_stay};
+pub use chunks::chunks_are_read_again;
 pub use messages::{requests_say_one_thing, responses_say_one_thing};
