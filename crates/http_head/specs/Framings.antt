@@ -1,0 +1,69 @@
+-- What the lines of a head say of the body behind it.
+use Rattle.std.specs.Prelude.{ℕ, Bool, ◌&&◌, ◌||◌, nat_le, ◌==◌, List, [], ◌∷◌, Option, Some, None, option_and_then, if◌then◌else◌, codes, bytes_eq, length}
+use Rattle.cool_base.specs.Numbers.{is_decimal, decimal_value}
+use Rattle.http_head.specs.declared.framing.Framing.{Framing}
+use Rattle.http_head.specs.declared.framing.Framing.TheVariants.{Empty, Sized, Chunked, ToEnd}
+use Rattle.http_head.specs.declared.framing.Said.{Said}
+use Rattle.http_head.specs.declared.framing.Said.TheVariants.{Nothing, Length, Chunks, Wrong}
+use Rattle.http_head.specs.Lines.{is_named}
+
+-- what a value of `Content-Length` says: 1 to 19 digits are the length that they write
+abbrev pub length_said : List ℕ → Said
+length_said value = if is_decimal value && nat_le (length value) 19 then Length (decimal_value value) else Wrong
+
+-- what a value of `Transfer-Encoding` says: `chunked` alone is known
+abbrev pub coding_said : List ℕ → Said
+coding_said value = if bytes_eq value (codes "chunked") then Chunks else Wrong
+
+-- what one line says
+abbrev pub line_said : List ℕ × List ℕ → Said
+line_said line =
+    if is_named (codes "content-length") line then length_said line.1
+    else (if is_named (codes "transfer-encoding") line then coding_said line.1 else Nothing)
+
+-- a length beside another length
+abbrev pub same_length : ℕ → ℕ → Said
+same_length a b = if a == b then Length a else Wrong
+
+-- what two say together: two lengths that differ are wrong, and so is a length beside a coding
+abbrev pub joined : Said → Said → Said
+joined Nothing b = b
+joined Wrong b = Wrong
+joined (Length a) Nothing = Length a
+joined (Length a) (Length b) = same_length a b
+joined (Length a) Chunks = Wrong
+joined (Length a) Wrong = Wrong
+joined Chunks Nothing = Chunks
+joined Chunks (Length b) = Wrong
+joined Chunks Chunks = Chunks
+joined Chunks Wrong = Wrong
+
+-- what the lines say together
+abbrev pub lines_said : List (List ℕ × List ℕ) → Said
+lines_said [] = Nothing
+lines_said (line ∷ lines) = joined (line_said line) (lines_said lines)
+
+-- the body of a request, which has none where nothing is said; None where what is said is wrong
+abbrev pub request_framing : Said → Option Framing
+request_framing Nothing = Some Empty
+request_framing (Length n) = Some (Sized n)
+request_framing Chunks = Some Chunked
+request_framing Wrong = None
+
+-- a status from 100 to 199, 204 or 304 has no body
+abbrev pub is_bodiless : ℕ → Bool
+is_bodiless status = (nat_le 100 status && nat_le status 199) || (status == 204 || status == 304)
+
+-- the body of a response, which goes to the end of the wire where nothing is said
+abbrev pub said_framing : Said → Option Framing
+said_framing Nothing = Some ToEnd
+said_framing (Length n) = Some (Sized n)
+said_framing Chunks = Some Chunked
+said_framing Wrong = None
+
+-- the same for its status
+abbrev pub framing_for : ℕ → Framing → Framing
+framing_for status framing = if is_bodiless status then Empty else framing
+
+abbrev pub response_framing : ℕ → Said → Option Framing
+response_framing status said = option_and_then (λ framing. Some (framing_for status framing)) (said_framing said)

@@ -1,0 +1,5 @@
+pub mod Lines
+pub mod Framings
+pub mod Requests
+pub mod Responses
+pub mod Corners

@@ -1,0 +1,3 @@
+pub mod Messages
+pub mod GrowLaws
+pub mod Kinds

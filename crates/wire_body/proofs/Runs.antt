@@ -1,0 +1,83 @@
+-- Bytes one after another: by one, by a block of content, by two pieces.
+use Rattle.std.proofs.Common.{ℕ, ◌≡◌, ◌+◌, ◌-◌, ◌<◌, ◌≤◌, true, false, cond, List, [], ◌∷◌, ◌++◌, length, refl, sym, ap, ◌∙◌, arith, append_assoc, max, take, drop, get_or}
+use Rattle.std.proofs.lemmas.List.{length-take-le, take-append-drop}
+use Rattle.wire_body.specs.declared.states.BodyState.{BodyState}
+use Rattle.wire_body.specs.declared.states.Phase.{Phase}
+use Rattle.wire_body.specs.declared.states.Phase.TheVariants.{Counted, Open, Data}
+use Rattle.std.proofs.lemmas.Bool.Decides.{nat_tests}
+use Rattle.wire_body.specs.Bodies.{run, reached, step, taken, behind, is_content}
+
+-- no byte
+pub run_none : (s : BodyState) (body : List ℕ) → run s body [] ≡ reached s body
+unfolding run
+run_none s body = refl
+
+-- a byte that is no content
+pub run_one : (s : BodyState) (body : List ℕ) (b : ℕ) (bytes : List ℕ) → is_content s.phase ≡ false → run s body (b ∷ bytes) ≡ run (step s b) body bytes
+unfolding run
+run_one s body b bytes is = ap (λ c. run (step s b) (cond c (body ++ b ∷ []) body) bytes) is
+
+-- a byte of content
+pub run_content : (s : BodyState) (body : List ℕ) (b : ℕ) (bytes : List ℕ) → is_content s.phase ≡ true → run s body (b ∷ bytes) ≡ run (step s b) (body ++ b ∷ []) bytes
+unfolding run
+run_content s body b bytes is = ap (λ c. run (step s b) (cond c (body ++ b ∷ []) body) bytes) is
+
+-- one piece and then another
+pub run_append : (s : BodyState) (body xs ys : List ℕ) → run s body (xs ++ ys) ≡ run (run s body xs).state (run s body xs).body ys
+unfolding run
+run_append s body [] ys = refl
+run_append s body (x ∷ xs) ys = run_append (step s x) (cond (is_content s.phase) (body ++ x ∷ []) body) xs ys
+
+abbrev place : Phase → ℕ → ℕ → ℕ → BodyState
+place p left room line = record { phase = p; left = left; room = room; line = line }
+
+step_content : (p : Phase) (left room line b : ℕ) → is_content p ≡ true → step (place p left room line) b ≡ taken (behind p) 1 (place p left room line)
+step_content Counted left room line b is = refl
+step_content Open left room line b is = refl
+step_content Data left room line b is = refl
+step_content _ left room line b is = cc
+
+-- one byte and then the others are all of them
+one_more : (p : Phase) (left room line n : ℕ) → 0 < n → n + 1 ≤ left → taken (behind p) 1 (place p left room line) ≡ place p (left - 1) room line
+one_more p left room line n pos fits = grind (arith, nat_tests)
+
+all_but_one : (p : Phase) (left room line n : ℕ) → 0 < n → n + 1 ≤ left → taken (behind p) n (place p (left - 1) room line) ≡ taken (behind p) (n + 1) (place p left room line)
+all_but_one p left room line n pos fits = grind (arith, nat_tests)
+
+-- a block of content at once
+block_at : (p : Phase) (room line : ℕ) → is_content p ≡ true → (left : ℕ) (body xs rest : List ℕ) → 0 < length xs → length xs ≤ max left 1
+    → run (place p left room line) body (xs ++ rest) ≡ run (taken (behind p) (length xs) (place p left room line)) (body ++ xs) rest
+block_at p room line is left body [] rest pos fits = absurd (omega arith)
+block_at p room line is left body (x ∷ []) rest pos fits =
+    run_content (place p left room line) body x rest is
+    ∙ ap (λ s. run s (body ++ x ∷ []) rest) (step_content p left room line x is)
+block_at p room line is left body (x ∷ (y ∷ ys)) rest pos fits =
+    let n : ℕ = length (y ∷ ys) in
+    let some : 0 < n = omega arith in
+    let more : n + 1 ≤ left = omega arith in
+    let less : n ≤ max (left - 1) 1 = omega arith in
+    let same : n + 1 ≡ length (x ∷ (y ∷ ys)) = omega arith in
+    run_content (place p left room line) body x ((y ∷ ys) ++ rest) is
+    ∙ ap (λ s. run s (body ++ x ∷ []) ((y ∷ ys) ++ rest)) (step_content p left room line x is ∙ one_more p left room line n some more)
+    ∙ block_at p room line is (left - 1) (body ++ x ∷ []) (y ∷ ys) rest some less
+    ∙ ap (λ s. run s ((body ++ x ∷ []) ++ (y ∷ ys)) rest) (all_but_one p left room line n some more ∙ ap (λ m. taken (behind p) m (place p left room line)) same)
+    ∙ ap (λ zs. run (taken (behind p) (length (x ∷ (y ∷ ys))) (place p left room line)) zs rest) (append_assoc body (x ∷ []) (y ∷ ys))
+
+pub block : (s : BodyState) (body xs rest : List ℕ) → is_content s.phase ≡ true → 0 < length xs → length xs ≤ max s.left 1
+    → run s body (xs ++ rest) ≡ run (taken (behind s.phase) (length xs) s) (body ++ xs) rest
+block s body xs rest is pos fits = block_at s.phase s.room s.line is s.left body xs rest pos fits
+
+-- the first so many bytes of a piece
+pub block_of_piece : (s : BodyState) (body piece : List ℕ) (n : ℕ) → is_content s.phase ≡ true → 0 < n → n ≤ length piece → n ≤ max s.left 1
+    → run s body piece ≡ run (taken (behind s.phase) n s) (body ++ take n piece) (drop n piece)
+block_of_piece s body piece n is pos fits room =
+    let len : length (take n piece) ≡ n = length-take-le n piece fits in
+    ap (λ xs. run s body xs) (sym (take-append-drop n piece))
+    ∙ block s body (take n piece) (drop n piece) is (omega arith) (omega arith)
+    ∙ ap (λ m. run (taken (behind s.phase) m s) (body ++ take n piece) (drop n piece)) len
+
+-- the first byte of a piece, which is no content
+pub one_of_piece : (s : BodyState) (body piece : List ℕ) → is_content s.phase ≡ false → 0 < length piece
+    → run s body piece ≡ run (step s (get_or piece 0 0)) body (drop 1 piece)
+one_of_piece s body [] is pos = absurd (omega arith)
+one_of_piece s body (x ∷ xs) is pos = run_one s body x xs is

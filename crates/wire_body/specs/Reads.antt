@@ -1,0 +1,27 @@
+-- A body that is read from a wire.
+use Rattle.std.specs.Prelude.{ℕ, ◌≡◌, Bool, List, ◌++◌, Option, Some, None, Result, Ok, Err, ⊤}
+use Rattle.outside.specs.declared.faults.WireFault.{WireFault}
+use Rattle.outside.specs.declared.faults.WireFault.TheVariants.{ReadFault, WriteFault}
+use Rattle.outside.specs.Wires.{Talk, Hears}
+use Rattle.wire_body.specs.declared.faults.HttpFault.{HttpFault}
+use Rattle.wire_body.specs.declared.faults.HttpFault.TheVariants.{Wire, Memory as NoMemory}
+use Rattle.wire_body.specs.declared.states.BodyState.{BodyState}
+use Rattle.wire_body.specs.Bodies.{body_says}
+
+-- The fault is the one that the bytes say. A failed read comes only where they say nothing yet, and
+-- no read answers that a write failed.
+abbrev pub FaultSaid : {A : Type 0} → Option (Result A WireFault) → WireFault → Type 0
+FaultSaid said ReadFault = said ≡ None
+FaultSaid said WriteFault = ⊥
+FaultSaid said fault = said ≡ Some (Err fault)
+
+-- An answer is what the bytes say. Where memory ran out they may say anything.
+abbrev pub IsSaid : {A : Type 0} → Option (Result A WireFault) → Result A HttpFault → Type 0
+IsSaid said (Ok a) = said ≡ Some (Ok a)
+IsSaid said (Err NoMemory) = ⊤
+IsSaid said (Err (Wire fault)) = FaultSaid said fault
+
+-- Bytes were received, with the end or without, and the answer is what they say behind those that came before
+abbrev pub ReadsBody : Option Talk → Option Talk → BodyState → List ℕ → Result (List ℕ) HttpFault → Type 0
+ReadsBody old new start front result =
+    (more : List ℕ) × (ended : Bool) × Hears old more ended new × IsSaid (body_says start (front ++ more) ended) result
