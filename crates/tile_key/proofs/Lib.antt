@@ -1,2 +1,5 @@
+pub mod GridFacts
 pub mod GroupFacts
 pub mod PlaceFacts
+pub mod SpanFacts
+pub mod VisibleFacts

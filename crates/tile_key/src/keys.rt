@@ -189,6 +189,22 @@ impl TileKey {
         self == other
     }
 
+    /// The key that the seven words name, which are within its bounds.
+    pub(crate) fn of_words(words: TileWords) -> TileKey
+        requires { IsKey (place_of words) }
+        ensures { result ≡ place_of words }
+    {
+        TileKey {
+            part: words.part,
+            posy: words.tileposy,
+            posx: words.tileposx,
+            width: words.width,
+            height: words.height,
+            tilewidth: words.tilewidth,
+            tileheight: words.tileheight,
+        }
+    }
+
     /// The seven words that name the key.
     pub fn words(&self) -> TileWords
         ensures value { place_of result ≡ self.now }

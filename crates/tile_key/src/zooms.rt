@@ -1,8 +1,9 @@
 //! `Zoom`.
-ghost use Rattle.std.specs.Prelude.{◌≡◌, IsTrue, Some};
+ghost use Rattle.std.specs.Prelude.{◌≡◌, ◌*◌, ◌≤◌, IsTrue, Some};
 ghost use Rattle.tile_key.specs.Places.{Scale, zoom_of, is_zoom};
+ghost use Rattle.tile_key.specs.Visible.{tile_in};
 
-use crate::keys::{TileWords, key_of};
+use crate::keys::{TileKey, TileWords, key_of};
 use std::marker::Model;
 
 /// The size of a view's tiles: 1 to 256 pixels, 15 to 61,440 twips.
@@ -46,6 +47,57 @@ impl Zoom {
             pixel_h,
             twip_w,
             twip_h,
+        })
+    }
+
+    /// The width of a tile in pixels.
+    pub fn pixel_w(&self) -> u32
+        ensures value { result ≡ self.now.pixel_w }
+        ensures form { IsTrue (is_zoom self.now) }
+    {
+        self.pixel_w
+    }
+
+    /// The height of a tile in pixels.
+    pub fn pixel_h(&self) -> u32
+        ensures value { result ≡ self.now.pixel_h }
+        ensures form { IsTrue (is_zoom self.now) }
+    {
+        self.pixel_h
+    }
+
+    /// The width of a tile in twips.
+    pub fn twip_w(&self) -> u32
+        ensures value { result ≡ self.now.twip_w }
+        ensures form { IsTrue (is_zoom self.now) }
+    {
+        self.twip_w
+    }
+
+    /// The height of a tile in twips.
+    pub fn twip_h(&self) -> u32
+        ensures value { result ≡ self.now.twip_h }
+        ensures form { IsTrue (is_zoom self.now) }
+    {
+        self.twip_h
+    }
+
+    /// The key of the zoom's tile in a column and a row, counted from 0, which begins at 2,147,483,647
+    /// or before on both sides.
+    #[tactic(auto, using(crate::proofs::VisibleFacts::tile_facts))]
+    pub fn key(&self, part: u32, column: u32, row: u32) -> TileKey
+        requires columns { column * self.now.twip_w ≤ 2147483647 }
+        requires rows { row * self.now.twip_h ≤ 2147483647 }
+        ensures { result ≡ tile_in part self.now column row }
+    {
+        TileKey::of_words(TileWords {
+            part,
+            width: self.pixel_w,
+            height: self.pixel_h,
+            tileposx: column * self.twip_w,
+            tileposy: row * self.twip_h,
+            tilewidth: self.twip_w,
+            tileheight: self.twip_h,
         })
     }
 }
