@@ -1,0 +1,4 @@
+pub mod Characters
+pub mod Apart
+pub mod Written
+pub mod Readable
