@@ -7,9 +7,8 @@ folder=$(mktemp -d)
 trap 'rm -rf "$folder"' EXIT
 git archive HEAD crates crates.txt HANDLES | tar -x -C "$folder"
 cd "$folder"
-rt new crates/chain_bench start_io >/dev/null
-rm -rf crates/chain_bench/BUILD.bazel crates/chain_bench/stdin crates/chain_bench/stdout crates/chain_bench/proofs/* crates/chain_bench/specs/*
-: >crates/chain_bench/specs/Lib.antt
+rm -rf crates/chain_bench
+mkdir -p crates/chain_bench/src
 echo "chain_bench: cool_base sheet_cells sheet_calc" >>crates.txt
 cat >crates/chain_bench/src/main.rt <<'END'
 //! Times one edit of a chain of 4,096 cells.

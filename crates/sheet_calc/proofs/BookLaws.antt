@@ -9,10 +9,10 @@ use Rattle.std.specs.List.{Contains}
 use Rattle.sheet_cells.specs.declared.cells.CellRef.{CellRef}
 use Rattle.formula_base.specs.Ranges.{Place}
 use Rattle.part_calc.specs.Parts.{Part, text_at, with_text}
-use Rattle.part_calc.specs.Shown.{shown_at}
+use Rattle.part_calc.specs.Shown.{shown_at, changed_cells}
 use Rattle.part_calc.specs.Text.{part_lines}
 use Rattle.sheet_calc.specs.declared.changed.Changed.{Changed}
-use Rattle.sheet_calc.specs.Books.{Parts, place_of, part_at, text_of, shown_of, with_cell, IsAmong}
+use Rattle.sheet_calc.specs.Books.{Parts, place_of, part_at, text_of, shown_of, with_cell, changed_in, IsAmong}
 use Rattle.sheet_calc.specs.FileText.{all_lines, file_text}
 
 -- the part of a cell once it was put back
@@ -116,3 +116,13 @@ set_exactly inside before at places old after view h lent told cell =
     let k = within inside before at.part view h in
     subst (λ (s : Parts). IsAmong (record { part = at.part; places = places }) cell ↔ (shown_of s cell ≢ shown_of (set inside at.part after) cell)) view
     (exactly inside after at places k (subst (λ (s : Part). (p : Place) → Contains places p ↔ (shown_at s p ≢ shown_at after p)) (the_part inside at.part old k lent) told) cell)
+
+pub set_changed : (inside before : Parts) (at : CellRef) (raw : List ℕ) (places : List Place) (old after : Part) → inside ≡ before → at.part < length before → old ≡ get_or inside at.part old → after ≡ with_text old (place_of at) raw
+    → places ≡ changed_cells old (with_text old (place_of at) raw) → record { part = at.part; places = places } ≡ changed_in before (set inside at.part after) at.part
+unfolding changed_in
+set_changed inside before at raw places old after view h lent put told =
+    let k = within inside before at.part view h in
+    ap (λ (ps : List Place). record { part = at.part; places = ps })
+    (told ∙ ap (changed_cells old) (sym put)
+    ∙ ap (λ (s : Part). changed_cells s after) (the_part inside at.part old k lent ∙ ap (λ (s : Parts). part_at s at.part) view)
+    ∙ ap (changed_cells (part_at before at.part)) (sym (part_same inside at.part after k)))

@@ -4,7 +4,7 @@ use Rattle.std.specs.List.{Contains}
 use Rattle.sheet_cells.specs.declared.cells.CellRef.{CellRef}
 use Rattle.formula_base.specs.Ranges.{Place}
 use Rattle.part_calc.specs.Parts.{Part, text_at, with_text}
-use Rattle.part_calc.specs.Shown.{shown_at}
+use Rattle.part_calc.specs.Shown.{shown_at, changed_cells}
 use Rattle.sheet_calc.specs.declared.changed.Changed.{Changed}
 
 -- the parts in order: of each, the cells that have a raw text
@@ -30,6 +30,10 @@ shown_of parts at = shown_at (part_at parts at.part) (place_of at)
 -- the parts with this raw text at the cell
 unfoldable pub with_cell : Parts → CellRef → List ℕ → Parts
 with_cell parts at raw = slice_set parts at.part (with_text (part_at parts at.part) (place_of at) raw)
+
+-- the cells of a part whose shown text differs, by rows and then columns
+unfoldable pub changed_in : Parts → Parts → ℕ → Changed
+changed_in old new n = record { part = n; places = changed_cells (part_at old n) (part_at new n) }
 
 -- whether a cell is among the changed ones
 abbrev pub IsAmong : Changed → CellRef → Type 0

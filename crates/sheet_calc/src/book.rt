@@ -4,7 +4,7 @@ ghost use Rattle.std.specs.List.Sorted.{IsStrictlySortedBy};
 ghost use Rattle.sheet_cells.specs.Cells.{IsCell, IsRaw};
 ghost use Rattle.sheet_cells.specs.declared.cells.CellRef.{CellRef};
 ghost use Rattle.formula_base.specs.Ranges.{place_cmp};
-ghost use Rattle.sheet_calc.specs.Books.{text_of, shown_of, with_cell, IsAmong};
+ghost use Rattle.sheet_calc.specs.Books.{text_of, shown_of, with_cell, changed_in, IsAmong};
 ghost use Rattle.sheet_calc.specs.FileText.{all_lines, file_text};
 
 use crate::changed::Changed;
@@ -67,6 +67,7 @@ impl Book {
         ensures there { OnOk result (text_of self.new at.now ≡ raw.now) }
         ensures elsewhere { OnOk result ((other : CellRef) → other ≢ at.now → text_of self.new other ≡ text_of self.old other) }
         ensures exactly { IfOk result (λ changed. (cell : CellRef) → IsAmong changed cell ↔ (shown_of self.old cell ≢ shown_of self.new cell)) }
+        ensures changed { IfOk result (λ changed. changed ≡ changed_in self.old self.new at.now.part) }
         ensures in_order { IfOk result (λ changed. IsStrictlySortedBy place_cmp changed.places) }
         ensures err { OnErr result (self.new ≡ self.old) }
     {

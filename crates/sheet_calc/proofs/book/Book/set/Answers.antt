@@ -1,4 +1,4 @@
-use Rattle.sheet_calc.proofs.BookLaws.{set_ok, set_there, set_elsewhere, set_exactly}
+use Rattle.sheet_calc.proofs.BookLaws.{set_ok, set_there, set_elsewhere, set_exactly, set_changed}
 use Rattle.sheet_calc.proofs.book.Book.set.Goals as goal
 
 pub returns-clause-ok : goal.returns-clause-ok
@@ -16,3 +16,7 @@ returns-clause-elsewhere c =
 pub returns-clause-exactly : goal.returns-clause-exactly
 returns-clause-exactly c =
     set_exactly c.self.inside.parts.items c.args.self.now c.args.at.now c.in_ok-places.places c.index_mut-part.result.now c.set.new.self c.self.view_is c.requires.cell.part c.index_mut-part.ensures.value c.in_ok-places.ensures.exactly
+
+pub returns-clause-changed : goal.returns-clause-changed
+returns-clause-changed c =
+    set_changed c.self.inside.parts.items c.args.self.now c.args.at.now c.args.raw.now c.in_ok-places.places c.index_mut-part.result.now c.set.new.self c.self.view_is c.requires.cell.part c.index_mut-part.ensures.value c.in_ok-places.ensures.ok c.in_ok-places.ensures.changed
