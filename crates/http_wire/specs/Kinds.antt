@@ -7,6 +7,7 @@ use Rattle.http_head.specs.declared.parts.ResponseParts.{ResponseParts}
 use Rattle.http_head.specs.Requests.{ReadsRequestHead, BeginsRequest, IsNoRequest}
 use Rattle.http_head.specs.Responses.{ReadsResponseHead, BeginsResponse, IsNoResponse}
 use Rattle.http_wire.specs.Messages.{Kind}
+use Rattle.http_wire.specs.GrowLaws.{request_grows, response_grows}
 
 -- the request that a head and a body make
 abbrev pub request_of : RequestParts → List ℕ → Request
@@ -23,6 +24,7 @@ requests = record {
   refuses = IsNoRequest;
   framing = λ p. p.framing;
   message = request_of;
+  grows = request_grows;
 }
 
 abbrev pub responses : Kind ResponseParts Response
@@ -32,4 +34,5 @@ responses = record {
   refuses = IsNoResponse;
   framing = λ p. p.framing;
   message = response_of;
+  grows = response_grows;
 }

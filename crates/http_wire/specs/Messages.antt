@@ -1,5 +1,5 @@
 -- What the bytes of a message say, whatever its kind of head.
-use Rattle.std.specs.Prelude.{ℕ, ◌≡◌, ◌+◌, ◌<◌, ◌≤◌, Bool, true, false, if◌then◌else◌, List, length, take, drop, Option, Some, None, Result, Ok, Err}
+use Rattle.std.specs.Prelude.{ℕ, ◌≡◌, ◌+◌, ◌<◌, ◌≤◌, Bool, false, if◌then◌else◌, List, length, ◌++◌, take, drop, ⊤, Option, Some, None, Result, Ok, Err}
 use Rattle.outside.specs.declared.faults.WireFault.{WireFault}
 use Rattle.outside.specs.declared.faults.WireFault.TheVariants.{BadHead, HeadTooLong, CutOff}
 use Rattle.outside.specs.Wires.{Talk, Hears}
@@ -8,9 +8,10 @@ use Rattle.http_head.specs.declared.framing.Framing.TheVariants.{Empty, Sized, C
 use Rattle.http_head.specs.declared.parts.Scan.{Scan}
 use Rattle.http_head.specs.declared.parts.Scan.TheVariants.{Whole, Begun, NoHead}
 use Rattle.wire_body.specs.declared.faults.HttpFault.{HttpFault}
+use Rattle.wire_body.specs.declared.faults.HttpFault.TheVariants.{Wire, Memory as NoMemory}
 use Rattle.wire_body.specs.declared.states.BodyState.{BodyState}
 use Rattle.wire_body.specs.Bodies.{no_body, body_of, chunked_body, open_body, body_says}
-use Rattle.wire_body.specs.Reads.{IsSaid}
+use Rattle.wire_body.specs.Reads.{FaultSaid}
 
 -- how many bytes a head has at most
 abbrev pub head_limit : ℕ
@@ -24,13 +25,15 @@ start_of Chunked = chunked_body
 start_of ToEnd = open_body
 
 -- a kind of head: bytes are a whole one that says this and then the rest, begin one, or begin none; the
--- body behind one that says this; the message that it makes with the bytes of a body
+-- body behind one that says this; the message that it makes with the bytes of a body. Bytes that come
+-- behind a whole head are more of the rest
 pub record Kind (P M : Type 0) : Type 1 where
   pub reads : List ℕ → P → List ℕ → Type 0
   pub begins : List ℕ → Type 0
   pub refuses : List ℕ → Type 0
   pub framing : P → Framing
   pub message : P → List ℕ → M
+  pub grows : (bytes : List ℕ) (parts : P) (rest more : List ℕ) → reads bytes parts rest → reads (bytes ++ more) parts (rest ++ more)
 
 -- what a scan for such a head answers
 abbrev pub Scans : {P M : Type 0} → Kind P M → List ℕ → Scan P → Type 0
@@ -58,7 +61,19 @@ message_said (Longer full begun) ended = Some (Err HeadTooLong)
 message_said (Open less begun) ended = if ended then Some (Err CutOff) else None
 message_said {k = k} (Headed parts rest whole within) ended = with_body k parts (body_says (start_of (k.framing parts)) rest ended)
 
+-- the answer is what the bytes say; where memory ran out they may say anything
+abbrev pub IsAnswer : {P M : Type 0} → Kind P M → List ℕ → Bool → Result M HttpFault → Type 0
+IsAnswer k bytes ended (Ok m) = (front : Front k bytes) × (message_said front ended ≡ Some (Ok m))
+IsAnswer k bytes ended (Err NoMemory) = ⊤
+IsAnswer k bytes ended (Err (Wire fault)) = (front : Front k bytes) × FaultSaid (message_said front ended) fault
+
 -- bytes were received, with the end or without, and the answer is what they say
 abbrev pub ReadsMessage : {P M : Type 0} → Kind P M → Option Talk → Option Talk → Result M HttpFault → Type 0
-ReadsMessage k old new result =
-    (bytes : List ℕ) × (ended : Bool) × Hears old bytes ended new × (front : Front k bytes) × IsSaid (message_said front ended) result
+ReadsMessage k old new result = (bytes : List ℕ) × (ended : Bool) × Hears old bytes ended new × IsAnswer k bytes ended result
+
+-- bytes were received that begin with a whole head within its limit, and no end came
+pub record GotHead {P M : Type 0} (k : Kind P M) (old new : Option Talk) (parts : P) (bytes : List ℕ) (len : ℕ) : Type 0 where
+  pub heard : Hears old bytes false new
+  pub within : length bytes ≤ head_limit
+  pub inside : len ≤ length bytes
+  pub reads : k.reads bytes parts (drop len bytes)

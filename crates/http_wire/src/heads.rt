@@ -14,7 +14,7 @@ pub(crate) trait Head: Drop {
     /// The message.
     type Message: Drop;
 
-    ghost kind: { Kind Self Message };
+    ghost kind: { Kind Self Self.Message };
 
     /// Which head the bytes begin with.
     fn scan(alloc: Global, bytes: &[u8]) -> Result<Scan<Self>, Memory>

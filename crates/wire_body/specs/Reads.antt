@@ -8,14 +8,18 @@ use Rattle.wire_body.specs.declared.faults.HttpFault.TheVariants.{Wire, Memory a
 use Rattle.wire_body.specs.declared.states.BodyState.{BodyState}
 use Rattle.wire_body.specs.Bodies.{body_says}
 
--- An answer is what the bytes say. A failed read comes only where they say nothing yet. Where memory
--- ran out they may say anything. No read answers that a write failed.
+-- The fault is the one that the bytes say. A failed read comes only where they say nothing yet, and
+-- no read answers that a write failed.
+abbrev pub FaultSaid : {A : Type 0} → Option (Result A WireFault) → WireFault → Type 0
+FaultSaid said ReadFault = said ≡ None
+FaultSaid said WriteFault = ⊥
+FaultSaid said fault = said ≡ Some (Err fault)
+
+-- An answer is what the bytes say. Where memory ran out they may say anything.
 abbrev pub IsSaid : {A : Type 0} → Option (Result A WireFault) → Result A HttpFault → Type 0
 IsSaid said (Ok a) = said ≡ Some (Ok a)
 IsSaid said (Err NoMemory) = ⊤
-IsSaid said (Err (Wire ReadFault)) = said ≡ None
-IsSaid said (Err (Wire WriteFault)) = ⊥
-IsSaid said (Err (Wire fault)) = said ≡ Some (Err fault)
+IsSaid said (Err (Wire fault)) = FaultSaid said fault
 
 -- Bytes were received, with the end or without, and the answer is what they say behind those that came before
 abbrev pub ReadsBody : Option Talk → Option Talk → BodyState → List ℕ → Result (List ℕ) HttpFault → Type 0

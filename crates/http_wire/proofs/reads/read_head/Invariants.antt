@@ -1,0 +1,14 @@
+use Rattle.std.proofs.Common.{◌≡◌, ◌≤◌, ◌-◌, false, length}
+use Rattle.outside.specs.Wires.{Hears}
+use Rattle.http_wire.specs.Messages.{head_limit}
+use Rattle.http_wire.proofs.reads.read_head.Given as goal
+
+abbrev pub invariant-loop-bytes : goal.invariant-loop-bytes
+invariant-loop-bytes g l = record {
+  heard : Hears (g.W.Wire.talk l.fn.wire) l.bytes.items false (g.W.Wire.talk l.wire);
+  within : length l.bytes.items ≤ head_limit;
+  no_fault : g.W.Wire.faults l.wire ≡ g.W.Wire.faults l.fn.wire;
+}
+
+abbrev pub decreases-loop-bytes : goal.decreases-loop-bytes
+decreases-loop-bytes g l = head_limit - length l.bytes.items
