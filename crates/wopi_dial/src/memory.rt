@@ -87,7 +87,7 @@ impl MemoryDial {
 impl Dial for MemoryDial {
     type W = MemoryWire;
 
-    ghost use Rattle.std.specs.Prelude.{◌≡◌, ◌<◌, ◌+◌, ◌-◌, ◌^◌, [], ◌∷◌, Some, IfOk, OnOk, OnErr, true, min};
+    ghost use Rattle.std.specs.Prelude.{◌≡◌, ◌<◌, ◌+◌, ◌-◌, ◌^◌, [], ◌∷◌, Some, Err, IfOk, OnOk, OnErr, true, min};
     ghost use Rattle.outside.specs.Causes.{HasCause};
     ghost use Rattle.outside.specs.Wires.{silence};
     ghost use Rattle.wopi_dial.specs.Dials.{IsFresh, with_talk, dial_failed};
@@ -98,7 +98,20 @@ impl Dial for MemoryDial {
 
     ghost faults = { λ d. d.faults };
 
-    fn dial(&mut self, alloc: Global) -> Result<MemoryWire, DialFault> {
+    fn dial(&mut self, alloc: Global) -> Result<MemoryWire, DialFault>
+        ensures talks { Some self.new.talks ≡ Some self.old.talks }
+        ensures fresh { IfOk result (λ wire. IsFresh (Some self.new.talks) (Some wire.talk)) }
+        ensures sound { IfOk result (λ wire. wire.faults ≡ 0) }
+        ensures out { OnOk result (self.new.away ≡ self.old.away + 1) }
+        ensures none { OnErr result (self.new.away ≡ self.old.away) }
+        ensures cause { HasCause self.old.faults self.new.faults (dial_failed result ≡ true) }
+
+        // The wire gives the first of the answers; a dial fails exactly where there is none.
+        ensures gives { IfOk result (λ wire. self.old.waiting ≡ wire.left ∷ self.new.waiting) }
+        ensures made { IfOk result (λ wire. wire ≡ record { talk = silence; left = wire.left; pace = self.old.pace; room = self.old.room; faults = 0 }) }
+        ensures fails { self.old.waiting ≡ [] → result ≡ Err DialFault.Failed }
+        ensures failed { result ≡ Err DialFault.Failed → self.old.waiting ≡ [] }
+    {
         if self.dialled == self.answers.len() {
             self.faults = self.faults.saturating_add(1);
             return Err(DialFault::Failed);
