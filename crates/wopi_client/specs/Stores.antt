@@ -1,6 +1,5 @@
 -- The calls of a store over a dial.
-use Rattle.std.specs.Prelude.{ℕ, ◌≡◌, Bool, true, false, List, Option, Result, Ok, Err, Unit, ⊤}
-use Rattle.bytes.specs.declared.shared.Bytes.{Bytes}
+use Rattle.std.specs.Prelude.{ℕ, ◌≡◌, Bool, true, false, List, Option, Result, Ok, Err, ⊤}
 use Rattle.outside.specs.declared.faults.StoreFault.{StoreFault}
 use Rattle.outside.specs.declared.errands.Admission.{Admission}
 use Rattle.outside.specs.declared.errands.Errand.{Errand}
@@ -10,16 +9,18 @@ use Rattle.wopi_client.specs.declared.asks.Ask.{Ask}
 use Rattle.wopi_client.specs.declared.asks.Ask.TheVariants as Asks
 use Rattle.wopi_client.specs.declared.asks.Told.{Told}
 use Rattle.wopi_client.specs.declared.asks.Told.TheVariants.{Info, Content, Done}
-use Rattle.wopi_client.specs.declared.stores.WopiStore.{WopiStore}
 use Rattle.wopi_client.specs.Talks.{AskedOnce}
 
--- the dial of a store
-abbrev pub dial_of : {D : Type 0} → WopiStore D → D
-dial_of store = store.dial
+-- a check tells an admission, a get a content
+abbrev pub IsInfo : Told → Type 0
+IsInfo (Info admission) = ⊤
+IsInfo (Content content) = ⊥
+IsInfo Done = ⊥
 
--- the host that it names
-abbrev pub host_of : {D : Type 0} → WopiStore D → List ℕ
-host_of store = store.host
+abbrev pub IsContent : Told → Type 0
+IsContent (Info admission) = ⊥
+IsContent (Content content) = ⊤
+IsContent Done = ⊥
 
 -- an answer of the store as what was told
 abbrev pub info_told : Result Admission StoreFault → Result Told StoreFault
