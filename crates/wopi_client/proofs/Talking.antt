@@ -18,6 +18,7 @@ use Rattle.wopi_dial.specs.Dials.{IsFresh, with_talk}
 use Rattle.wopi_client.specs.declared.asks.Ask.{Ask}
 use Rattle.wopi_client.specs.declared.asks.Told.{Told}
 use Rattle.wopi_client.specs.Asks.{request_for}
+use Rattle.wopi_client.specs.Stores.{Then, AskedTwice}
 use Rattle.wopi_client.specs.Talks.{store_fault, Heard, WireSaid, is_cut_short, WentOut, Talked, after_talk, TalksOver, HearsOver, AskedOnce}
 
 -- a fault of reading is heard
@@ -45,10 +46,11 @@ both (Some t) mid new bytes received ended said heard = heard ∙ ap (option_map
 -- the request went out, and the answer was heard
 pub talk_heard : (host : List ℕ) (ask : Ask) (old mid new : Option Talk) (result : Result Told StoreFault)
     → Says old (request_bytes host (request_for ask)) mid → HearsOver ask mid new result → TalksOver host ask old new result
-talk_heard host ask old mid new result said (received, ended, heard, answer) =
-    (record { sent = request_bytes host (request_for ask); received = received; ended = ended },
-     both old mid new (request_bytes host (request_for ask)) received ended said heard,
-     record { asked = all_out (is_cut_short result) (request_bytes host (request_for ask)); heard = answer })
+talk_heard host ask old mid new result said (received, ended, heard, answer) = (
+  record { sent = request_bytes host (request_for ask); received = received; ended = ended },
+  both old mid new (request_bytes host (request_for ask)) received ended said heard,
+  record { asked = all_out (is_cut_short result) (request_bytes host (request_for ask)); heard = answer },
+)
 
 -- nothing was heard
 only_said : (old new : Option Talk) (done : List ℕ) → Says old done new → new ≡ option_map (after_talk (record { sent = done; received = []; ended = false })) old
@@ -64,10 +66,12 @@ pub talk_failed : (host : List ℕ) (ask : Ask) (old new : Option Talk) (fault :
     → Writes old (request_bytes host (request_for ask)) (Err fault) new → TalksOver host ask old new (Err (store_fault fault))
 talk_failed host ask old new Http.Memory same =
     (record { sent = []; received = []; ended = false }, only_said old new [] (nothing_said old new same), record { asked = (request_bytes host (request_for ask), refl); heard = tt })
-talk_failed host ask old new (Http.Wire fault) (is, (done, rest, parts, said)) =
-    (record { sent = done; received = []; ended = false }, only_said old new done said,
-     subst (λ f. Talked host ask (record { sent = done; received = []; ended = false }) (Err (Wire f))) (sym is)
-     (record { asked = (rest, parts); heard = (refl, refl) }))
+talk_failed host ask old new (Http.Wire fault) (is, (done, rest, parts, said)) = (
+  record { sent = done; received = []; ended = false },
+  only_said old new done said,
+  subst (λ f. Talked host ask (record { sent = done; received = []; ended = false }) (Err (Wire f))) (sym is)
+      (record { asked = (rest, parts); heard = (refl, refl) }),
+)
 
 or_false : (b : Bool) → (b || false) ≡ b
 or_false true = refl
@@ -86,3 +90,14 @@ pub asked_once : (host : List ℕ) (ask : Ask) (talks talks1 talks2 : Option (Li
     → talks1 ≡ talks → IsFresh talks1 old → TalksOver host ask old new result → talks2 ≡ with_talk talks1 new → AskedOnce host ask talks talks2 result
 asked_once host ask talks talks1 talks2 old new result same fresh (talk, is, talked) hung =
     inl (talk, hung ∙ told_talk talks1 old new talk fresh is ∙ ap (option_map (λ told. told ++ talk ∷ [])) same, talked)
+
+-- one talk and then another
+pub then_two : (host : List ℕ) (one two : Ask) (talks mid talks2 : Option (List Talk)) (first last : Result Told StoreFault) (told : Told)
+    → first ≡ Ok told → AskedOnce host one talks mid first → AskedOnce host two mid talks2 last → AskedTwice host one two talks talks2 last
+then_two host one two talks mid talks2 first last told is had next =
+    (mid, first, had, subst (λ f. Then f last (AskedOnce host two mid talks2 last) talks2 mid) (sym is) next)
+
+-- a talk that was refused, and no other
+pub then_none : (host : List ℕ) (one two : Ask) (talks mid : Option (List Talk)) (fault : StoreFault)
+    → AskedOnce host one talks mid (Err fault) → AskedTwice host one two talks mid (Err fault)
+then_none host one two talks mid fault had = (mid, Err fault, had, (refl, refl))

@@ -117,10 +117,7 @@ fn receipt_of(errand: &Errand) -> Result<Receipt, Memory>
 }
 
 // The receipt, where it was done.
-fn receipt_for(
-    answer: Result<Told, StoreFault>,
-    receipt: Receipt,
-) -> Result<Receipt, StoreFault>
+fn receipt_for(answer: Result<Told, StoreFault>, receipt: Receipt) -> Result<Receipt, StoreFault>
     requires { IfOk answer (λ told. told ≡ Told.Done) }
     ensures told { done_told result ≡ answer }
     ensures receipt { IfOk result (λ given. given ≡ receipt) }
@@ -197,12 +194,7 @@ impl<D: Dial> WopiStore<D> {
     }
 
     /// Locks the file, in one talk.
-    pub fn lock(
-        &mut self,
-        alloc: Global,
-        file: &FileId,
-        token: &Token,
-    ) -> Result<(), StoreFault>
+    pub fn lock(&mut self, alloc: Global, file: &FileId, token: &Token) -> Result<(), StoreFault>
         ensures asked { AskedOnce (host_of self.old) (Ask.Lock file.now token.now) (D.talks (dial_of self.old)) (D.talks (dial_of self.new)) (done_told result) }
         ensures host { host_of self.new ≡ host_of self.old }
         ensures away { D.away (dial_of self.new) ≡ D.away (dial_of self.old) }
@@ -233,12 +225,7 @@ impl<D: Dial> WopiStore<D> {
     }
 
     /// Takes the lock away, in one talk.
-    pub fn unlock(
-        &mut self,
-        alloc: Global,
-        file: &FileId,
-        token: &Token,
-    ) -> Result<(), StoreFault>
+    pub fn unlock(&mut self, alloc: Global, file: &FileId, token: &Token) -> Result<(), StoreFault>
         ensures asked { AskedOnce (host_of self.old) (Ask.Unlock file.now token.now) (D.talks (dial_of self.old)) (D.talks (dial_of self.new)) (done_told result) }
         ensures host { host_of self.new ≡ host_of self.old }
         ensures away { D.away (dial_of self.new) ≡ D.away (dial_of self.old) }
@@ -263,8 +250,135 @@ impl<D: Dial> WopiStore<D> {
             return Err(StoreFault::Memory);
         };
         match put_ask(alloc, errand) {
-            Ok(ask) => receipt_for(ask_once(alloc, &mut self.dial, self.host.get(), &ask), receipt),
+            Ok(ask) => receipt_for(
+                ask_once(alloc, &mut self.dial, self.host.get(), &ask),
+                receipt,
+            ),
             Err(_) => Err(StoreFault::Memory),
         }
+    }
+}
+
+impl<D: Dial> WopiStore<D> {
+    ghost use Rattle.std.specs.Prelude.{◌≡◌, IfOk, true};
+    ghost use Rattle.outside.specs.Causes.{HasCause};
+    ghost use Rattle.outside.specs.Stores.{store_failed, IsReceiptOf};
+    ghost use Rattle.wopi_client.specs.Stores.{content_told, done_told, AskedTwice, PutsBy};
+    ghost use Rattle.wopi_client.specs.Kept.{dial_of, host_of};
+
+    // The content of the file, which is locked first.
+    fn lock_and_get(
+        &mut self,
+        alloc: Global,
+        file: &FileId,
+        token: &Token,
+    ) -> Result<Bytes, StoreFault>
+        ensures asked { AskedTwice (host_of self.old) (Ask.Lock file.now token.now) (Ask.Get file.now token.now) (D.talks (dial_of self.old)) (D.talks (dial_of self.new)) (content_told result) }
+        ensures host { host_of self.new ≡ host_of self.old }
+        ensures away { D.away (dial_of self.new) ≡ D.away (dial_of self.old) }
+        ensures cause { HasCause (D.faults (dial_of self.old)) (D.faults (dial_of self.new)) (store_failed result ≡ true) }
+    {
+        match self.lock(alloc, file, token) {
+            Ok(_) => self.get_file(alloc, file, token),
+            Err(fault) => Err(fault),
+        }
+    }
+
+    // Puts the content, behind a lock of the file.
+    fn lock_and_put(&mut self, alloc: Global, errand: &Errand) -> Result<Receipt, StoreFault>
+        ensures asked { PutsBy (host_of self.old) errand.now (D.talks (dial_of self.old)) (D.talks (dial_of self.new)) (done_told result) }
+        ensures receipt { IfOk result (IsReceiptOf errand.now) }
+        ensures host { host_of self.new ≡ host_of self.old }
+        ensures away { D.away (dial_of self.new) ≡ D.away (dial_of self.old) }
+        ensures cause { HasCause (D.faults (dial_of self.old)) (D.faults (dial_of self.new)) (store_failed result ≡ true) }
+    {
+        match self.lock(alloc, &errand.file, &errand.token) {
+            Ok(_) => self.put_file(alloc, errand),
+            Err(fault) => Err(fault),
+        }
+    }
+}
+
+impl<D: Dial> Store for WopiStore<D> {
+    ghost use Rattle.std.specs.Prelude.{◌≡◌, IfOk, true, None, Option, List};
+    ghost use Rattle.outside.specs.Causes.{HasCause};
+    ghost use Rattle.outside.specs.Stores.{StoreCall, Admits, Fetches, Puts, Refreshes, Unlocks, Calls, store_failed, IsReceiptOf};
+    ghost use Rattle.wopi_client.specs.Talks.{AskedOnce};
+    ghost use Rattle.wopi_client.specs.Stores.{info_told, content_told, done_told, FetchesBy, PutsBy};
+    ghost use Rattle.wopi_client.specs.Kept.{dial_of, host_of};
+
+    ghost calls = { λ _. None };
+
+    ghost faults = { λ store. D.faults (dial_of store) };
+
+    fn admit(
+        &mut self,
+        alloc: Global,
+        file: &FileId,
+        token: &Token,
+    ) -> Result<Admission, StoreFault>
+        ensures told { Calls None (StoreCall.Admits file.now token.now result) None }
+        ensures cause { HasCause (D.faults (dial_of self.old)) (D.faults (dial_of self.new)) (store_failed result ≡ true) }
+
+        // It checks the file.
+        ensures asked { AskedOnce (host_of self.old) (Ask.Check file.now token.now) (D.talks (dial_of self.old)) (D.talks (dial_of self.new)) (info_told result) }
+        ensures host { host_of self.new ≡ host_of self.old }
+    {
+        self.check_file_info(alloc, file, token)
+    }
+
+    fn fetch(
+        &mut self,
+        alloc: Global,
+        file: &FileId,
+        token: &Token,
+        write: bool,
+    ) -> Result<Bytes, StoreFault>
+        ensures told { Calls None (StoreCall.Fetches file.now token.now write result) None }
+        ensures cause { HasCause (D.faults (dial_of self.old)) (D.faults (dial_of self.new)) (store_failed result ≡ true) }
+
+        // It locks the file where it is to be written, and gets it.
+        ensures asked { FetchesBy (host_of self.old) file.now token.now write (D.talks (dial_of self.old)) (D.talks (dial_of self.new)) (content_told result) }
+        ensures host { host_of self.new ≡ host_of self.old }
+    {
+        if write {
+            self.lock_and_get(alloc, file, token)
+        } else {
+            self.get_file(alloc, file, token)
+        }
+    }
+
+    fn put(&mut self, alloc: Global, errand: &Errand) -> Result<Receipt, StoreFault>
+        ensures told { Calls None (StoreCall.Puts errand.now result) None }
+        ensures receipt { IfOk result (IsReceiptOf errand.now) }
+        ensures cause { HasCause (D.faults (dial_of self.old)) (D.faults (dial_of self.new)) (store_failed result ≡ true) }
+
+        // It locks the file and puts the content.
+        ensures asked { PutsBy (host_of self.old) errand.now (D.talks (dial_of self.old)) (D.talks (dial_of self.new)) (done_told result) }
+        ensures host { host_of self.new ≡ host_of self.old }
+    {
+        self.lock_and_put(alloc, errand)
+    }
+
+    fn refresh(&mut self, alloc: Global, file: &FileId, token: &Token) -> Result<(), StoreFault>
+        ensures told { Calls None (StoreCall.Refreshes file.now token.now result) None }
+        ensures cause { HasCause (D.faults (dial_of self.old)) (D.faults (dial_of self.new)) (store_failed result ≡ true) }
+
+        // It refreshes the lock.
+        ensures asked { AskedOnce (host_of self.old) (Ask.Refresh file.now token.now) (D.talks (dial_of self.old)) (D.talks (dial_of self.new)) (done_told result) }
+        ensures host { host_of self.new ≡ host_of self.old }
+    {
+        self.refresh_lock(alloc, file, token)
+    }
+
+    fn unlock(&mut self, alloc: Global, file: &FileId, token: &Token) -> Result<(), StoreFault>
+        ensures told { Calls None (StoreCall.Unlocks file.now token.now result) None }
+        ensures cause { HasCause (D.faults (dial_of self.old)) (D.faults (dial_of self.new)) (store_failed result ≡ true) }
+
+        // It takes the lock away.
+        ensures asked { AskedOnce (host_of self.old) (Ask.Unlock file.now token.now) (D.talks (dial_of self.old)) (D.talks (dial_of self.new)) (done_told result) }
+        ensures host { host_of self.new ≡ host_of self.old }
+    {
+        self.unlock(alloc, file, token)
     }
 }

@@ -25,12 +25,7 @@ fn store_fault(fault: HttpFault) -> StoreFault
 }
 
 // Sends the request that asks it.
-fn send_ask<W: Wire>(
-    alloc: Global,
-    wire: &mut W,
-    host: &str,
-    ask: &Ask,
-) -> Result<(), HttpFault>
+fn send_ask<W: Wire>(alloc: Global, wire: &mut W, host: &str, ask: &Ask) -> Result<(), HttpFault>
     ensures writes { Writes (W.talk wire.old) (request_bytes host.now (request_for ask.now)) result (W.talk wire.new) }
     ensures cause { HasCause (W.faults wire.old) (W.faults wire.new) (result ≡ Err (HttpFault.Wire WireFault.WriteFault)) }
 {
@@ -52,12 +47,7 @@ fn hear<W: Wire>(alloc: Global, wire: &mut W, ask: &Ask) -> Result<Told, StoreFa
 }
 
 // Asks and hears.
-fn talk<W: Wire>(
-    alloc: Global,
-    wire: &mut W,
-    host: &str,
-    ask: &Ask,
-) -> Result<Told, StoreFault>
+fn talk<W: Wire>(alloc: Global, wire: &mut W, host: &str, ask: &Ask) -> Result<Told, StoreFault>
     ensures talks { TalksOver host.now ask.now (W.talk wire.old) (W.talk wire.new) result }
     ensures cause { HasCause (W.faults wire.old) (W.faults wire.new) (store_failed result ≡ true) }
 {
