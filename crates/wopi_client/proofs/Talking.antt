@@ -1,25 +1,23 @@
 -- From what is written and read over a wire to a talk.
-use Rattle.std.proofs.Common.{◌≡◌, ℕ, Bool, true, false, ◌||◌, List, [], ◌∷◌, ◌++◌, refl, sym, ap, ◌∙◌, subst, Option, Some, None, Result, Ok, Err, ◌⊎◌, inl, inr}
-use Rattle.std.specs.Prelude.{⊤, option_and_then, IfOk}
+use Rattle.std.proofs.Common.{◌≡◌, ℕ, Bool, true, false, ◌||◌, List, [], ◌∷◌, ◌++◌, refl, sym, ap, ◌∙◌, subst, Option, Some, None, Result, Ok, Err, inl}
 use Rattle.std.specs.Option.{option_map}
 use Rattle.std.proofs.lemmas.List.{append-nil}
-use Rattle.outside.specs.declared.faults.WireFault.{WireFault}
 use Rattle.outside.specs.declared.faults.WireFault.TheVariants.{BadHead, HeadTooLong, BodyTooLong, BadChunk, CutOff, ReadFault, WriteFault}
 use Rattle.outside.specs.declared.faults.StoreFault.{StoreFault}
-use Rattle.outside.specs.declared.faults.StoreFault.TheVariants.{Wire, Memory}
-use Rattle.outside.specs.Wires.{Talk, silence, with_sent, with_received, Says, Hears}
+use Rattle.outside.specs.declared.faults.StoreFault.TheVariants.{Wire}
+use Rattle.outside.specs.Wires.{Talk, silence, with_received, Says, Hears}
 use Rattle.wire_body.specs.declared.faults.HttpFault.{HttpFault}
 use Rattle.wire_body.specs.declared.faults.HttpFault.TheVariants as Http
-use Rattle.http_wire.specs.Messages.{ReadsMessage, IsAnswer}
+use Rattle.http_wire.specs.Messages.{ReadsMessage}
 use Rattle.http_wire.specs.Kinds.{responses}
 use Rattle.http_write.specs.Texts.{request_bytes}
-use Rattle.http_write.specs.Writes.{Writes, SaysSome}
+use Rattle.http_write.specs.Writes.{Writes}
 use Rattle.wopi_dial.specs.Dials.{IsFresh, with_talk}
 use Rattle.wopi_client.specs.declared.asks.Ask.{Ask}
 use Rattle.wopi_client.specs.declared.asks.Told.{Told}
 use Rattle.wopi_client.specs.Asks.{request_for}
 use Rattle.wopi_client.specs.Stores.{Then, AskedTwice}
-use Rattle.wopi_client.specs.Talks.{store_fault, Heard, WireSaid, is_cut_short, WentOut, Talked, after_talk, TalksOver, HearsOver, AskedOnce}
+use Rattle.wopi_client.specs.Talks.{store_fault, is_cut_short, WentOut, Talked, after_talk, TalksOver, HearsOver, AskedOnce}
 
 -- a fault of reading is heard
 pub heard_fault : (ask : Ask) (old new : Option Talk) (fault : HttpFault) → ReadsMessage responses old new (Err fault) → HearsOver ask old new (Err (store_fault fault))

@@ -3,7 +3,6 @@ use Rattle.std.specs.Prelude.{ℕ, ◌≡◌, Bool, true, false, List, Option, R
 use Rattle.outside.specs.declared.faults.StoreFault.{StoreFault}
 use Rattle.outside.specs.declared.errands.Admission.{Admission}
 use Rattle.outside.specs.declared.errands.Errand.{Errand}
-use Rattle.outside.specs.declared.errands.Receipt.{Receipt}
 use Rattle.outside.specs.Wires.{Talk}
 use Rattle.wopi_client.specs.declared.asks.Ask.{Ask}
 use Rattle.wopi_client.specs.declared.asks.Ask.TheVariants as Asks

@@ -1,11 +1,11 @@
 -- What one talk with a host sends, and what the client hears in it.
-use Rattle.std.specs.Prelude.{ℕ, ◌≡◌, ◌⊎◌, Bool, true, false, List, [], ◌∷◌, ◌++◌, Option, Some, None, Result, Ok, Err, ⊤}
+use Rattle.std.specs.Prelude.{ℕ, ◌≡◌, ◌⊎◌, Bool, true, false, List, [], ◌∷◌, ◌++◌, Option, Result, Ok, Err, ⊤}
 use Rattle.std.specs.Option.{option_map}
 use Rattle.http_message.specs.declared.Response.{Response}
 use Rattle.outside.specs.declared.faults.WireFault.{WireFault}
 use Rattle.outside.specs.declared.faults.WireFault.TheVariants.{ReadFault, WriteFault}
 use Rattle.outside.specs.declared.faults.StoreFault.{StoreFault}
-use Rattle.outside.specs.declared.faults.StoreFault.TheVariants.{Conflict, Denied, Missing, BadAnswer, Wire, BadJson, Memory}
+use Rattle.outside.specs.declared.faults.StoreFault.TheVariants.{Wire, Memory}
 use Rattle.outside.specs.Wires.{Talk, with_sent, with_received, Hears}
 use Rattle.wire_body.specs.declared.faults.HttpFault.{HttpFault}
 use Rattle.wire_body.specs.declared.faults.HttpFault.TheVariants as Http

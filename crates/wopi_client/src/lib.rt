@@ -7,6 +7,8 @@
 #![tactic(auto)]
 
 mod asks;
+#[cfg(test)]
+mod store_tests;
 mod stores;
 mod talks;
 #[cfg(test)]
