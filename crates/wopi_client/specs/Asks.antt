@@ -1,5 +1,5 @@
 -- What the client asks and what it reads in the host's response.
-use Rattle.std.specs.Prelude.{ℕ, ◌≡◌, ◌≢◌, Bool, true, false, List, [], ◌∷◌, ◌++◌, Option, Some, None, Result, Ok, Err, option_and_then, unwrap_or, codes, IsUtf8}
+use Rattle.std.specs.Prelude.{ℕ, ◌≡◌, ◌≢◌, false, List, [], ◌++◌, Some, None, Result, Ok, Err, option_and_then, unwrap_or, codes, IsUtf8}
 use Rattle.serde_json.specs.Read.{read}
 use Rattle.http_message.specs.declared.Method.TheVariants.{Get as GetMethod, Post}
 use Rattle.http_message.specs.declared.Request.{Request}

@@ -1,1 +1,4 @@
 pub mod Asks
+pub mod Talks
+pub mod Stores
+pub mod Kept

@@ -15,6 +15,8 @@ mod keepers;
 mod marks;
 mod table;
 mod targets;
+#[cfg(test)]
+mod tests;
 
 pub use hosts::{Host, LOCK_SECONDS};
 pub use keepers::{Keeper, KeeperFault, MemoryKeeper};

@@ -1,0 +1,101 @@
+-- From what is written and read over a wire to a talk.
+use Rattle.std.proofs.Common.{◌≡◌, ℕ, Bool, true, false, ◌||◌, List, [], ◌∷◌, ◌++◌, refl, sym, ap, ◌∙◌, subst, Option, Some, None, Result, Ok, Err, inl}
+use Rattle.std.specs.Option.{option_map}
+use Rattle.std.proofs.lemmas.List.{append-nil}
+use Rattle.outside.specs.declared.faults.WireFault.TheVariants.{BadHead, HeadTooLong, BodyTooLong, BadChunk, CutOff, ReadFault, WriteFault}
+use Rattle.outside.specs.declared.faults.StoreFault.{StoreFault}
+use Rattle.outside.specs.declared.faults.StoreFault.TheVariants.{Wire}
+use Rattle.outside.specs.Wires.{Talk, silence, with_received, Says, Hears}
+use Rattle.wire_body.specs.declared.faults.HttpFault.{HttpFault}
+use Rattle.wire_body.specs.declared.faults.HttpFault.TheVariants as Http
+use Rattle.http_wire.specs.Messages.{ReadsMessage}
+use Rattle.http_wire.specs.Kinds.{responses}
+use Rattle.http_write.specs.Texts.{request_bytes}
+use Rattle.http_write.specs.Writes.{Writes}
+use Rattle.wopi_dial.specs.Dials.{IsFresh, with_talk}
+use Rattle.wopi_client.specs.declared.asks.Ask.{Ask}
+use Rattle.wopi_client.specs.declared.asks.Told.{Told}
+use Rattle.wopi_client.specs.Asks.{request_for}
+use Rattle.wopi_client.specs.Stores.{Then, AskedTwice}
+use Rattle.wopi_client.specs.Talks.{store_fault, is_cut_short, WentOut, Talked, after_talk, TalksOver, HearsOver, AskedOnce}
+
+-- a fault of reading is heard
+pub heard_fault : (ask : Ask) (old new : Option Talk) (fault : HttpFault) → ReadsMessage responses old new (Err fault) → HearsOver ask old new (Err (store_fault fault))
+heard_fault ask old new Http.Memory (bytes, ended, heard, said) = (bytes, ended, heard, tt)
+heard_fault ask old new (Http.Wire BadHead) (bytes, ended, heard, said) = (bytes, ended, heard, said)
+heard_fault ask old new (Http.Wire HeadTooLong) (bytes, ended, heard, said) = (bytes, ended, heard, said)
+heard_fault ask old new (Http.Wire BodyTooLong) (bytes, ended, heard, said) = (bytes, ended, heard, said)
+heard_fault ask old new (Http.Wire BadChunk) (bytes, ended, heard, said) = (bytes, ended, heard, said)
+heard_fault ask old new (Http.Wire CutOff) (bytes, ended, heard, said) = (bytes, ended, heard, said)
+heard_fault ask old new (Http.Wire ReadFault) (bytes, ended, heard, said) = (bytes, ended, heard, said)
+heard_fault ask old new (Http.Wire WriteFault) (bytes, ended, heard, said) = absurd said.1
+
+-- all bytes went out
+all_out : (b : Bool) (bytes : List ℕ) → WentOut b bytes bytes
+all_out false bytes = refl
+all_out true bytes = ([], sym (append-nil bytes))
+
+-- what is said and then heard
+both : (old mid new : Option Talk) (bytes received : List ℕ) (ended : Bool) → Says old bytes mid → Hears mid received ended new
+    → new ≡ option_map (after_talk (record { sent = bytes; received = received; ended = ended })) old
+both None mid new bytes received ended said heard = heard ∙ ap (option_map (with_received received ended)) said
+both (Some t) mid new bytes received ended said heard = heard ∙ ap (option_map (with_received received ended)) said
+
+-- the request went out, and the answer was heard
+pub talk_heard : (host : List ℕ) (ask : Ask) (old mid new : Option Talk) (result : Result Told StoreFault)
+    → Says old (request_bytes host (request_for ask)) mid → HearsOver ask mid new result → TalksOver host ask old new result
+talk_heard host ask old mid new result said (received, ended, heard, answer) = (
+  record { sent = request_bytes host (request_for ask); received = received; ended = ended },
+  both old mid new (request_bytes host (request_for ask)) received ended said heard,
+  record { asked = all_out (is_cut_short result) (request_bytes host (request_for ask)); heard = answer },
+)
+
+-- nothing was heard
+only_said : (old new : Option Talk) (done : List ℕ) → Says old done new → new ≡ option_map (after_talk (record { sent = done; received = []; ended = false })) old
+only_said None new done said = said
+only_said (Some t) new done said = said ∙ (λ i. Some (record t { sent = t.sent ++ done; received = sym (append-nil t.received) i }))
+
+nothing_said : (old new : Option Talk) → new ≡ old → Says old [] new
+nothing_said None new same = same
+nothing_said (Some t) new same = same ∙ (λ i. Some (record t { sent = sym (append-nil t.sent) i }))
+
+-- the request did not go out whole
+pub talk_failed : (host : List ℕ) (ask : Ask) (old new : Option Talk) (fault : HttpFault)
+    → Writes old (request_bytes host (request_for ask)) (Err fault) new → TalksOver host ask old new (Err (store_fault fault))
+talk_failed host ask old new Http.Memory same =
+    (record { sent = []; received = []; ended = false }, only_said old new [] (nothing_said old new same), record { asked = (request_bytes host (request_for ask), refl); heard = tt })
+talk_failed host ask old new (Http.Wire fault) (is, (done, rest, parts, said)) = (
+  record { sent = done; received = []; ended = false },
+  only_said old new done said,
+  subst (λ f. Talked host ask (record { sent = done; received = []; ended = false }) (Err (Wire f))) (sym is)
+      (record { asked = (rest, parts); heard = (refl, refl) }),
+)
+
+or_false : (b : Bool) → (b || false) ≡ b
+or_false true = refl
+or_false false = refl
+
+-- a talk over a new wire is one that the dial tells
+pub told_talk : (talks : Option (List Talk)) (old new : Option Talk) (talk : Talk) → IsFresh talks old → new ≡ option_map (after_talk talk) old
+    → with_talk talks new ≡ option_map (λ told. told ++ talk ∷ []) talks
+told_talk None old new talk fresh is = refl
+told_talk (Some told) old new talk fresh is =
+    let e : new ≡ Some (after_talk talk silence) = is ∙ ap (option_map (after_talk talk)) fresh in
+    ap (option_map (λ t. told ++ t ∷ [])) e ∙ (λ i. Some (told ++ (record talk { ended = or_false talk.ended i }) ∷ []))
+
+-- one talk was had
+pub asked_once : (host : List ℕ) (ask : Ask) (talks talks1 talks2 : Option (List Talk)) (old new : Option Talk) (result : Result Told StoreFault)
+    → talks1 ≡ talks → IsFresh talks1 old → TalksOver host ask old new result → talks2 ≡ with_talk talks1 new → AskedOnce host ask talks talks2 result
+asked_once host ask talks talks1 talks2 old new result same fresh (talk, is, talked) hung =
+    inl (talk, hung ∙ told_talk talks1 old new talk fresh is ∙ ap (option_map (λ told. told ++ talk ∷ [])) same, talked)
+
+-- one talk and then another
+pub then_two : (host : List ℕ) (one two : Ask) (talks mid talks2 : Option (List Talk)) (first last : Result Told StoreFault) (told : Told)
+    → first ≡ Ok told → AskedOnce host one talks mid first → AskedOnce host two mid talks2 last → AskedTwice host one two talks talks2 last
+then_two host one two talks mid talks2 first last told is had next =
+    (mid, first, had, subst (λ f. Then f last (AskedOnce host two mid talks2 last) talks2 mid) (sym is) next)
+
+-- a talk that was refused, and no other
+pub then_none : (host : List ℕ) (one two : Ask) (talks mid : Option (List Talk)) (fault : StoreFault)
+    → AskedOnce host one talks mid (Err fault) → AskedTwice host one two talks mid (Err fault)
+then_none host one two talks mid fault had = (mid, Err fault, had, (refl, refl))
