@@ -56,22 +56,22 @@ low_plain : (b : ℕ) → is_plain b ≡ true → ltb b 128 ≡ true
 unfolding is_plain
 low_plain b h = grind (arith, nat_tests)
 
-sound_plain : (text : List ℕ) → list_all is_plain text ≡ true → IsSound text
+pub sound_plain : (text : List ℕ) → list_all is_plain text ≡ true → IsSound text
 sound_plain text h = record {
   clean = weaker is_plain (λ b. not (is_blank b)) clean_plain text h;
   utf8 = utf8_from_low text (weaker is_plain (λ b. ltb b 128) low_plain text h);
 }
 
-good_key : (k : KeyKind) → IsGood kind.KeyType (key_text k)
+pub good_key : (k : KeyKind) → IsGood kind.KeyType (key_text k)
 good_key key.Input = record { sound = record { clean = refl; utf8 = utf8_from_low (key_text key.Input) refl }; short = omega arith }
 good_key key.Up = record { sound = record { clean = refl; utf8 = utf8_from_low (key_text key.Up) refl }; short = omega arith }
 
-good_mouse : (k : MouseKind) → IsGood kind.MouseType (mouse_text k)
+pub good_mouse : (k : MouseKind) → IsGood kind.MouseType (mouse_text k)
 good_mouse mouse.ButtonDown = record { sound = record { clean = refl; utf8 = utf8_from_low (mouse_text mouse.ButtonDown) refl }; short = omega arith }
 good_mouse mouse.ButtonUp = record { sound = record { clean = refl; utf8 = utf8_from_low (mouse_text mouse.ButtonUp) refl }; short = omega arith }
 good_mouse mouse.Move = record { sound = record { clean = refl; utf8 = utf8_from_low (mouse_text mouse.Move) refl }; short = omega arith }
 
-good_flag : (b : Bool) → IsGood kind.Flag (flag_text b)
+pub good_flag : (b : Bool) → IsGood kind.Flag (flag_text b)
 good_flag true = record { sound = record { clean = refl; utf8 = utf8_from_low (flag_text true) refl }; short = omega arith }
 good_flag false = record { sound = record { clean = refl; utf8 = utf8_from_low (flag_text false) refl }; short = omega arith }
 
@@ -106,16 +106,16 @@ Carries kind.Numbers old new = ⊤
 Carries kind.LongNumbers old new = ⊤
 Carries kind.Flag old new = ⊤
 
-fits_key : (list : List (List ℕ)) (k : KeyKind) → fits list kind.KeyType (key_text k) ≡ true
+pub fits_key : (list : List (List ℕ)) (k : KeyKind) → fits list kind.KeyType (key_text k) ≡ true
 fits_key list key.Input = refl
 fits_key list key.Up = refl
 
-fits_mouse : (list : List (List ℕ)) (k : MouseKind) → fits list kind.MouseType (mouse_text k) ≡ true
+pub fits_mouse : (list : List (List ℕ)) (k : MouseKind) → fits list kind.MouseType (mouse_text k) ≡ true
 fits_mouse list mouse.ButtonDown = refl
 fits_mouse list mouse.ButtonUp = refl
 fits_mouse list mouse.Move = refl
 
-fits_flag : (list : List (List ℕ)) (b : Bool) → fits list kind.Flag (flag_text b) ≡ true
+pub fits_flag : (list : List (List ℕ)) (b : Bool) → fits list kind.Flag (flag_text b) ≡ true
 fits_flag list true = refl
 fits_flag list false = refl
 

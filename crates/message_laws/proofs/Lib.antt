@@ -5,3 +5,4 @@ pub mod KindLemmas
 pub mod Lines
 pub mod Lookups
 pub mod Again
+pub mod BoundLemmas

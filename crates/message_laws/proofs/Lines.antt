@@ -17,12 +17,12 @@ use Rattle.message_laws.proofs.Texts.{IsClean, words_end, words_step, all_join, 
 use Rattle.message_laws.proofs.KindLemmas.{canonical, cap, IsGood}
 
 -- a name has no blank, is ASCII, and has at most 20 bytes
-record IsName (name : List ℕ) : Type 0 where
+pub record IsName (name : List ℕ) : Type 0 where
   pub clean : IsClean name
   pub low : list_all (λ b. ltb b 128) name ≡ true
   pub short : length name ≤ 20
 
-names : (w : Word) → IsName (name_of w)
+pub names : (w : Word) → IsName (name_of w)
 names word.Url = record { clean = refl; low = refl; short = omega arith }
 names word.«Type» = record { clean = refl; low = refl; short = omega arith }
 names word.Char = record { clean = refl; low = refl; short = omega arith }

@@ -109,7 +109,7 @@ sound_or : (o : Option (List ℕ)) (w : Word) → ((v : List ℕ) → o ≡ Some
 sound_or None w h = sound_default w
 sound_or (Some v) w h = h v refl
 
-sound_text : (list : List (List ℕ)) (w : Word) → AllByRecursion IsSound list → IsSound (text_of list w)
+pub sound_text : (list : List (List ℕ)) (w : Word) → AllByRecursion IsSound list → IsSound (text_of list w)
 sound_text list w all =
     sound_or (first_value (name_of w) list) w (value_sound (find (is_named (name_of w)) list) (λ x e. found IsSound (is_named (name_of w)) list x all e))
 

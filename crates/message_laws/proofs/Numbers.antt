@@ -1,5 +1,5 @@
 -- Numbers and lists of numbers, written and read again.
-use Rattle.std.proofs.Common.{◌≡◌, ℕ, suc, ◌+◌, ◌*◌, ◌<◌, ◌≤◌, Bool, true, not, ◌&&◌, ◌||◌, eqb, ltb, leb, List, [], ◌∷◌, ◌++◌, length, map, Option, Some, None, arith, refl, ap, ◌∙◌, subst, lit<, le-leb, length-append, append-nil}
+use Rattle.std.proofs.Common.{◌≡◌, ℕ, suc, ◌+◌, ◌*◌, ◌^◌, ◌<◌, ◌≤◌, Bool, true, not, ◌&&◌, ◌||◌, eqb, ltb, leb, List, [], ◌∷◌, ◌++◌, length, map, Option, Some, None, arith, refl, ap, ◌∙◌, subst, lit<, le-leb, length-append, append-nil}
 use Rattle.std.proofs.lemmas.Bool.{and_parts, leb-true}
 use Rattle.std.proofs.lemmas.Bool.Decides.{nat_tests}
 use Rattle.std.proofs.lemmas.Option.{cond_some}
@@ -37,22 +37,36 @@ pub record IsWritten (read : List ℕ → Option ℕ) (n : ℕ) : Type 0 where
   pub digits : list_all is_ascii_digit (decimal n) ≡ true
   pub short : length (decimal n) ≤ 20
 
-pub again_31 : (text : List ℕ) (n : ℕ) → number_31 text ≡ Some n → IsWritten number_31 n
-again_31 text n h =
-    let small : n ≤ 2147483647 = (number_read 10 2147483647 text n h).small in
-    let back : number_31 (decimal n) ≡ Some n = number-decimal 10 2147483647 n (lit< tt) (omega arith) (omega arith) small in
+pub written_31 : (n : ℕ) → n < 2 ^ 31 → IsWritten number_31 n
+written_31 n small =
+    let back : number_31 (decimal n) ≡ Some n = number-decimal 10 2147483647 n (lit< tt) (omega arith) (omega arith) (omega arith) in
     let told = number_read 10 2147483647 (decimal n) n back in
     let short : length (decimal n) ≤ 10 = told.short in
     record { back = back; digits = told.digits; short = omega arith }
 
-pub again_64 : (text : List ℕ) (n : ℕ) → number_64 text ≡ Some n → IsWritten number_64 n
-again_64 text n h =
-    let small : n ≤ 18446744073709551615 = (number_read 20 18446744073709551615 text n h).small in
-    let back : number_64 (decimal n) ≡ Some n = number-decimal 20 18446744073709551615 n (lit< tt) (omega arith) (omega arith) small in
+pub written_64 : (n : ℕ) → n < 2 ^ 64 → IsWritten number_64 n
+written_64 n small =
+    let back : number_64 (decimal n) ≡ Some n = number-decimal 20 18446744073709551615 n (lit< tt) (omega arith) (omega arith) (omega arith) in
     let told = number_read 20 18446744073709551615 (decimal n) n back in
     record { back = back; digits = told.digits; short = told.short }
 
-some_is : (o : Option ℕ) → is_some o ≡ true → o ≡ Some (unwrap_or o 0)
+pub small_31 : (text : List ℕ) (n : ℕ) → number_31 text ≡ Some n → n < 2 ^ 31
+small_31 text n h =
+    let small : n ≤ 2147483647 = (number_read 10 2147483647 text n h).small in
+    omega arith
+
+pub small_64 : (text : List ℕ) (n : ℕ) → number_64 text ≡ Some n → n < 2 ^ 64
+small_64 text n h =
+    let small : n ≤ 18446744073709551615 = (number_read 20 18446744073709551615 text n h).small in
+    omega arith
+
+pub again_31 : (text : List ℕ) (n : ℕ) → number_31 text ≡ Some n → IsWritten number_31 n
+again_31 text n h = written_31 n (small_31 text n h)
+
+pub again_64 : (text : List ℕ) (n : ℕ) → number_64 text ≡ Some n → IsWritten number_64 n
+again_64 text n h = written_64 n (small_64 text n h)
+
+pub some_is : (o : Option ℕ) → is_some o ≡ true → o ≡ Some (unwrap_or o 0)
 some_is None h = absurd (cc)
 some_is (Some n) h = refl
 
@@ -60,11 +74,12 @@ some_is (Some n) h = refl
 pub number_again : (read : List ℕ → Option ℕ) → ((text : List ℕ) (n : ℕ) → read text ≡ Some n → IsWritten read n) → (text : List ℕ) → is_some (read text) ≡ true → IsWritten read (number_in read text)
 number_again read again text h = again text (number_in read text) (some_is (read text) h)
 
-parts_again : (read : List ℕ → Option ℕ) → ((text : List ℕ) (n : ℕ) → read text ≡ Some n → IsWritten read n) → (ps : List (List ℕ)) → list_all (λ p. is_some (read p)) ps ≡ true → AllByRecursion (IsWritten read) (map (number_in read) ps)
-parts_again read again [] h = tt
-parts_again read again (p ∷ ps) h =
+-- what holds of each number that is read holds of the numbers of a list
+pub parts_hold : (read : List ℕ → Option ℕ) (P : ℕ → Type 0) → ((text : List ℕ) (n : ℕ) → read text ≡ Some n → P n) → (ps : List (List ℕ)) → list_all (λ p. is_some (read p)) ps ≡ true → AllByRecursion P (map (number_in read) ps)
+parts_hold read P holds [] h = tt
+parts_hold read P holds (p ∷ ps) h =
     let both = and_parts (is_some (read p)) (list_all (λ q. is_some (read q)) ps) h in
-    (number_again read again p both.0, parts_again read again ps both.1)
+    (holds p (number_in read p) (some_is (read p) both.0), parts_hold read P holds ps both.1)
 
 -- digits and commas
 unfoldable pub is_plain : ℕ → Bool
@@ -131,7 +146,7 @@ pub record IsWrittenList (read : List ℕ → Option ℕ) (ns : List ℕ) : Type
   pub plain : list_all is_plain (list_text ns) ≡ true
   pub short : length (list_text ns) ≤ 21504
 
-written_list : (read : List ℕ → Option ℕ) (ns : List ℕ) → 0 < length ns → length ns ≤ 1024 → AllByRecursion (IsWritten read) ns → IsWrittenList read ns
+pub written_list : (read : List ℕ → Option ℕ) (ns : List ℕ) → 0 < length ns → length ns ≤ 1024 → AllByRecursion (IsWritten read) ns → IsWrittenList read ns
 written_list read [] some few all = absurd (omega arith)
 written_list read (n ∷ ms) some few all =
     let split : parts (list_text (n ∷ ms)) ≡ map decimal (n ∷ ms) = parts_list read n ms all in
@@ -155,4 +170,4 @@ list_again read again text h =
     let few : length (parts text) ≤ 1024 = leb-true (length (parts text)) 1024 both.0 in
     let count : length (numbers read text) ≡ length (parts text) = length_mapped (number_in read) (parts text) in
     let some = length-slice_split is_comma text in
-    (written_list read (numbers read text) (omega arith) (omega arith) (parts_again read again (parts text) both.1), count)
+    (written_list read (numbers read text) (omega arith) (omega arith) (parts_hold read (IsWritten read) again (parts text) both.1), count)
