@@ -1,4 +1,4 @@
-ghost use Rattle.std.specs.Prelude.{◌≡◌};
+ghost use Rattle.std.specs.Prelude.{◌≡◌, ◌≤◌};
 
 use crate::{Hall, HallPort, Port};
 use cool_base::{DocId, FileId};
@@ -24,69 +24,78 @@ impl Labelled for Note {
     }
 }
 
-// One thread's part: ten files of its own, and ten mails to each.
-#[derive(Drop)]
-struct Part<'a> {
-    hall: &'a Hall<u32, Note>,
-    seat: Seat<HallState<u32, Note>>,
-    alloc: Global,
-    who: u32,
-    letter: &'static str,
-    done: u64,
-    ghost of_hall: { seat.lock ≡ hall.now.lock },
-}
+type TheHall = Hall<u32, Note>;
 
-fn hire<'a>(
-    hall: &'a Hall<u32, Note>,
-    seat: Seat<HallState<u32, Note>>,
+type TheSeat = Seat<HallState<u32, Note>>;
+
+// Ten mails to one document. How many were posted.
+fn post_ten<R: Wait>(
+    rt: &R,
     alloc: Global,
+    hall: &TheHall,
+    seat: &mut TheSeat,
     who: u32,
-    letter: &'static str,
-) -> Part<'a>
-    requires { seat.lock ≡ hall.now.lock }
+    doc: DocId,
+) -> u64
+    requires { seat.old.lock ≡ hall.now.lock }
+    ensures lock { seat.new.lock ≡ hall.now.lock }
+    ensures few { result ≤ 10 }
 {
-    Part {
-        hall,
-        seat,
-        alloc,
-        who,
-        letter,
-        done: 0,
+    let mut done = 0;
+    for k in 0..10 {
+        let (answer, _) = hall.post(rt, alloc, seat, who, doc, Note(k), false);
+        if answer.is_ok() {
+            done += 1;
+        }
     }
+    done
 }
 
-impl<'a> Part<'a> {
-    fn post_ten<R: Wait>(&mut self, rt: &R, doc: DocId) {
-        for k in 0..10 {
-            let (answer, _) = self.hall.post(
-                rt,
-                self.alloc,
-                &mut self.seat,
-                self.who,
-                doc,
-                Note(k),
-                false,
-            );
-            if answer.is_ok() {
-                self.done = self.done.saturating_add(1);
-            }
+// One thread's part: ten files of its own, and ten mails to each. How many calls were not refused.
+fn enter_ten<R: Wait>(
+    rt: &R,
+    alloc: Global,
+    hall: &TheHall,
+    seat: &mut TheSeat,
+    who: u32,
+    letter: &str,
+) -> u64
+    requires { seat.old.lock ≡ hall.now.lock }
+    ensures { seat.new.lock ≡ hall.now.lock }
+{
+    let mut done: u64 = 0;
+    for digit in ["0", "1", "2", "3", "4", "5", "6", "7", "8", "9"] {
+        let Some(file) = named(alloc, letter, digit) else {
+            return done;
+        };
+        let (answer, _) = hall.enter(rt, alloc, seat, who, &file);
+        if let Ok(Entered::Fresh(doc)) = answer {
+            let posted = post_ten(rt, alloc, hall, seat, who, doc);
+            done = done.saturating_add(posted + 1);
         }
     }
+    done
+}
 
-    fn work<R: Wait>(&mut self, rt: &R) {
-        for digit in ["0", "1", "2", "3", "4", "5", "6", "7", "8", "9"] {
-            let Some(file) = named(self.alloc, self.letter, digit) else {
-                return;
-            };
-            let (answer, _) = self
-                .hall
-                .enter(rt, self.alloc, &mut self.seat, self.who, &file);
-            if let Ok(Entered::Fresh(doc)) = answer {
-                self.done = self.done.saturating_add(1);
-                self.post_ten(rt, doc);
-            }
+// The mails of each of the twenty documents came in the order in which they were posted.
+fn all_in_order<R: Wait>(rt: &R, alloc: Global, hall: &TheHall, seat: &mut TheSeat) -> bool
+    requires { seat.old.lock ≡ hall.now.lock }
+    ensures { seat.new.lock ≡ hall.now.lock }
+{
+    for i in 0..20 {
+        let Ok(bag) = MailBag::new(alloc) else {
+            return false;
+        };
+        let ((_, first), _) = hall.collect(rt, seat, 0, DocId(i), bag);
+        let Ok(bag) = MailBag::new(alloc) else {
+            return false;
+        };
+        let ((_, second), _) = hall.collect(rt, seat, 1, DocId(i), bag);
+        if are_in_order(first) == are_in_order(second) {
+            return false;
         }
     }
+    true
 }
 
 fn named(alloc: Global, letter: &str, digit: &str) -> Option<FileId> {
@@ -111,6 +120,21 @@ fn are_in_order(mut bag: MailBag<Note>) -> bool {
     bag.take().is_none()
 }
 
+fn take_part<R: Wait>(
+    rt: &R,
+    alloc: Global,
+    hall: &TheHall,
+    mut seat: TheSeat,
+    who: u32,
+    letter: &str,
+) -> (TheSeat, u64)
+    requires { seat.lock ≡ hall.now.lock }
+    ensures { result.0.lock ≡ hall.now.lock }
+{
+    let done = enter_ten(rt, alloc, hall, &mut seat, who, letter);
+    (seat, done)
+}
+
 #[test]
 fn two_threads_share_one_history(rt: HostRuntime) -> Result<(), Fail> {
     let state = HallState::<u32, Note>::new(rt.alloc(), 2, 17000)?;
@@ -118,23 +142,22 @@ fn two_threads_share_one_history(rt: HostRuntime) -> Result<(), Fail> {
     let hall = Hall { lock };
     let first = hall.lock.split(&mut seat);
     let second = hall.lock.split(&mut seat);
-    let mut team = [
-        hire(&hall, first, rt.alloc(), 0, "a"),
-        hire(&hall, second, rt.alloc(), 1, "b"),
-    ];
-    thread::for_each_mut(&rt, &mut team, 2, &|_, part: &mut Part| part.work(&rt));
-    assert!(rt; team[0].done == 110 && team[1].done == 110);
+    let (one, two) = thread::join(
+        &rt,
+        || -> (TheSeat, u64)
+            requires { first.lock ≡ hall.lock }
+            ensures { result.0.lock ≡ hall.lock }
+        { take_part(&rt, rt.alloc(), &hall, first, 0, "a") },
+        || -> (TheSeat, u64)
+            requires { second.lock ≡ hall.lock }
+            ensures { result.0.lock ≡ hall.lock }
+        { take_part(&rt, rt.alloc(), &hall, second, 1, "b") },
+    );
+    assert!(rt; one.1 == 110 && two.1 == 110);
+    hall.lock.join(&mut seat, one.0);
+    hall.lock.join(&mut seat, two.0);
     assert!(rt; hall.lock.look(&mut seat) == 220);
-    for i in 0..20 {
-        let bag = MailBag::new(rt.alloc())?;
-        let ((answer, bag), _) = hall.collect(&rt, &mut seat, 0, DocId(i), bag);
-        if answer.is_ok() {
-            assert!(rt; are_in_order(bag));
-        } else {
-            let ((other, bag), _) = hall.collect(&rt, &mut seat, 1, DocId(i), bag);
-            assert!(rt; other.is_ok() && are_in_order(bag));
-        }
-    }
+    assert!(rt; all_in_order(&rt, rt.alloc(), &hall, &mut seat));
     assert!(rt; hall.open_count(&rt, &mut seat) == (20, 240));
     Ok(())
 }
