@@ -1,17 +1,15 @@
 -- An edit of a book is an edit of one of its parts.
-use Rattle.std.proofs.Common.{◌≡◌, ◌≢◌, ◌⊎◌, ◌↔◌, ℕ, suc, ◌+◌, ◌*◌, ◌^◌, ◌<◌, ◌≤◌, List, [], ◌∷◌, ◌++◌, length, get_or, drop, refl, ap, sym, ◌∙◌, subst, ⊎_elim, arith, length-append, drop-cons, add-one, get_or-set_same, get_or-set_other, drop_of_length-le}
-use Rattle.std.proofs.Math.ListN.{set, length-set}
+use Rattle.std.proofs.Common.{◌≡◌, ◌≢◌, ◌↔◌, ℕ, suc, ◌+◌, ◌<◌, ◌≤◌, List, [], length, get_or, drop, refl, ap, sym, ◌∙◌, subst, ⊎_elim, arith, length-append, drop-cons, add-one, get_or-set_same, get_or-set_other, drop_of_length-le}
+use Rattle.std.proofs.Math.ListN.{set}
 use Rattle.std.proofs.lemmas.Bool.{cases_eq}
 use Rattle.std.proofs.lemmas.List.{get_or_default}
 use Rattle.std.specs.Fmt.{decimal}
-use Rattle.std.specs.Prelude.{codes}
 use Rattle.std.specs.List.{Contains}
 use Rattle.sheet_cells.specs.declared.cells.CellRef.{CellRef}
 use Rattle.formula_base.specs.Ranges.{Place}
 use Rattle.part_calc.specs.Parts.{Part, text_at, with_text}
 use Rattle.part_calc.specs.Shown.{shown_at, changed_cells}
 use Rattle.part_calc.specs.Text.{part_lines}
-use Rattle.sheet_calc.specs.declared.changed.Changed.{Changed}
 use Rattle.sheet_calc.specs.Books.{Parts, place_of, part_at, text_of, shown_of, with_cell, changed_in, IsAmong}
 use Rattle.sheet_calc.specs.FileText.{all_lines, file_text}
 
