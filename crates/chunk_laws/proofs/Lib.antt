@@ -1,0 +1,5 @@
+pub mod Ends
+pub mod SizeLinesIn
+pub mod SectionsIn
+pub mod Kept
+pub mod Spelled
