@@ -1,0 +1,6 @@
+//! Both ends of WOPI together: each operation goes as bytes over a wire in memory to the host, and its
+//! response as bytes back. The crate has these tests alone.
+#![tactic(auto)]
+
+#[cfg(test)]
+mod tests;
