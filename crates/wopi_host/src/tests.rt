@@ -1,7 +1,7 @@
 // A host over a keeper in memory, with ample memory.
 use crate::{Host, MemoryKeeper};
 use bytes::Bytes;
-use cool_base::{FileId, TextOf};
+use cool_base::{FileId, Memory, TextOf};
 use http_message::{Method, Request, Response};
 use std::alloc::{AllocError, Global};
 use std::process::Abort;
@@ -139,13 +139,19 @@ fn the_table_of_the_host(rt: HostRuntime) -> Result<(), Fail> {
     Ok(())
 }
 
+// Sets the lock `x` at the moment 100.
+#[tactic(auto, unfolding(crate::specs::Table::is_lock_text))]
+fn lock_by_hand(alloc: Global, host: &mut Host<MemoryKeeper>, file: &FileId) -> Result<(), Memory> {
+    host.set_lock(alloc, file, "x", 100)
+}
+
 #[test]
 fn locks_end_and_are_set_by_hand(rt: HostRuntime) -> Result<(), Fail> {
     let alloc = rt.alloc();
     let mut host = Host::new(alloc, MemoryKeeper::new(alloc))?;
     let file = file(&rt, "d");
     host.add(alloc, &file, &bytes_of(alloc, "01234567890123456789")?)?;
-    host.set_lock(alloc, &file, "x", 100)?;
+    lock_by_hand(alloc, &mut host, &file)?;
     let ask = post(FILE, "GET_LOCK", None, 200, None);
     let tells = request(alloc, &ask)?;
     assert_eq!(rt;
@@ -156,7 +162,7 @@ fn locks_end_and_are_set_by_hand(rt: HostRuntime) -> Result<(), Fail> {
         told(&host.answer(alloc, &tells, 1900)?).unwrap_or("none"),
         ""
     );
-    host.set_lock(alloc, &file, "x", 100)?;
+    lock_by_hand(alloc, &mut host, &file)?;
     host.clear_lock(&file);
     assert_eq!(rt;
         told(&host.answer(alloc, &tells, 101)?).unwrap_or("none"),

@@ -70,6 +70,13 @@ fn host(rt: &impl Abort, alloc: Global) -> Result<Host<MemoryKeeper>, Memory> {
     Ok(host)
 }
 
+fn lock(rt: &impl Abort, alloc: Global) -> Result<Ask, Memory> {
+    Ok(Ask::Lock {
+        file: file(rt),
+        token: token(rt, alloc)?,
+    })
+}
+
 fn get_lock(alloc: Global) -> Result<Request, Memory> {
     Ok(Request {
         method: Method::Post,
@@ -90,11 +97,7 @@ fn checks_and_locks(rt: HostRuntime) -> Result<(), Fail> {
         token: token(&rt, alloc)?,
     };
     assert_eq!(rt; asked(alloc, &mut host, &check)?, 203);
-    let lock = Ask::Lock {
-        file: file(&rt),
-        token: token(&rt, alloc)?,
-    };
-    assert_eq!(rt; asked(alloc, &mut host, &lock)?, 200);
+    assert_eq!(rt; asked(alloc, &mut host, &lock(&rt, alloc)?)?, 200);
     let response = round(alloc, &mut host, &get_lock(alloc)?)?;
     assert_eq!(rt; response.status, 200);
     assert_eq!(rt; response.lock.expect(&rt, "a lock").get(), "cool-d");
@@ -111,7 +114,7 @@ fn puts_and_gets(rt: HostRuntime) -> Result<(), Fail> {
         content: Bytes::copy_from_slice(alloc, b"hello")?,
     };
     assert_eq!(rt; asked(alloc, &mut host, &put)?, 409);
-    host.set_lock(alloc, &file(&rt), "cool-d", 5)?;
+    assert_eq!(rt; asked(alloc, &mut host, &lock(&rt, alloc)?)?, 200);
     assert_eq!(rt; asked(alloc, &mut host, &put)?, 200);
     let get = Ask::Get {
         file: file(&rt),
@@ -125,7 +128,7 @@ fn puts_and_gets(rt: HostRuntime) -> Result<(), Fail> {
 fn refreshes_and_unlocks(rt: HostRuntime) -> Result<(), Fail> {
     let alloc = rt.alloc();
     let mut host = host(&rt, alloc)?;
-    host.set_lock(alloc, &file(&rt), "cool-d", 5)?;
+    assert_eq!(rt; asked(alloc, &mut host, &lock(&rt, alloc)?)?, 200);
     let refresh = Ask::Refresh {
         file: file(&rt),
         token: token(&rt, alloc)?,
