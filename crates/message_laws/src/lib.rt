@@ -2,6 +2,9 @@
 //! contract is the law.
 #![tactic(auto)]
 
+#[cfg(test)]
+mod tests;
+
 ghost use Rattle.std.specs.Prelude.{◌≡◌, ℕ, List, Ok};
 ghost use Rattle.cool_message.specs.Reading.{reading};
 ghost use Rattle.cool_message.specs.Writing.{written};
