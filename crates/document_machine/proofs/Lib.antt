@@ -1,5 +1,4 @@
 pub mod Runs
 pub mod Lists
 pub mod Present
-pub mod OneView
-pub mod Messages
+pub mod Journal

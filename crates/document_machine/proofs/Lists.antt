@@ -1,11 +1,12 @@
 -- Keys in lists.
-use Rattle.std.proofs.Common.{◌≡◌, ℕ, suc, ◌+◌, ◌<◌, ◌≤◌, Bool, true, false, not, ◌&&◌, ◌||◌, cond, List, [], ◌∷◌, ◌++◌, length, take, drop, map, filter, find, get_or, Option, None, Some, refl, sym, ap, ◌∙◌, arith, rules, nat_eq}
+use Rattle.std.proofs.Common.{◌≡◌, ℕ, zero, suc, ◌+◌, ◌<◌, ◌≤◌, Bool, true, false, not, ◌&&◌, ◌||◌, cond, List, [], ◌∷◌, ◌++◌, length, take, drop, map, filter, find, get_or, Option, None, Some, refl, sym, ap, subst, ◌∙◌, arith, rules, nat_eq, append_assoc}
 use Rattle.std.specs.List.{list_any, insert, AllByRecursion}
 use Rattle.std.specs.Ordering.{is_lt}
 use Rattle.std.proofs.lemmas.List.{drop_more, take-append-drop, take_all, drop_all}
 use Rattle.std.proofs.lemmas.Map.Views.{any-filter_same}
 use Rattle.tile_key.specs.Places.{Place, key_order, same_place}
 use Rattle.document_machine.specs.Keys.{is_among, inserted}
+use Rattle.document_machine.specs.State.{Sent}
 
 -- a number is itself
 pub nat_eq_self : (n : ℕ) → nat_eq n n ≡ true
@@ -83,3 +84,42 @@ fewer (other ∷ others) key e =
       | false ↦ λ some. omega (arith, fewer others key some)
     ] in
     go (same_place other key) e
+
+-- numbers of tiles that are all named
+pub any_here : (xs ys : List Sent) (tile : Sent) → list_any (λ wid. nat_eq wid tile.wid) (map (λ t. t.wid) (xs ++ tile ∷ ys)) ≡ true
+any_here [] ys tile = rw (nat_eq_self tile.wid) refl
+any_here (x ∷ xs) ys tile =
+    let go : (b : Bool) → (b || list_any (λ wid. nat_eq wid tile.wid) (map (λ t. t.wid) (xs ++ tile ∷ ys))) ≡ true = elim [ true ↦ refl | false ↦ any_here xs ys tile ] in
+    go (nat_eq x.wid tile.wid)
+
+-- a window whose tiles are all named is empty after it
+pub all_gone : (xs ys : List Sent) → filter (λ tile. not (list_any (λ wid. nat_eq wid tile.wid) (map (λ t. t.wid) (xs ++ ys)))) ys ≡ []
+all_gone xs [] = refl
+all_gone xs (y ∷ ys) =
+    let rest : filter (λ tile. not (list_any (λ wid. nat_eq wid tile.wid) (map (λ t. t.wid) (xs ++ y ∷ ys)))) ys ≡ [] = rw (append_assoc xs (y ∷ []) ys) at (all_gone (xs ++ y ∷ []) ys) in
+    rw (any_here xs ys y) rest
+
+-- what holds of all and of one more
+pub all_push : {X : Type 0} (P : X → Type 0) (xs : List X) (x : X) → AllByRecursion P xs → P x → AllByRecursion P (xs ++ x ∷ [])
+all_push P [] x all p = (p, tt)
+all_push P (y ∷ ys) x all p = (all.0, all_push P ys x all.1 p)
+
+-- what holds of all holds of those that a filter keeps
+pub all_filter : {X : Type 0} (P : X → Type 0) (p : X → Bool) (xs : List X) → AllByRecursion P xs → AllByRecursion P (filter p xs)
+all_filter P p [] all = tt
+all_filter P p (x ∷ xs) all =
+    elim (p x) as (λ b. AllByRecursion P (cond b (x ∷ filter p xs) (filter p xs))) [
+      | true ↦ (all.0, all_filter P p xs all.1)
+      | false ↦ all_filter P p xs all.1
+    ]
+
+-- what holds of all holds of the one at a place
+pub all_at : {X : Type 0} (P : X → Type 0) (xs : List X) (i : ℕ) (x : X) → AllByRecursion P xs → i < length xs → get_or xs i x ≡ x → P x
+all_at P [] i x all lt is = absurd (omega arith)
+all_at P (y ∷ ys) zero x all lt is = let same : y ≡ x = is in subst P same all.0
+all_at P (y ∷ ys) (suc i) x all lt is = all_at P ys i x all.1 (omega arith) is
+
+-- what always holds holds of all
+pub all_any : {X : Type 0} (P : X → Type 0) (xs : List X) → ((x : X) → P x) → AllByRecursion P xs
+all_any P [] f = tt
+all_any P (x ∷ xs) f = (f x, all_any P xs f)

@@ -11,6 +11,7 @@ use Rattle.kit_trait.specs.Rules.{Rules, doc, shown}
 use Rattle.kit_trait.specs.declared.values.Damage.{Damage}
 use Rattle.kit_trait.specs.declared.values.Input.{Input}
 use Rattle.tile_key.specs.Places.{Place, rect_of_place, key_order, same_place}
+use Rattle.tile_key.specs.Visible.{visible_keys}
 use Rattle.document_machine.specs.Keys.{is_among, ordered}
 use Rattle.document_machine.specs.Outputs.{named}
 use Rattle.document_machine.specs.State.{Shown, Sent, View, Job, Document}
@@ -43,9 +44,14 @@ touched rules base journal version key (suc n) =
     touched rules base journal version key n
     || (nat_le version n && is_hurt (damage_of rules base journal n) key)
 
--- the keys that a view sees. No message gives a view an area yet, so it sees none
+-- the keys that a view sees: those of its part and its zoom that have a point in common with its area and
+-- with the part, in key order
 abbrev pub visible : {C B S : Type 0} → Rules C B → Document S → View → List Place
-visible rules d view = []
+visible rules d view = visible_keys view.part view.zoom view.area (size_of rules d.base view.part)
+
+-- a view sees the key or asked for it
+abbrev pub sees_or_asks : {C B S : Type 0} → Rules C B → Document S → View → Place → Bool
+sees_or_asks rules d view key = is_among (visible rules d view) key || is_among view.asked key
 
 -- the keys that a view sees or asked for, each once, in key order
 abbrev pub keys : {C B S : Type 0} → Rules C B → Document S → View → List Place
@@ -114,6 +120,11 @@ sent rules d version key view =
 abbrev pub tile_frame : {C B S : Type 0} → Rules C B → Document S → ℕ → Place → View → ViewId × Frame
 tile_frame rules d version key view =
     (named view.id, Tile key version (record { 0 = view.next_wid }) ((shown rules (doc rules d.base d.journal version) key).rgba))
+
+-- a version is no step back from the one on the screen
+abbrev pub is_not_back : Option ℕ → ℕ → Bool
+is_not_back None version = true
+is_not_back (Some had) version = nat_le had version
 
 -- a screen never goes back to an older version; the one that it has comes again only where it is asked for
 abbrev pub is_newer : Option ℕ → ℕ → (asked : Bool) → Bool

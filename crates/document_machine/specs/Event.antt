@@ -2,11 +2,11 @@
 use Rattle.std.specs.Prelude.{ℕ, List}
 use Rattle.document_machine.specs.declared.rights.Rights.{Rights}
 
--- what can happen to a document: a view joins, a view says a text, the document makes a turn, a painted
--- job comes back with the scene that was painted, a view acknowledges tiles by their numbers
+-- what can happen to a document: a view joins, a view leaves, a view says a text, the document makes a
+-- turn, a painted job comes back with the scene that was painted
 pub data Event (S : Type 0) : Type 0 where
   Joined : (rights : Rights) → Event S
+  Left : (view : ℕ) → Event S
   Said : (view : ℕ) (text : List ℕ) → Event S
   Turned : Event S
   Painted : (ticket : ℕ) (scene : S) → Event S
-  Processed : (view : ℕ) (wids : List ℕ) → Event S

@@ -1,8 +1,13 @@
 -- Lists of keys, in key order and in the order asked.
-use Rattle.std.specs.Prelude.{Bool, List, [], ◌∷◌, if◌then◌else◌}
-use Rattle.std.specs.List.{list_any}
+use Rattle.std.specs.Prelude.{⊤, Bool, List, [], ◌∷◌, if◌then◌else◌}
+use Rattle.std.specs.List.{list_any, AllByRecursion}
 use Rattle.std.specs.Ordering.{is_lt}
 use Rattle.tile_key.specs.Places.{Place, key_order, same_place}
+
+-- R holds of each element and each later one
+abbrev pub Pairwise : {X : Type 0} → (X → X → Type 0) → List X → Type 0
+Pairwise R [] = ⊤
+Pairwise R (x ∷ xs) = AllByRecursion (R x) xs × Pairwise R xs
 
 -- whether the list has the key
 abbrev pub is_among : List Place → Place → Bool

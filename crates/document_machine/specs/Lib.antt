@@ -8,4 +8,5 @@ pub mod Step
 pub mod Next
 pub mod Run
 pub mod Quiet
-pub mod AtOnce
+pub mod Rank
+pub mod Kept

@@ -1,8 +1,10 @@
 -- What a message of a view does.
-use Rattle.std.specs.Prelude.{ℕ, Bool, not, ◌&&◌, List, [], ◌∷◌, ◌++◌, length, filter, nat_le, nat_lt, Option, None, Some, Result, Ok, Err, codes, if◌then◌else◌}
+use Rattle.std.specs.Prelude.{ℕ, not, List, [], ◌∷◌, ◌++◌, length, filter, nat_eq, nat_le, nat_lt, Option, None, Some, Result, Ok, Err, codes, if◌then◌else◌}
+use Rattle.std.specs.List.{list_any}
+use Rattle.cool_base.specs.Points.{Rectangle, Extent}
 use Rattle.asked_keys.specs.Asked.{keys_of}
 use Rattle.cool_frame.specs.declared.kind.ErrorKind.{ErrorKind}
-use Rattle.cool_frame.specs.declared.kind.ErrorKind.TheVariants.{BadMessage, AlreadyLoaded, ReadOnly, InputsFull, BadTile, AskedFull}
+use Rattle.cool_frame.specs.declared.kind.ErrorKind.TheVariants.{BadMessage, AlreadyLoaded, ReadOnly, InputsFull, BadTile, TooLarge, AskedFull}
 use Rattle.cool_base.specs.declared.ids.ViewId.{ViewId}
 use Rattle.cool_frame.specs.declared.frame.Frame.{Frame}
 use Rattle.cool_frame.specs.declared.frame.Frame.TheVariants.{Server, Error}
@@ -19,21 +21,27 @@ use Rattle.kit_trait.specs.Rules.{Rules}
 use Rattle.kit_trait.specs.declared.values.Input.{Input}
 use Rattle.kit_trait.specs.declared.values.What.{What}
 use Rattle.kit_trait.specs.declared.values.What.TheVariants.{Key as Typed, Mouse as Pressed}
-use Rattle.tile_key.specs.Places.{Place}
-use Rattle.document_machine.specs.Due.{parts_of, visible}
+use Rattle.tile_key.specs.Places.{Place, Scale, zoom_of}
+use Rattle.tile_key.specs.Visible.{visible_keys, is_too_large}
+use Rattle.document_machine.specs.Due.{parts_of, size_of, visible, sees_or_asks}
 use Rattle.document_machine.specs.Keys.{is_among}
 use Rattle.document_machine.specs.Outputs.{named, frames_only}
 use Rattle.document_machine.specs.State.{View, Document, with_view}
 use Rattle.document_machine.specs.declared.outs.Outs.{Outs}
 
 -- the one effect of a message: it is refused, it is greeted back, it is an input, the view asks for these
--- keys from now on, the view asks only for what it sees, or nothing changes
+-- keys from now on, the view asks only for what it sees, it looks at this area, it takes this zoom, it goes
+-- to this part, it has drawn the tiles with these numbers, or nothing changes
 pub data Effect : Type 0 where
   Refuses : (command : List ℕ) (kind : ErrorKind) → Effect
   Greets : Effect
   Inputs : (input : Input) → Effect
   Asks : (asked : List Place) → Effect
   Cancels : Effect
+  Looks : (area : Rectangle) → Effect
+  Zooms : (zoom : Scale) → Effect
+  GoesTo : (part : ℕ) → Effect
+  Acknowledges : (wids : List ℕ) → Effect
   Passes : Effect
 
 -- an input is refused where the view may not write, and then where the journal has 524,288 inputs
@@ -72,36 +80,54 @@ asking_effect view command (Some keys) =
     if nat_lt 1024 (length (asked_with_all view.asked keys)) then Refuses command AskedFull
     else Asks (asked_with_all view.asked keys)
 
--- the effect of each message, where so many inputs are accepted and there are so many parts
-abbrev pub message_effect : (count parts : ℕ) → View → ClientMessage → Effect
-message_effect count parts view CoolClient = Greets
-message_effect count parts view (Load url) = Refuses (codes "load") AlreadyLoaded
-message_effect count parts view (Key kind chr code) = key_effect count view kind (Typed chr code)
-message_effect count parts view (Mouse kind x y clicks buttons modifier) =
+-- a change of what a view sees is refused where it would see more than 4,096 keys, or more than 16,777,216
+-- pixels
+abbrev pub seeing_effect : (sizes : ℕ → Extent) (command : List ℕ) (part : ℕ) → Scale → Rectangle → Effect → Effect
+seeing_effect sizes command part zoom area change =
+    if is_too_large zoom (length (visible_keys part zoom area (sizes part))) then Refuses command TooLarge else change
+
+-- a zoom is refused where its numbers make none, and then where the view would see too much
+abbrev pub zooming_effect : (sizes : ℕ → Extent) → View → Option Scale → Effect
+zooming_effect sizes view None = Refuses (codes "clientzoom") BadTile
+zooming_effect sizes view (Some zoom) = seeing_effect sizes (codes "clientzoom") view.part zoom view.area (Zooms zoom)
+
+-- a part is refused where the document has no such part, and then where the view would see too much
+abbrev pub going_effect : (parts : ℕ) (sizes : ℕ → Extent) → View → (part : ℕ) → Effect
+going_effect parts sizes view part =
+    if nat_lt part parts then seeing_effect sizes (codes "setclientpart") part view.zoom view.area (GoesTo part)
+    else Refuses (codes "setclientpart") BadTile
+
+-- the effect of each message, where so many inputs are accepted and there are so many parts of these sizes
+abbrev pub message_effect : (count parts : ℕ) (sizes : ℕ → Extent) → View → ClientMessage → Effect
+message_effect count parts sizes view CoolClient = Greets
+message_effect count parts sizes view (Load url) = Refuses (codes "load") AlreadyLoaded
+message_effect count parts sizes view (Key kind chr code) = key_effect count view kind (Typed chr code)
+message_effect count parts sizes view (Mouse kind x y clicks buttons modifier) =
     mouse_effect count view kind (Pressed x y clicks buttons modifier)
-message_effect count parts view (Tile words) = asking_effect view (codes "tile") (keys_of parts (Tile words))
-message_effect count parts view (TileCombine words) = asking_effect view (codes "tilecombine") (keys_of parts (TileCombine words))
-message_effect count parts view CancelTiles = Cancels
--- what the document doesn't know yet is refused like a text that is no message
-message_effect count parts view (VisibleArea area) = Refuses (codes "clientvisiblearea") BadMessage
-message_effect count parts view (Zoom pixel_w pixel_h twip_w twip_h) = Refuses (codes "clientzoom") BadMessage
-message_effect count parts view (SetPart part) = Refuses (codes "setclientpart") BadMessage
-message_effect count parts view (TileProcessed wids) = Refuses (codes "tileprocessed") BadMessage
-message_effect count parts view (Save keep skip) = Refuses (codes "save") BadMessage
-message_effect count parts view UnoSave = Refuses (codes "uno") BadMessage
+message_effect count parts sizes view (Tile words) = asking_effect view (codes "tile") (keys_of parts (Tile words))
+message_effect count parts sizes view (TileCombine words) = asking_effect view (codes "tilecombine") (keys_of parts (TileCombine words))
+message_effect count parts sizes view CancelTiles = Cancels
+message_effect count parts sizes view (VisibleArea area) = seeing_effect sizes (codes "clientvisiblearea") view.part view.zoom area (Looks area)
+message_effect count parts sizes view (Zoom pixel_w pixel_h twip_w twip_h) =
+    zooming_effect sizes view (zoom_of (record { pixel_w = pixel_w; pixel_h = pixel_h; twip_w = twip_w; twip_h = twip_h }))
+message_effect count parts sizes view (SetPart part) = going_effect parts sizes view part
+message_effect count parts sizes view (TileProcessed wids) = Acknowledges wids
+-- a document is not saved yet: the message is refused like a text that is none
+message_effect count parts sizes view (Save keep skip) = Refuses (codes "save") BadMessage
+message_effect count parts sizes view UnoSave = Refuses (codes "uno") BadMessage
 
 -- a text that is no message is refused, with the command that it seems to have
-abbrev pub reading_effect : (count parts : ℕ) → View → List ℕ → Result ClientMessage MessageFault → Effect
-reading_effect count parts view text (Err why) = Refuses (command_name text) BadMessage
-reading_effect count parts view text (Ok message) = message_effect count parts view message
+abbrev pub reading_effect : (count parts : ℕ) (sizes : ℕ → Extent) → View → List ℕ → Result ClientMessage MessageFault → Effect
+reading_effect count parts sizes view text (Err why) = Refuses (command_name text) BadMessage
+reading_effect count parts sizes view text (Ok message) = message_effect count parts sizes view message
 
 -- the effect of a text that a view says
-abbrev pub effect_of : (count parts : ℕ) → View → List ℕ → Effect
-effect_of count parts view text = reading_effect count parts view text (reading text)
+abbrev pub effect_of : (count parts : ℕ) (sizes : ℕ → Extent) → View → List ℕ → Effect
+effect_of count parts sizes view text = reading_effect count parts sizes view text (reading text)
 
 -- the same in a document
 abbrev pub effect : {C B S : Type 0} → Rules C B → Document S → View → List ℕ → Effect
-effect rules d view text = effect_of (length d.journal) (parts_of rules d.base) view text
+effect rules d view text = effect_of (length d.journal) (parts_of rules d.base) (size_of rules d.base) view text
 
 -- the frames of an effect: one error frame for a refusal, one greeting, else none
 abbrev pub frames_of : ℕ → Effect → List (ViewId × Frame)
@@ -110,6 +136,10 @@ frames_of id Greets = (named id, Server) ∷ []
 frames_of id (Inputs input) = []
 frames_of id (Asks asked) = []
 frames_of id Cancels = []
+frames_of id (Looks area) = []
+frames_of id (Zooms zoom) = []
+frames_of id (GoesTo part) = []
+frames_of id (Acknowledges wids) = []
 frames_of id Passes = []
 
 abbrev pub reply : {S : Type 0} → ℕ → Effect → Outs S
@@ -119,16 +149,27 @@ reply id effect = frames_only (frames_of id effect)
 abbrev pub asks : List Place → View → View
 asks asked view = record view { asked = asked }
 
--- a key is dropped by a view that cancels where it is asked for and not seen
-abbrev pub is_dropped : {C B S : Type 0} → Rules C B → Document S → View → Place → Bool
-is_dropped rules d view key = is_among view.asked key && not (is_among (visible rules d view) key)
+-- a screen forgets the keys that its view neither sees nor asks for
+abbrev pub forgets : {C B S : Type 0} → Rules C B → Document S → View → View
+forgets rules d view = record view { screen = filter (λ shown. sees_or_asks rules d view shown.key) view.screen }
 
--- a view that cancels: of the asked keys those stay asked for that it sees, and its screen forgets the others
+-- a view that cancels: of the asked keys those stay asked for that it sees
 abbrev pub cancels : {C B S : Type 0} → Rules C B → Document S → View → View
-cancels rules d view = record view {
-  asked = filter (is_among (visible rules d view)) view.asked;
-  screen = filter (λ shown. not (is_dropped rules d view shown.key)) view.screen;
-}
+cancels rules d view = forgets rules d (record view { asked = filter (is_among (visible rules d view)) view.asked })
+
+-- a view that looks at another area, at another zoom, or at another part
+abbrev pub looks : {C B S : Type 0} → Rules C B → Document S → Rectangle → View → View
+looks rules d area view = forgets rules d (record view { area = area })
+
+abbrev pub zooms : {C B S : Type 0} → Rules C B → Document S → Scale → View → View
+zooms rules d zoom view = forgets rules d (record view { zoom = zoom })
+
+abbrev pub goes_to : {C B S : Type 0} → Rules C B → Document S → ℕ → View → View
+goes_to rules d part view = forgets rules d (record view { part = part })
+
+-- a view once these numbers were acknowledged: the tiles so numbered leave its window, others change nothing
+abbrev pub acknowledged : List ℕ → View → View
+acknowledged wids view = record view { window = filter (λ tile. not (list_any (λ wid. nat_eq wid tile.wid) wids)) view.window }
 
 -- the document after an effect: a refusal changes nothing
 abbrev pub took : {C B S : Type 0} → Rules C B → Document S → ℕ → Effect → Document S
@@ -137,4 +178,8 @@ took rules d id Greets = d
 took rules d id (Inputs input) = record d { journal = d.journal ++ input ∷ [] }
 took rules d id (Asks asked) = record d { views = with_view d.views id (asks asked) }
 took rules d id Cancels = record d { views = with_view d.views id (cancels rules d) }
+took rules d id (Looks area) = record d { views = with_view d.views id (looks rules d area) }
+took rules d id (Zooms zoom) = record d { views = with_view d.views id (zooms rules d zoom) }
+took rules d id (GoesTo part) = record d { views = with_view d.views id (goes_to rules d part) }
+took rules d id (Acknowledges wids) = record d { views = with_view d.views id (acknowledged wids) }
 took rules d id Passes = d

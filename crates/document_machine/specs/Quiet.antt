@@ -1,6 +1,6 @@
 -- When nothing is left to do, and what is right then.
-use Rattle.std.specs.Prelude.{◌≡◌, ℕ, ◌+◌, ◌-◌, ◌*◌, Bool, not, ◌&&◌, nat_eq, List, [], length, Option, Some, None}
-use Rattle.std.specs.List.{list_any, list_all, sum_by, AllByRecursion}
+use Rattle.std.specs.Prelude.{◌≡◌, ℕ, Bool, not, ◌&&◌, nat_eq, List, [], length, Some}
+use Rattle.std.specs.List.{list_any, list_all, AllByRecursion}
 use Rattle.kit_trait.specs.Rules.{Rules, doc, shown}
 use Rattle.tile_key.specs.Places.{Place}
 use Rattle.document_machine.specs.Due.{is_due, keys, visible, version_of}
@@ -35,10 +35,3 @@ IsRight rules d view key =
 -- every pair of a view and a key that it sees or asked for is right
 abbrev pub AllRight : {C B S : Type 0} → Rules C B → Document S → Type 0
 AllRight rules d = AllByRecursion (λ view. AllByRecursion (IsRight rules d view) (keys rules d view)) d.views
-
--- how much is left to do: twice the inputs that are not applied and the keys that are asked for, and the
--- tiles that are not acknowledged
-abbrev pub left_to_do : {S : Type 0} → Document S → ℕ
-left_to_do d =
-    2 * ((length d.journal - d.applied) + sum_by (λ view. length view.asked) d.views)
-    + sum_by (λ view. length view.window) d.views

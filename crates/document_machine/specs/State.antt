@@ -1,8 +1,9 @@
 -- What a document is between two events.
 use Rattle.std.specs.Prelude.{ℕ, List, [], ◌∷◌, Option, Some, None, nat_eq, if◌then◌else◌}
+use Rattle.cool_base.specs.Points.{Rectangle}
 use Rattle.document_machine.specs.declared.rights.Rights.{Rights}
 use Rattle.kit_trait.specs.declared.values.Input.{Input}
-use Rattle.tile_key.specs.Places.{Place}
+use Rattle.tile_key.specs.Places.{Place, Scale}
 
 -- a key on a view's screen, with the version last sent to it
 pub record Shown : Type 0 where
@@ -14,13 +15,15 @@ pub record Sent : Type 0 where
   pub wid : ℕ
   pub key : Place
 
--- one view: who it is and what it may do, its part of the document, the keys that it asked for in the
--- order asked, what it was last sent of each key, in key order, what it has not acknowledged, in the
--- order sent, and the number of its next tile
+-- one view: who it is and what it may do, its part of the document, its zoom and the area that it looks
+-- at, the keys that it asked for in the order asked, what it was last sent of each key, in key order, what
+-- it has not acknowledged, in the order sent, and the number of its next tile
 pub record View : Type 0 where
   pub id : ℕ
   pub rights : Rights
   pub part : ℕ
+  pub zoom : Scale
+  pub area : Rectangle
   pub asked : List Place
   pub screen : List Shown
   pub window : List Sent
@@ -58,12 +61,22 @@ opening base = record {
   next_ticket = 1;
 }
 
+-- the zoom of a view that joins: tiles of 256 by 256 pixels, each of 3,840 by 3,840 twips
+abbrev pub first_zoom : Scale
+first_zoom = record { pixel_w = 256; pixel_h = 256; twip_w = 3840; twip_h = 3840 }
+
+-- the area of a view that joins: no point
+abbrev pub no_area : Rectangle
+no_area = record { x = 0; y = 0; w = 0; h = 0 }
+
 -- a view as it joins
 abbrev pub opening_view : ℕ → Rights → View
 opening_view id rights = record {
   id = id;
   rights = rights;
   part = 0;
+  zoom = first_zoom;
+  area = no_area;
   asked = [];
   screen = [];
   window = [];
@@ -80,6 +93,11 @@ abbrev pub with_view : List View → ℕ → (View → View) → List View
 with_view [] id change = []
 with_view (view ∷ views) id change =
     if nat_eq view.id id then change view ∷ views else view ∷ with_view views id change
+
+-- the views without the one with this id
+abbrev pub without_view : List View → ℕ → List View
+without_view [] id = []
+without_view (view ∷ views) id = if nat_eq view.id id then views else view ∷ without_view views id
 
 -- the job with this ticket
 abbrev pub find_job : {S : Type 0} → List (Job S) → ℕ → Option (Job S)

@@ -1,5 +1,5 @@
 -- The machine: which outputs and which document may follow an event.
-use Rattle.std.specs.Prelude.{◌≡◌, ◌≢◌, ⊤, ℕ, ◌+◌, ◌<◌, ◌≤◌, Bool, true, false, not, ◌&&◌, nat_eq, nat_lt, List, [], ◌∷◌, ◌++◌, length, map, filter, slice_get, Option, None, Some, ◌⊎◌, if◌then◌else◌}
+use Rattle.std.specs.Prelude.{◌≡◌, ◌≢◌, ⊤, ℕ, ◌+◌, ◌<◌, ◌≤◌, Bool, true, false, not, ◌&&◌, nat_lt, List, [], ◌∷◌, ◌++◌, length, map, slice_get, Option, None, Some, ◌⊎◌, if◌then◌else◌}
 use Rattle.std.specs.List.{list_any, flat_map, AllByRecursion}
 use Rattle.cool_base.specs.declared.ids.ViewId.{ViewId}
 use Rattle.cool_frame.specs.declared.frame.Frame.{Frame}
@@ -10,11 +10,11 @@ use Rattle.kit_trait.specs.declared.values.Damage.{Damage}
 use Rattle.kit_trait.specs.declared.values.Input.{Input}
 use Rattle.kit_trait.specs.declared.jobs.PaintJob.{PaintJob}
 use Rattle.tile_key.specs.Places.{Place, IsGroup, place_of_keys}
-use Rattle.document_machine.specs.Due.{parts_of, size_of, is_due, has_room, is_out, keys, sent, takes, tile_frame}
-use Rattle.document_machine.specs.Event.{Event, Joined, Said, Turned, Painted, Processed}
+use Rattle.document_machine.specs.Due.{parts_of, size_of, is_due, has_room, is_out, is_current, is_not_back, keys, version_of, sent, takes, tile_frame}
+use Rattle.document_machine.specs.Event.{Event, Joined, Left, Said, Turned, Painted}
 use Rattle.document_machine.specs.Message.{effect, reply, took}
 use Rattle.document_machine.specs.Outputs.{named, nothing, frames_only, one_frame, outs_of}
-use Rattle.document_machine.specs.State.{View, Sent, Job, Document, opening_view, find_view, with_view, find_job, without_job}
+use Rattle.document_machine.specs.State.{View, Job, Document, opening_view, find_view, with_view, without_view, find_job, without_job}
 use Rattle.document_machine.specs.declared.outs.Outs.{Outs}
 use Rattle.document_machine.specs.declared.outs.Turned.{Turned as TurnAnswer}
 use Rattle.document_machine.specs.declared.outs.Turned.TheVariants.{Worked, Idle}
@@ -37,6 +37,10 @@ JoinsWhere false rules old rights outs new = (outs ≡ nothing) × (new ≡ old)
 
 abbrev pub Joins : {C B S : Type 0} → Rules C B → Document S → Rights → Outs S → Document S → Type 0
 Joins rules old rights outs new = JoinsWhere (nat_lt (length old.views) 64) rules old rights outs new
+
+-- a view leaves, with its window, its asked keys and its screen; without it nothing changes
+abbrev pub Leaves : {S : Type 0} → Document S → ℕ → Outs S → Document S → Type 0
+Leaves old id outs new = (outs ≡ nothing) × (new ≡ record old { views = without_view old.views id })
 
 -- a view says a text: its one effect, and the frame of a refusal
 pub record Says {C B S : Type 0} (rules : Rules C B) (old : Document S) (id : ℕ) (text : List ℕ) (outs : Outs S) (new : Document S) : Type 0 where
@@ -85,9 +89,25 @@ pub record Cuts {C B S : Type 0} (rules : Rules C B) (paints : S → Pixels) (ol
   pub outs_are : outs ≡ record { frames = []; jobs = given job ∷ [] }
   pub new_is : new ≡ record old { jobs = old.jobs ++ job ∷ []; next_ticket = old.next_ticket + 1 }
 
--- a turn that does a work: it applies an input, or it cuts a job
+-- a turn sends a tile that is there already: all inputs are applied, the pair is due, its view has room,
+-- and the version is the present one and no step back
+pub record Sends {C B S : Type 0} (rules : Rules C B) (old : Document S) (outs : Outs S) (new : Document S) : Type 0 where
+  pub view : View
+  pub key : Place
+  pub version : ℕ
+  pub level : old.applied ≡ length old.journal
+  pub live : find_view old.views view.id ≡ Some view
+  pub room : has_room view ≡ true
+  pub due : is_due rules old view key ≡ true
+  pub past : version ≤ old.applied
+  pub current : is_current rules old version key ≡ true
+  pub not_back : is_not_back (version_of view.screen key) version ≡ true
+  pub outs_are : outs ≡ frames_only (tile_frame rules old version key view ∷ [])
+  pub new_is : new ≡ record old { views = with_view old.views view.id (sent rules old version key) }
+
+-- a turn that does a work: it applies an input, it sends a tile, or it cuts a job
 abbrev pub Works : {C B S : Type 0} → Rules C B → (S → Pixels) → Document S → Outs S → Document S → Type 0
-Works rules paints old outs new = Applies rules old outs new ⊎ Cuts rules paints old outs new
+Works rules paints old outs new = Applies rules old outs new ⊎ (Sends rules old outs new ⊎ Cuts rules paints old outs new)
 
 -- what a view with room is owed is under way, or 64 jobs are out
 abbrev pub IsServed : {C B S : Type 0} → Rules C B → Document S → View → Type 0
@@ -139,18 +159,13 @@ Paints rules old ticket scene outs new (Some job) =
       views = views_offered rules old job.number job.keys old.views;
     }))
 
--- a view once these numbers were acknowledged: the tiles so numbered leave its window, others change nothing
-abbrev pub acknowledged : List ℕ → View → View
-acknowledged wids view = record view { window = filter (λ tile. not (list_any (λ wid. nat_eq wid tile.wid) wids)) view.window }
-
 -- the one thing that a step of the machine is
 abbrev pub Step : {C B S : Type 0} → Rules C B → (S → Pixels) → Document S → Event S → Outs S → Document S → Type 0
 Step rules paints old (Joined rights) outs new = Joins rules old rights outs new
+Step rules paints old (Left view) outs new = Leaves old view outs new
 Step rules paints old (Said view text) outs new = Says rules old view text outs new
 Step rules paints old Turned outs new = Works rules paints old outs new ⊎ (Rests rules old × (outs ≡ nothing) × (new ≡ old))
 Step rules paints old (Painted ticket scene) outs new = Paints rules old ticket scene outs new (find_job old.jobs ticket)
-Step rules paints old (Processed view wids) outs new =
-    (outs ≡ nothing) × (new ≡ record old { views = with_view old.views view (acknowledged wids) })
 
 -- the step of a broker that can be spent: only a broker that isn't makes one, and it isn't spent after it
 abbrev pub Goes : {C B S : Type 0} → Rules C B → (S → Pixels) → Option (Document S) → Event S → Outs S → Option (Document S) → Type 0
