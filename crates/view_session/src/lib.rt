@@ -1,0 +1,2 @@
+//! A view of a document: what it sees and asks for, what is on its screen, what it has not acknowledged.
+#![tactic(auto)]
