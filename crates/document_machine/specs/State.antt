@@ -38,9 +38,10 @@ pub record Job (S : Type 0) : Type 0 where
   pub area : Place
   pub scene : S
 
--- one document: the bytes that it was loaded from, the accepted inputs and how many of them are
+-- one document: its file's id, the bytes that it was loaded from, the accepted inputs and how many of them are
 -- applied, the views in the order of their ids, the id of the next view, the jobs out, the next ticket
 pub record Document (S : Type 0) : Type 0 where
+  pub file : List ℕ
   pub base : List ℕ
   pub journal : List Input
   pub applied : ℕ
@@ -50,8 +51,9 @@ pub record Document (S : Type 0) : Type 0 where
   pub next_ticket : ℕ
 
 -- a document as it is loaded
-abbrev pub opening : {S : Type 0} → List ℕ → Document S
-opening base = record {
+abbrev pub opening : {S : Type 0} → (file base : List ℕ) → Document S
+opening file base = record {
+  file = file;
   base = base;
   journal = [];
   applied = 0;
