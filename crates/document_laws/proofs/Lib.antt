@@ -1,3 +1,5 @@
+pub mod KeyOrder
+pub mod Ordered
 pub mod Quiet
 pub mod QuietTest
 pub mod Untouched

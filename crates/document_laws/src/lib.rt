@@ -4,6 +4,7 @@
 
 ghost use Rattle.std.specs.Prelude.{◌≡◌, ℕ, ◌≤◌, true, false, List};
 ghost use Rattle.document_machine.specs.Due.{touched};
+ghost use Rattle.document_machine.specs.Kept.{IsKept};
 ghost use Rattle.document_machine.specs.Quiet.{IsQuiet, is_quiet, AllRight};
 ghost use Rattle.document_machine.specs.State.{Document};
 ghost use Rattle.kit_trait.specs.Rules.{doc, shown};
@@ -12,10 +13,12 @@ ghost use Rattle.tile_key.specs.Places.{Place};
 
 use kit_trait::Kit;
 
-/// In a quiet document every tile that a view sees or asked for is the one of the document after all
-/// accepted inputs.
+/// In a quiet document that a broker keeps every view has on its screen each key that it sees, in a
+/// version that looks like the document after all accepted inputs, point by point. (It asks for no key
+/// then, and each key that it asked for before has come.) Of what a broker keeps this wants that zooms are
+/// zooms, so that each tile has a point, and that the versions on screens are of inputs that are applied.
 pub fn quiet_is_right<K: Kit>()
-    ensures { (d : Document K.Scene) → IsQuiet K.rules d → AllRight K.rules d }
+    ensures { (d : Document K.Scene) → IsKept K.rules d → IsQuiet K.rules d → AllRight K.rules d }
 {}
 
 /// A place looks the same after the first `n` inputs as after the first `version` of them, where no input
