@@ -1,3 +1,4 @@
+pub mod Acknowledged
 pub mod Fewer
 pub mod KeyOrder
 pub mod Lower

@@ -2,17 +2,22 @@
 //! kits alone, whatever broker runs it. Each is a function with an empty body whose contract is the law.
 #![tactic(auto)]
 
-ghost use Rattle.std.specs.Prelude.{◌≡◌, ℕ, ◌≤◌, ◌<◌, ◌⊎◌, true, false, List, [], ◌∷◌, length};
+ghost use Rattle.std.specs.Prelude.{◌≡◌, ◌≢◌, ℕ, ◌^◌, ◌≤◌, ◌<◌, ◌⊎◌, true, false, List, [], ◌∷◌, length, Some, Ok};
+ghost use Rattle.cool_message.specs.Reading.{reading};
+ghost use Rattle.cool_message.specs.Writing.{written};
+ghost use Rattle.cool_message.specs.declared.message.ClientMessage.TheVariants.{TileProcessed};
 ghost use Rattle.std.specs.List.{AllByRecursion};
-ghost use Rattle.document_laws.specs.AtOnce.{all_answered};
+ghost use Rattle.document_laws.specs.AtOnce.{all_answered, numbers, IsAcknowledged};
 ghost use Rattle.document_machine.specs.Due.{touched, is_due, keys};
 ghost use Rattle.document_machine.specs.Event.{Painted};
 ghost use Rattle.document_machine.specs.Kept.{IsKept};
+ghost use Rattle.document_machine.specs.Message.{Acknowledges, took};
+ghost use Rattle.document_machine.specs.Outputs.{nothing};
 ghost use Rattle.document_machine.specs.Quiet.{IsQuiet, is_quiet, IsRight, AllRight};
 ghost use Rattle.document_machine.specs.Rank.{left_to_do};
 ghost use Rattle.document_machine.specs.Run.{Segment};
-ghost use Rattle.document_machine.specs.State.{Document};
-ghost use Rattle.document_machine.specs.Step.{Applies, Cuts, Sends, Step, Works};
+ghost use Rattle.document_machine.specs.State.{View, Document, find_view};
+ghost use Rattle.document_machine.specs.Step.{Applies, Cuts, Says, Sends, Step, Works};
 ghost use Rattle.document_machine.specs.declared.outs.Outs.{Outs as Given};
 ghost use Rattle.kit_trait.specs.declared.jobs.PaintJob.{PaintJob as Task};
 ghost use Rattle.kit_trait.specs.Rules.{doc, shown};
@@ -68,4 +73,26 @@ pub fn cut_and_painted_lowers<K: Kit>()
 /// it, in order, leaves less to do and no job. So turns whose jobs are painted at once come to an end.
 pub fn at_once_lowers<K: Kit>()
     ensures { (old mid new : Document K.Scene) (outs later : Given K.Scene) → Works K.rules K.Scene.paints old outs mid → old.jobs ≡ [] → IsKept K.rules old → Segment K.rules K.Scene.paints mid (all_answered outs) later new → (new.jobs ≡ []) × (left_to_do K.rules new < left_to_do K.rules old) }
+{}
+
+/// Acknowledging the numbers of a window that isn't empty makes it empty and leaves less to do.
+pub fn acknowledged_lowers<K: Kit>()
+    ensures { (d : Document K.Scene) (id : ℕ) (view : View) → find_view d.views id ≡ Some view → view.window ≢ [] → (find_view (took K.rules d id (Acknowledges (numbers view))).views id ≡ Some (record view { window = [] })) × (left_to_do K.rules (took K.rules d id (Acknowledges (numbers view))) < left_to_do K.rules d) }
+{}
+
+/// Acknowledging changes no other view, whatever the numbers are.
+pub fn others_stay<K: Kit>()
+    ensures { (d : Document K.Scene) (id other : ℕ) (wids : List ℕ) → other ≢ id → find_view (took K.rules d id (Acknowledges wids)).views other ≡ find_view d.views other }
+{}
+
+/// A text that is a `tileprocessed` acknowledges just its numbers, and nothing is sent for it.
+pub fn said_acknowledges<K: Kit>()
+    ensures { (d new : Document K.Scene) (id : ℕ) (wids text : List ℕ) (outs : Given K.Scene) → reading text ≡ Ok (TileProcessed wids) → Says K.rules d id text outs new → (outs ≡ nothing) × (new ≡ took K.rules d id (Acknowledges wids)) }
+{}
+
+/// A view that says the text that is written of all its numbers has acknowledged all that it was sent. The
+/// numbers are those of a broker, below 2^64; a window that a broker keeps has at most 64 of them, so they
+/// are one message.
+pub fn written_lowers<K: Kit>()
+    ensures { (d new : Document K.Scene) (id : ℕ) (view : View) (outs : Given K.Scene) → IsKept K.rules d → find_view d.views id ≡ Some view → view.window ≢ [] → AllByRecursion (λ n. n < 2 ^ 64) (numbers view) → Says K.rules d id (written (TileProcessed (numbers view))) outs new → IsAcknowledged K.rules d id view outs new }
 {}
