@@ -22,7 +22,7 @@ use Rattle.document_laws.proofs.Quiet.{version_applied}
 use Rattle.document_laws.proofs.Sending.{without_key, sent_due}
 
 -- of a list and of what a filter keeps of it, no more pass a test that is no weaker
-one_le : (a b : Bool) → (a ≡ true → b ≡ true) → one a ≤ one b
+pub one_le : (a b : Bool) → (a ≡ true → b ≡ true) → one a ≤ one b
 one_le true b f = let e : b ≡ true = f refl in rw e (omega arith)
 one_le false b f = omega arith
 

@@ -5,5 +5,6 @@ pub mod Lower
 pub mod Ordered
 pub mod Quiet
 pub mod QuietTest
+pub mod Rank
 pub mod Sending
 pub mod Untouched
