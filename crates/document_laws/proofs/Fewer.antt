@@ -113,11 +113,11 @@ with_versions n (shown ∷ screen) key version le all =
     ] in
     go (is_lt (key_order key shown.key)) (same_place key shown.key)
 
-screen_versions : (n : ℕ) (screen : List Shown) (key : Place) (version : ℕ) (wanted : Bool) → version ≤ n → AllByRecursion (λ shown. shown.version ≤ n) screen → AllByRecursion (λ shown. shown.version ≤ n) (screen_after screen key version wanted)
+pub screen_versions : (n : ℕ) (screen : List Shown) (key : Place) (version : ℕ) (wanted : Bool) → version ≤ n → AllByRecursion (λ shown. shown.version ≤ n) screen → AllByRecursion (λ shown. shown.version ≤ n) (screen_after screen key version wanted)
 screen_versions n screen key version true le all = with_versions n screen key version le all
 screen_versions n screen key version false le all = all_filter (λ shown. shown.version ≤ n) (λ shown. not (same_place shown.key key)) screen all
 
-asked_once : (asked : List Place) (key : Place) (current : Bool) → Pairwise (λ p q. p ≢ q) asked → Pairwise (λ p q. p ≢ q) (asked_after asked key current)
+pub asked_once : (asked : List Place) (key : Place) (current : Bool) → Pairwise (λ p q. p ≢ q) asked → Pairwise (λ p q. p ≢ q) (asked_after asked key current)
 asked_once asked key true once = pairwise_filter (λ p q. p ≢ q) (λ other. not (same_place other key)) asked once
 asked_once asked key false once = once
 

@@ -1,5 +1,7 @@
 pub mod Acknowledged
 pub mod Fewer
+pub mod KeptSaid
+pub mod KeptViews
 pub mod KeyOrder
 pub mod Lower
 pub mod Ordered

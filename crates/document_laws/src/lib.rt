@@ -80,6 +80,11 @@ pub fn acknowledged_lowers<K: Kit>()
     ensures { (d : Document K.Scene) (id : ℕ) (view : View) → find_view d.views id ≡ Some view → view.window ≢ [] → (find_view (took K.rules d id (Acknowledges (numbers view))).views id ≡ Some (record view { window = [] })) × (left_to_do K.rules (took K.rules d id (Acknowledges (numbers view))) < left_to_do K.rules d) }
 {}
 
+/// Acknowledging never leaves more to do, whatever the numbers are.
+pub fn acknowledging_adds_nothing<K: Kit>()
+    ensures { (d : Document K.Scene) (id : ℕ) (wids : List ℕ) → left_to_do K.rules (took K.rules d id (Acknowledges wids)) ≤ left_to_do K.rules d }
+{}
+
 /// Acknowledging changes no other view, whatever the numbers are.
 pub fn others_stay<K: Kit>()
     ensures { (d : Document K.Scene) (id other : ℕ) (wids : List ℕ) → other ≢ id → find_view (took K.rules d id (Acknowledges wids)).views other ≡ find_view d.views other }
