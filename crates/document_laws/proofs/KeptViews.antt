@@ -207,7 +207,7 @@ order_map next_view views change same o = record {
 }
 
 -- once one of them has left
-without_all : (P : View → Type 0) (views : List View) (id : ℕ) → AllByRecursion P views → AllByRecursion P (without_view views id)
+pub without_all : (P : View → Type 0) (views : List View) (id : ℕ) → AllByRecursion P views → AllByRecursion P (without_view views id)
 without_all P [] id all = tt
 without_all P (v ∷ vs) id all =
     elim (nat_eq v.id id) as (λ b. AllByRecursion P (cond b vs (v ∷ without_view vs id))) [

@@ -1,4 +1,5 @@
 pub mod Acknowledged
+pub mod Ending
 pub mod Fewer
 pub mod KeptSaid
 pub mod KeptViews
@@ -10,3 +11,4 @@ pub mod QuietTest
 pub mod Rank
 pub mod Sending
 pub mod Untouched
+pub mod Whole

@@ -1,3 +1,4 @@
 pub mod Apart
 pub mod AtOnce
+pub mod InARow
 pub mod Whole
