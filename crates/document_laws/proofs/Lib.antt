@@ -1,5 +1,6 @@
 pub mod Acknowledged
 pub mod Ending
+mod Examples
 pub mod Fewer
 pub mod KeptSaid
 pub mod KeptViews
