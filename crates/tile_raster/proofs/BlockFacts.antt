@@ -1,11 +1,11 @@
 -- One more pixel of a row, and one more row of a block.
-use Rattle.std.proofs.Common.{◌≡◌, ℕ, ◌+◌, ◌-◌, ◌*◌, ◌/◌, ◌<◌, ◌≤◌, Bool, true, false, cond, ◌&&◌, nat_lt, nat_le, nat_eq, List, refl, sym, ap, ◌∙◌, arith, if◌then◌else◌, ⊎_elim}
+use Rattle.std.proofs.Common.{◌≡◌, ℕ, ◌+◌, ◌*◌, ◌<◌, ◌≤◌, Bool, true, false, cond, ◌&&◌, nat_eq, List, refl, sym, ap, ◌∙◌, arith, ⊎_elim}
 use Rattle.std.proofs.Math.Nat.{mul-le-mul_right}
 use Rattle.std.proofs.lemmas.Bool.{cases_lt}
 use Rattle.std.proofs.lemmas.Bool.Decides.{nat_tests}
 use Rattle.tile_key.specs.Places.{Place}
 use Rattle.kit_trait.specs.Pictures.{Colour, x_at, y_at}
-use Rattle.tile_raster.specs.Painting.{Painting, pixel, colour_at, IsPainted}
+use Rattle.tile_raster.specs.Painting.{pixel, IsPainted}
 use Rattle.tile_raster.specs.Bytes.{painting_on, IsSet, AreSet}
 use Rattle.tile_raster.specs.Spans.{in_span}
 

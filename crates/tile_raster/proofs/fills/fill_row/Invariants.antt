@@ -1,4 +1,4 @@
-use Rattle.std.proofs.Common.{◌≡◌, ◌*◌, ◌≤◌, ◌&&◌, nat_eq, length}
+use Rattle.std.proofs.Common.{◌&&◌, nat_eq}
 use Rattle.tile_raster.specs.Painting.{colour_of}
 use Rattle.tile_raster.specs.Bytes.{AreSet}
 use Rattle.tile_raster.specs.Spans.{in_span}

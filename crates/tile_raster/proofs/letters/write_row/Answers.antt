@@ -1,4 +1,4 @@
-use Rattle.std.proofs.Common.{arith, refl, ◌-◌, ◌/◌}
+use Rattle.std.proofs.Common.{arith, ◌-◌, ◌/◌}
 use Rattle.kit_trait.specs.Pictures.{x_at}
 use Rattle.bitmap_font.specs.Glyphs.{dot_of}
 use Rattle.tile_raster.specs.Lettering.{black}

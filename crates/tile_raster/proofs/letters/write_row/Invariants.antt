@@ -1,4 +1,4 @@
-use Rattle.std.proofs.Common.{◌≡◌, ◌-◌, ◌*◌, ◌/◌, ◌≤◌, ◌&&◌, nat_eq, length}
+use Rattle.std.proofs.Common.{◌-◌, ◌/◌, ◌&&◌, nat_eq}
 use Rattle.kit_trait.specs.Pictures.{x_at}
 use Rattle.bitmap_font.specs.Glyphs.{dot_of}
 use Rattle.tile_raster.specs.Lettering.{black}

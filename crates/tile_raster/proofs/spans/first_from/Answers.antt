@@ -1,4 +1,3 @@
-use Rattle.std.proofs.Common.{refl}
 use Rattle.tile_raster.proofs.SpanFacts.{first_exact}
 use Rattle.tile_raster.proofs.spans.first_from.Goals as goal
 
