@@ -84,7 +84,15 @@ fn glyphs(rt: HostRuntime) -> Result<(), Fail> {
 #[test]
 fn boxes(rt: HostRuntime) -> Result<(), Fail> {
     let wanted = picture(rt.alloc(), '\u{e9}')?;
-    for c in ['\u{0}', '\n', '\u{1f}', '\u{7f}', '\u{80}', '\u{4e2d}', '\u{10ffff}'] {
+    for c in [
+        '\u{0}',
+        '\n',
+        '\u{1f}',
+        '\u{7f}',
+        '\u{80}',
+        '\u{4e2d}',
+        '\u{10ffff}',
+    ] {
         assert_eq!(rt; picture(rt.alloc(), c)?.as_str(), wanted.as_str(), "{c:?}");
     }
     for c in [' ', '!', '}', '~'] {

@@ -1,6 +1,9 @@
 //! Canvases against pictures that were worked out from the rule apart from this code, each seen as a
 //! character for each pixel.
-ghost use Rattle.std.specs.Prelude.{◌≡◌, IfOk};
+ghost use Rattle.std.specs.Prelude.{◌≡◌, [], ◌∷◌, IfOk};
+ghost use Rattle.std.specs.Str.{chars};
+ghost use Rattle.tile_raster.specs.Painting.{colour_of};
+ghost use Rattle.tile_raster.specs.Strokes.{Fill, Letters, Follows};
 
 use crate::Canvas;
 use cool_base::Rect;
@@ -308,7 +311,24 @@ fn fills(rt: HostRuntime) -> Result<(), Fail> {
     Ok(())
 }
 
-// Grey, a text over it, and grey over the text.
+// Grey, a text over it, and grey over the text: strokes in order, as the law has them.
+fn three_strokes(
+    canvas: &mut Canvas,
+    area: &Area,
+    above: &Rect,
+    clip: &Rect,
+    below: &Rect,
+    text: &str,
+)
+    requires width { area.now.width ≡ canvas.old.width }
+    requires height { area.now.height ≡ canvas.old.height }
+    ensures { Follows area.now canvas.old (Fill above.now (colour_of GREY) ∷ Letters 0 0 clip.now (chars text.now) ∷ Fill below.now (colour_of GREY) ∷ []) canvas.new }
+{
+    canvas.fill_rect(area, above, GREY);
+    canvas.draw_text(area, 0, 0, clip, text);
+    canvas.fill_rect(area, below, GREY);
+}
+
 #[test]
 fn strokes_in_order(rt: HostRuntime) -> Result<(), Fail> {
     let area = area((0, 0, 180, 135), 12, 9).ok_or("an area")?;
@@ -316,9 +336,7 @@ fn strokes_in_order(rt: HostRuntime) -> Result<(), Fail> {
     let above = rect((0, 0, 180, 60)).ok_or("a rectangle")?;
     let below = rect((60, 45, 60, 90)).ok_or("a rectangle")?;
     let mut canvas = canvas_for(rt.alloc(), &area)?;
-    canvas.fill_rect(&area, &above, GREY);
-    canvas.draw_text(&area, 0, 0, &whole, "A5");
-    canvas.fill_rect(&area, &below, GREY);
+    three_strokes(&mut canvas, &area, &above, &whole, &below, "A5");
     let wanted = "++#+++#####+/\
              +#+#++#+++++/\
              #+++#+####++/\
