@@ -1,5 +1,5 @@
 -- The document after one input more.
-use Rattle.std.proofs.Common.{◌≡◌, ℕ, zero, suc, ◌+◌, ◌<◌, ◌≤◌, List, [], ◌∷◌, ◌++◌, length, take, drop, get_or, refl, sym, ap, ◌∙◌, arith, rules}
+use Rattle.std.proofs.Common.{◌≡◌, ℕ, ◌+◌, ◌<◌, ◌≤◌, List, [], ◌∷◌, ◌++◌, length, take, get_or, refl, sym, ap, ◌∙◌, rules}
 use Rattle.std.proofs.lemmas.List.{take_more, take-append-le}
 use Rattle.kit_trait.specs.Rules.{Rules, after, doc}
 use Rattle.kit_trait.specs.declared.values.Input.{Input}

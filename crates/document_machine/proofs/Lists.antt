@@ -1,8 +1,8 @@
 -- Keys in lists.
-use Rattle.std.proofs.Common.{◌≡◌, ℕ, zero, suc, ◌+◌, ◌<◌, ◌≤◌, Bool, true, false, not, ◌&&◌, ◌||◌, cond, List, [], ◌∷◌, ◌++◌, length, take, drop, map, filter, find, get_or, Option, None, Some, refl, sym, ap, subst, ◌∙◌, arith, rules, nat_eq, append_assoc}
+use Rattle.std.proofs.Common.{◌≡◌, ℕ, zero, suc, ◌+◌, ◌<◌, ◌≤◌, Bool, true, false, not, ◌||◌, cond, List, [], ◌∷◌, ◌++◌, length, take, drop, map, filter, find, get_or, None, Some, refl, ap, subst, ◌∙◌, arith, nat_eq, append_assoc}
 use Rattle.std.specs.List.{list_any, insert, AllByRecursion}
 use Rattle.std.specs.Ordering.{is_lt}
-use Rattle.std.proofs.lemmas.List.{drop_more, take-append-drop, take_all, drop_all}
+use Rattle.std.proofs.lemmas.List.{drop_more, take-append-drop}
 use Rattle.std.proofs.lemmas.Map.Views.{any-filter_same}
 use Rattle.tile_key.specs.Places.{Place, key_order, same_place}
 use Rattle.document_machine.specs.Keys.{is_among, inserted}

@@ -1,11 +1,11 @@
 -- When a tile is the present one.
-use Rattle.std.proofs.Common.{◌≡◌, ℕ, zero, suc, ◌+◌, ◌<◌, ◌≤◌, Bool, true, false, not, ◌&&◌, ◌||◌, List, [], ◌∷◌, refl, arith, add-one}
+use Rattle.std.proofs.Common.{◌≡◌, ℕ, zero, suc, ◌<◌, ◌≤◌, false, List, refl, arith}
 use Rattle.std.specs.Prelude.{nat_le}
 use Rattle.std.proofs.lemmas.Bool.Decides.{nat_tests}
 use Rattle.kit_trait.specs.Rules.{Rules}
 use Rattle.kit_trait.specs.declared.values.Input.{Input}
 use Rattle.tile_key.specs.Places.{Place}
-use Rattle.document_machine.specs.Due.{touched, damage_of, is_hurt}
+use Rattle.document_machine.specs.Due.{touched}
 
 pub not_le : (m n : ℕ) → n < m → nat_le m n ≡ false
 not_le m n lt = grind (arith, nat_tests)

@@ -14,7 +14,7 @@ use Rattle.tile_key.specs.Places.{Place, rect_of_place, key_order, same_place}
 use Rattle.tile_key.specs.Visible.{visible_keys}
 use Rattle.document_machine.specs.Keys.{is_among, ordered}
 use Rattle.document_machine.specs.Outputs.{named}
-use Rattle.document_machine.specs.State.{Shown, Sent, View, Job, Document}
+use Rattle.document_machine.specs.State.{Shown, View, Job, Document}
 
 -- how many parts the document has, by the bytes that it was loaded from
 abbrev pub parts_of : {C B : Type 0} → Rules C B → List ℕ → ℕ

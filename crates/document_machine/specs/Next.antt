@@ -1,10 +1,9 @@
 -- Which work a turn takes up next.
-use Rattle.std.specs.Prelude.{◌≡◌, ℕ, Bool, true, false, not, ◌&&◌, ◌||◌, nat_lt, List, [], ◌∷◌, length, map, find, Option, None, Some, if◌then◌else◌}
+use Rattle.std.specs.Prelude.{◌≡◌, ℕ, Bool, false, not, ◌&&◌, ◌||◌, nat_lt, List, [], ◌∷◌, length, map, find, Option, None, Some, if◌then◌else◌}
 use Rattle.kit_trait.specs.Rules.{Rules}
 use Rattle.tile_key.specs.Places.{Place}
 use Rattle.document_machine.specs.Due.{is_due, has_room, is_out, keys}
 use Rattle.document_machine.specs.State.{View, Job, Document}
-use Rattle.document_machine.specs.declared.outs.Outs.{Outs}
 use Rattle.document_machine.specs.declared.outs.Turned.{Turned}
 use Rattle.document_machine.specs.declared.outs.Turned.TheVariants.{Worked, Idle}
 

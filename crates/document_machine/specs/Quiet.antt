@@ -1,5 +1,5 @@
 -- When nothing is left to do, and what is right then.
-use Rattle.std.specs.Prelude.{◌≡◌, ℕ, Bool, not, ◌&&◌, nat_eq, List, [], length, Some}
+use Rattle.std.specs.Prelude.{◌≡◌, ℕ, Bool, not, ◌&&◌, nat_eq, [], length, Some}
 use Rattle.std.specs.List.{list_any, list_all, AllByRecursion}
 use Rattle.kit_trait.specs.Rules.{Rules, doc, shown}
 use Rattle.tile_key.specs.Places.{Place}

@@ -1,11 +1,11 @@
 -- How much a document has left to do.
-use Rattle.std.specs.Prelude.{ℕ, ◌+◌, ◌-◌, ◌*◌, ◌<◌, Bool, ◌&&◌, List, length}
+use Rattle.std.specs.Prelude.{ℕ, ◌+◌, ◌-◌, ◌*◌, ◌<◌, Bool, ◌&&◌, length}
 use Rattle.std.specs.List.{list_any, count_by, sum_by}
 use Rattle.kit_trait.specs.Rules.{Rules}
 use Rattle.tile_key.specs.Places.{Place}
 use Rattle.document_machine.specs.Due.{is_due, keys}
 use Rattle.document_machine.specs.Keys.{is_among}
-use Rattle.document_machine.specs.State.{View, Document}
+use Rattle.document_machine.specs.State.{Document}
 
 -- how many pairs of a view and a key that it sees or asked for there are
 abbrev pub pairs : {C B S : Type 0} → Rules C B → Document S → ℕ

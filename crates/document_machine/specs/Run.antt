@@ -1,5 +1,5 @@
 -- Runs: steps one after the other, with all that they gave out.
-use Rattle.std.specs.Prelude.{◌≡◌, ℕ, List, [], ◌∷◌, Option, None, Some}
+use Rattle.std.specs.Prelude.{◌≡◌, List, [], ◌∷◌, Option, None, Some}
 use Rattle.kit_trait.specs.declared.values.Pixels.{Pixels}
 use Rattle.kit_trait.specs.Rules.{Rules}
 use Rattle.document_machine.specs.Outputs.{nothing, joined}

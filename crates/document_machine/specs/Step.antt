@@ -1,5 +1,5 @@
 -- The machine: which outputs and which document may follow an event.
-use Rattle.std.specs.Prelude.{◌≡◌, ◌≢◌, ⊤, ℕ, ◌+◌, ◌<◌, ◌≤◌, Bool, true, false, not, ◌&&◌, nat_lt, List, [], ◌∷◌, ◌++◌, length, map, slice_get, Option, None, Some, ◌⊎◌, if◌then◌else◌}
+use Rattle.std.specs.Prelude.{◌≡◌, ◌≢◌, ℕ, ◌+◌, ◌<◌, ◌≤◌, Bool, true, false, not, ◌&&◌, nat_lt, List, [], ◌∷◌, ◌++◌, length, map, slice_get, Option, None, Some, ◌⊎◌, if◌then◌else◌}
 use Rattle.std.specs.List.{list_any, flat_map, AllByRecursion}
 use Rattle.cool_base.specs.declared.ids.ViewId.{ViewId}
 use Rattle.cool_frame.specs.declared.frame.Frame.{Frame}
@@ -13,7 +13,7 @@ use Rattle.tile_key.specs.Places.{Place, IsGroup, place_of_keys}
 use Rattle.document_machine.specs.Due.{parts_of, size_of, is_due, has_room, is_out, is_current, is_not_back, keys, version_of, sent, takes, tile_frame}
 use Rattle.document_machine.specs.Event.{Event, Joined, Left, Said, Turned, Painted}
 use Rattle.document_machine.specs.Message.{effect, reply, took}
-use Rattle.document_machine.specs.Outputs.{named, nothing, frames_only, one_frame, outs_of}
+use Rattle.document_machine.specs.Outputs.{named, nothing, frames_only, one_frame}
 use Rattle.document_machine.specs.State.{View, Job, Document, opening_view, find_view, with_view, without_view, find_job, without_job}
 use Rattle.document_machine.specs.declared.outs.Outs.{Outs}
 use Rattle.document_machine.specs.declared.outs.Turned.{Turned as TurnAnswer}
