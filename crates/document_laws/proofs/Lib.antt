@@ -11,5 +11,6 @@ pub mod Quiet
 pub mod QuietTest
 pub mod Rank
 pub mod Sending
+pub mod Tiles
 pub mod Untouched
 pub mod Whole

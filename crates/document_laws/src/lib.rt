@@ -2,7 +2,7 @@
 //! kits alone, whatever broker runs it. Each is a function with an empty body whose contract is the law.
 #![tactic(auto)]
 
-ghost use Rattle.std.specs.Prelude.{◌≡◌, ◌≢◌, ℕ, ◌+◌, ◌^◌, ◌≤◌, ◌<◌, ◌⊎◌, true, false, List, [], ◌∷◌, length, Some, Ok};
+ghost use Rattle.std.specs.Prelude.{◌≡◌, ◌≢◌, ℕ, ◌+◌, ◌^◌, ◌≤◌, ◌<◌, ◌⊎◌, true, false, List, [], ◌∷◌, ◌++◌, length, Some, Ok};
 ghost use Rattle.cool_message.specs.Reading.{reading};
 ghost use Rattle.cool_message.specs.Writing.{written};
 ghost use Rattle.cool_message.specs.declared.message.ClientMessage.TheVariants.{TileProcessed};
@@ -10,6 +10,7 @@ ghost use Rattle.std.specs.List.{AllByRecursion};
 ghost use Rattle.document_laws.specs.Apart.{AreApart};
 ghost use Rattle.document_laws.specs.AtOnce.{all_answered, numbers, IsAcknowledged};
 ghost use Rattle.document_laws.specs.InARow.{WorkInARow};
+ghost use Rattle.document_laws.specs.Tiles.{IsShown};
 ghost use Rattle.document_laws.specs.Whole.{IsWhole};
 ghost use Rattle.document_machine.specs.Due.{touched, is_due, keys};
 ghost use Rattle.document_machine.specs.Event.{Event as Happening, Painted};
@@ -48,6 +49,18 @@ pub fn untouched_is_unchanged<K: Kit>()
 pub fn quiet_test<K: Kit>()
     ensures passed { (d : Document K.Scene) → is_quiet K.rules d ≡ true → IsQuiet K.rules d }
     ensures passes { (d : Document K.Scene) → IsQuiet K.rules d → is_quiet K.rules d ≡ true }
+{}
+
+/// Each tile shows the document after as many inputs as its version says, in one step (`step`), where that
+/// many are applied, and in a run (`run`), where that many are accepted at its end.
+pub fn tiles_show_prefixes<K: Kit>()
+    ensures step { (old new : Document K.Scene) (event : Happening K.Scene) (outs : Given K.Scene) → IsWhole K.rules old → Step K.rules K.Scene.paints old event outs new → AllByRecursion (IsShown K.rules old.base old.journal old.applied) outs.frames }
+    ensures run { (events : List (Happening K.Scene)) (old new : Document K.Scene) (outs : Given K.Scene) → IsWhole K.rules old → Segment K.rules K.Scene.paints old events outs new → AllByRecursion (IsShown K.rules new.base new.journal (length new.journal)) outs.frames }
+{}
+
+/// The accepted inputs of a run begin with those that there were, and the file stays.
+pub fn inputs_go_on<K: Kit>()
+    ensures { (events : List (Happening K.Scene)) (old new : Document K.Scene) (outs : Given K.Scene) → Segment K.rules K.Scene.paints old events outs new → (new.base ≡ old.base) × (more : List Typed) × (new.journal ≡ old.journal ++ more) }
 {}
 
 /// In a document that a broker keeps each pair of a view and a key that it sees or asked for is right, or
