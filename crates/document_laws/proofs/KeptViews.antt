@@ -79,7 +79,7 @@ asked_few : (n : ℕ) (asked : List Place) (key : Place) (current : Bool) → le
 asked_few n asked key true few = omega (arith, filter_le (λ other. not (same_place other key)) asked)
 asked_few n asked key false few = few
 
-asked_still : (asked : List Place) (key : Place) (current : Bool) (x : Place) → same_place key x ≡ false → is_among (asked_after asked key current) x ≡ is_among asked x
+pub asked_still : (asked : List Place) (key : Place) (current : Bool) (x : Place) → same_place key x ≡ false → is_among (asked_after asked key current) x ≡ is_among asked x
 asked_still asked key true x away = asked_other asked key x away
 asked_still asked key false x away = refl
 

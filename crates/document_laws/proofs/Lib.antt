@@ -10,6 +10,7 @@ pub mod Ordered
 pub mod Quiet
 pub mod QuietTest
 pub mod Rank
+pub mod Rising
 pub mod Sending
 pub mod Tiles
 pub mod Untouched

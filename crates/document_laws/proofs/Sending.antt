@@ -12,7 +12,7 @@ use Rattle.document_machine.specs.State.{Shown, View, Document}
 use Rattle.document_laws.proofs.KeyOrder.{same_is, same_sym}
 
 -- the screen has the version of the key
-with_same : (screen : List Shown) (key : Place) (version : ℕ) → version_of (with_version screen key version) key ≡ Some version
+pub with_same : (screen : List Shown) (key : Place) (version : ℕ) → version_of (with_version screen key version) key ≡ Some version
 with_same [] key version = rw (same_self key) refl
 with_same (shown ∷ screen) key version =
     let go : (a b : Bool) → same_place key shown.key ≡ b → version_of (cond a (record { key = key; version = version } ∷ (shown ∷ screen)) (cond b (record { key = key; version = version } ∷ screen) (shown ∷ with_version screen key version))) key ≡ Some version = elim [
@@ -54,7 +54,7 @@ without_other (shown ∷ screen) key x away =
     ] in
     go (same_place shown.key key) refl
 
-screen_other : (screen : List Shown) (key : Place) (version : ℕ) (wanted : Bool) (x : Place) → same_place key x ≡ false → version_of (screen_after screen key version wanted) x ≡ version_of screen x
+pub screen_other : (screen : List Shown) (key : Place) (version : ℕ) (wanted : Bool) (x : Place) → same_place key x ≡ false → version_of (screen_after screen key version wanted) x ≡ version_of screen x
 screen_other screen key version true x away = with_other screen key version x away
 screen_other screen key version false x away = without_other screen key x away
 

@@ -10,7 +10,7 @@ ghost use Rattle.std.specs.List.{AllByRecursion};
 ghost use Rattle.document_laws.specs.Apart.{AreApart};
 ghost use Rattle.document_laws.specs.AtOnce.{all_answered, numbers, IsAcknowledged};
 ghost use Rattle.document_laws.specs.InARow.{WorkInARow};
-ghost use Rattle.document_laws.specs.Tiles.{IsShown};
+ghost use Rattle.document_laws.specs.Tiles.{IsShown, IsNoStepBack};
 ghost use Rattle.document_laws.specs.Whole.{IsWhole};
 ghost use Rattle.document_machine.specs.Due.{touched, is_due, keys};
 ghost use Rattle.document_machine.specs.Event.{Event as Happening, Painted};
@@ -56,6 +56,12 @@ pub fn quiet_test<K: Kit>()
 pub fn tiles_show_prefixes<K: Kit>()
     ensures step { (old new : Document K.Scene) (event : Happening K.Scene) (outs : Given K.Scene) → IsWhole K.rules old → Step K.rules K.Scene.paints old event outs new → AllByRecursion (IsShown K.rules old.base old.journal old.applied) outs.frames }
     ensures run { (events : List (Happening K.Scene)) (old new : Document K.Scene) (outs : Given K.Scene) → IsWhole K.rules old → Segment K.rules K.Scene.paints old events outs new → AllByRecursion (IsShown K.rules new.base new.journal (length new.journal)) outs.frames }
+{}
+
+/// No event takes a screen a step back: what a view was sent of a key is later no older, as long as its
+/// screen has the key.
+pub fn screens_never_step_back<K: Kit>()
+    ensures { (old new : Document K.Scene) (event : Happening K.Scene) (outs : Given K.Scene) → IsWhole K.rules old → Step K.rules K.Scene.paints old event outs new → (id : ℕ) (before later : View) → find_view old.views id ≡ Some before → find_view new.views id ≡ Some later → IsNoStepBack before later }
 {}
 
 /// The accepted inputs of a run begin with those that there were, and the file stays.
