@@ -2,6 +2,7 @@ pub mod Acknowledged
 pub mod Ending
 mod Examples
 pub mod Fewer
+pub mod Idle
 pub mod KeptSaid
 pub mod KeptViews
 pub mod KeyOrder
