@@ -188,7 +188,7 @@ map_all : (P : View → Type 0) (views : List View) (change : View → View) →
 map_all P [] change imp all = tt
 map_all P (v ∷ vs) change imp all = (imp v all.0, map_all P vs change imp all.1)
 
-map_ids : (views : List View) (change : View → View) → ((v : View) → (change v).id ≡ v.id) → Pairwise (λ v w. v.id < w.id) views → Pairwise (λ v w. v.id < w.id) (map change views)
+pub map_ids : (views : List View) (change : View → View) → ((v : View) → (change v).id ≡ v.id) → Pairwise (λ v w. v.id < w.id) views → Pairwise (λ v w. v.id < w.id) (map change views)
 map_ids [] change same order = tt
 map_ids (v ∷ vs) change same order = (
   weaker (λ w. v.id < w.id) (λ w. (change v).id < w.id) (map change vs) (λ w lt. omega (arith, same v))

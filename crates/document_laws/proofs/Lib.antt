@@ -7,6 +7,7 @@ pub mod KeptSaid
 pub mod KeptViews
 pub mod KeyOrder
 pub mod Lower
+pub mod Numbered
 pub mod Ordered
 pub mod Quiet
 pub mod QuietTest

@@ -178,10 +178,10 @@ module _ {C B S : Type 0} (rules : Rules C B) (d : Document S) (n : ℕ) where
   offers_follow v [] u key follows = follows
   offers_follow v (k ∷ keys) u key follows = offers_follow v keys (offered rules d n k u) key (offered_follows rules d n v k key u follows)
 
-  offered_id : (key : Place) (view : View) → (offered rules d n key view).id ≡ view.id
+  pub offered_id : (key : Place) (view : View) → (offered rules d n key view).id ≡ view.id
   offered_id key view = elim (takes rules d n key view) as (λ b. (cond b (sent rules d n key view) view).id ≡ view.id) [ true ↦ refl | false ↦ refl ]
 
-  find_map : (key : Place) (views : List View) (id : ℕ) (v : View) → find_view views id ≡ Some v → find_view (map (offered rules d n key) views) id ≡ Some (offered rules d n key v)
+  pub find_map : (key : Place) (views : List View) (id : ℕ) (v : View) → find_view views id ≡ Some v → find_view (map (offered rules d n key) views) id ≡ Some (offered rules d n key v)
   find_map key [] id v e = absurd (cc)
   find_map key (w ∷ ws) id v e =
       let go : (b : Bool) → nat_eq w.id id ≡ b → cond b (Some w) (find_view ws id) ≡ Some v → find_view (map (offered rules d n key) (w ∷ ws)) id ≡ Some (offered rules d n key v) = elim [
@@ -232,7 +232,7 @@ unchanged_rise views id v w live later =
     same_screen v w (ap (λ x. x.screen) eq)
 
 -- views, with one more
-find_push : (views : List View) (more : List View) (id : ℕ) (v : View) → find_view views id ≡ Some v → find_view (views ++ more) id ≡ Some v
+pub find_push : (views : List View) (more : List View) (id : ℕ) (v : View) → find_view views id ≡ Some v → find_view (views ++ more) id ≡ Some v
 find_push [] more id v e = absurd (cc)
 find_push (w ∷ ws) more id v e =
     let go : (b : Bool) → cond b (Some w) (find_view ws id) ≡ Some v → cond b (Some w) (find_view (ws ++ more) id) ≡ Some v = elim [ true ↦ λ is. is | false ↦ λ is. find_push ws more id v is ] in
@@ -252,7 +252,7 @@ none_above (w ∷ ws) id above =
     let off : nat_eq w.id id ≡ false = grind (arith, nat_tests) in
     rw off (none_above ws id above.1)
 
-find_without : (views : List View) (i id : ℕ) (w : View) → Pairwise (λ v w. v.id < w.id) views → find_view (without_view views i) id ≡ Some w → find_view views id ≡ Some w
+pub find_without : (views : List View) (i id : ℕ) (w : View) → Pairwise (λ v w. v.id < w.id) views → find_view (without_view views i) id ≡ Some w → find_view views id ≡ Some w
 find_without [] i id w order e = e
 find_without (v ∷ vs) i id w order e =
     let go : (a b : Bool) → nat_eq v.id i ≡ a → nat_eq v.id id ≡ b → find_view (cond a vs (v ∷ without_view vs i)) id ≡ Some w → cond b (Some v) (find_view vs id) ≡ Some w = elim [

@@ -10,7 +10,7 @@ ghost use Rattle.std.specs.List.{list_any, AllByRecursion};
 ghost use Rattle.document_laws.specs.Apart.{AreApart};
 ghost use Rattle.document_laws.specs.AtOnce.{all_answered, numbers, IsAcknowledged};
 ghost use Rattle.document_laws.specs.InARow.{WorkInARow};
-ghost use Rattle.document_laws.specs.Tiles.{IsShown, IsNoStepBack};
+ghost use Rattle.document_laws.specs.Tiles.{IsShown, IsNoStepBack, AreNumbered};
 ghost use Rattle.document_laws.specs.Whole.{IsWhole};
 ghost use Rattle.document_machine.specs.Due.{touched, is_due, is_out, has_room, keys};
 ghost use Rattle.document_machine.specs.Event.{Event as Happening, Painted};
@@ -63,6 +63,13 @@ pub fn tiles_show_prefixes<K: Kit>()
 /// screen has the key.
 pub fn screens_never_step_back<K: Kit>()
     ensures { (old new : Document K.Scene) (event : Happening K.Scene) (outs : Given K.Scene) → IsWhole K.rules old → Step K.rules K.Scene.paints old event outs new → (id : ℕ) (before later : View) → find_view old.views id ≡ Some before → find_view new.views id ≡ Some later → IsNoStepBack before later }
+{}
+
+/// The tiles that a step gives to a view that was there and stays have the view's next numbers, one after
+/// the other, whatever other views get. A view's first number is 1, so its tiles are numbered from 1 on
+/// without a gap.
+pub fn tiles_are_numbered<K: Kit>()
+    ensures { (old new : Document K.Scene) (event : Happening K.Scene) (outs : Given K.Scene) → IsWhole K.rules old → Step K.rules K.Scene.paints old event outs new → (id : ℕ) (before later : View) → find_view old.views id ≡ Some before → find_view new.views id ≡ Some later → AreNumbered id before later outs.frames }
 {}
 
 /// The accepted inputs of a run begin with those that there were, and the file stays.
