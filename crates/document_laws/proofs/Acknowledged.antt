@@ -1,5 +1,5 @@
 -- What acknowledging changes.
-use Rattle.std.proofs.Common.{◌≡◌, ◌≢◌, ℕ, ◌+◌, ◌-◌, ◌*◌, ◌^◌, ◌<◌, ◌≤◌, Bool, true, false, not, ◌||◌, cond, nat_eq, List, [], ◌∷◌, ◌++◌, length, map, filter, Option, None, Some, Ok, refl, ap, sym, subst, ◌∙◌, arith, inl, inr}
+use Rattle.std.proofs.Common.{◌≡◌, ◌≢◌, ℕ, ◌+◌, ◌-◌, ◌*◌, ◌^◌, ◌<◌, ◌≤◌, Bool, true, false, not, cond, nat_eq, List, [], ◌∷◌, length, Some, Ok, refl, ap, sym, subst, ◌∙◌, arith, inl, inr}
 use Rattle.std.proofs.lemmas.List.{length-map}
 use Rattle.std.specs.List.{list_any, sum_by, AllByRecursion}
 use Rattle.std.proofs.lemmas.Bool.{cases_Bool, eqb-true}
@@ -104,7 +104,7 @@ module _ {C B S : Type 0} (rules : Rules C B) (d : Document S) where
   pub acknowledging_adds_nothing : (id : ℕ) (wids : List ℕ) → left_to_do rules (took rules d id (Acknowledges wids)) ≤ left_to_do rules d
   acknowledging_adds_nothing id wids =
       let fewer : unacknowledged (took rules d id (Acknowledges wids)) ≤ unacknowledged d =
-          sum_with_le (λ v. length v.window) d.views id (acknowledged wids) (λ v. filter_le (λ tile. not (list_any (λ wid. nat_eq wid tile.wid) wids)) v.window) in
+      sum_with_le (λ v. length v.window) d.views id (acknowledged wids) (λ v. filter_le (λ tile. not (list_any (λ wid. nat_eq wid tile.wid) wids)) v.window) in
       omega (arith, same_to_come id wids, fewer)
 
   pub others_stay : (id other : ℕ) (wids : List ℕ) → other ≢ id → find_view (took rules d id (Acknowledges wids)).views other ≡ find_view d.views other

@@ -1,8 +1,8 @@
 -- Why turns in a row end.
-use Rattle.std.proofs.Common.{◌≡◌, ℕ, zero, suc, ◌+◌, ◌-◌, ◌*◌, ◌<◌, ◌≤◌, List, length, refl, ap, arith}
+use Rattle.std.proofs.Common.{◌≡◌, ℕ, zero, suc, ◌+◌, ◌-◌, ◌*◌, ◌<◌, ◌≤◌, length, ap, arith}
 use Rattle.kit_trait.specs.Rules.{Rules}
 use Rattle.kit_trait.specs.declared.values.Pixels.{Pixels}
-use Rattle.document_machine.specs.Rank.{IsLower, rank, still_to_come, jobs_due, due_pairs, pairs}
+use Rattle.document_machine.specs.Rank.{rank, still_to_come, jobs_due, due_pairs, pairs}
 use Rattle.document_machine.specs.State.{Document}
 use Rattle.document_machine.specs.Step.{Works}
 use Rattle.document_machine.specs.declared.outs.Outs.{Outs}

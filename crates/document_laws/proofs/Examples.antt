@@ -1,9 +1,9 @@
 -- Small cases, computed on the definitions.
-use Rattle.std.proofs.Common.{◌≡◌, ℕ, ◌*◌, Bool, true, false, cond, List, [], ◌∷◌, length, Option, None, Some, refl, ap, ◌∙◌}
+use Rattle.std.proofs.Common.{◌≡◌, ℕ, Bool, true, false, cond, List, [], ◌∷◌, length, None, Some, refl, ap}
 use Rattle.std.specs.Prelude.{codes, slice_get, map}
 use Rattle.std.specs.declared.cmp.Ordering.TheVariants.{Less, Equal, Greater}
 use Rattle.cool_base.specs.Points.{Rectangle, Extent}
-use Rattle.cool_frame.specs.declared.kind.ErrorKind.TheVariants.{BadMessage, AlreadyLoaded, ReadOnly, BadTile, TooLarge}
+use Rattle.cool_frame.specs.declared.kind.ErrorKind.TheVariants.{AlreadyLoaded, ReadOnly, BadTile, TooLarge}
 use Rattle.cool_message.specs.declared.message.ClientMessage.{ClientMessage}
 use Rattle.cool_message.specs.declared.message.ClientMessage.TheVariants.{Key, Load, SetPart, Tile, TileProcessed, VisibleArea, Zoom}
 use Rattle.cool_message.specs.declared.message.KeyKind.TheVariants.{Input as Down, Up}
@@ -11,13 +11,13 @@ use Rattle.tile_key.specs.declared.keys.TileWords.{TileWords}
 use Rattle.kit_trait.specs.Patch.{patch_rules}
 use Rattle.kit_trait.specs.declared.values.Input.{Input}
 use Rattle.kit_trait.specs.declared.values.What.TheVariants.{Mouse as Pressed}
-use Rattle.tile_key.specs.Places.{Place, Scale, key_order, tile_at}
-use Rattle.tile_key.specs.Visible.{visible_keys, rows_of, row_of, tile_in, is_too_large}
+use Rattle.tile_key.specs.Places.{Scale, key_order, tile_at}
+use Rattle.tile_key.specs.Visible.{visible_keys, rows_of, row_of, is_too_large}
 use Rattle.tile_key.proofs.GridFacts.{rows_length}
 use Rattle.document_machine.specs.Due.{touched, is_newer, with_version}
 use Rattle.document_machine.specs.Keys.{ordered}
-use Rattle.document_machine.specs.Message.{Effect, Refuses, Greets, Asks, Cancels, Looks, Zooms, GoesTo, Acknowledges, Passes, acknowledged, asked_with_all, message_effect}
-use Rattle.document_machine.specs.State.{Shown, Sent, View, first_zoom, no_area}
+use Rattle.document_machine.specs.Message.{Effect, Refuses, Asks, Looks, Zooms, GoesTo, Acknowledges, Passes, acknowledged, asked_with_all, message_effect}
+use Rattle.document_machine.specs.State.{View, first_zoom, no_area}
 
 -- tiles of 8 by 8 pixels, for 240 by 240 and for 480 by 480 twips, in a part of 3,840 by 3,840 twips
 small : Scale

@@ -1,7 +1,7 @@
 -- Fewer pairs are due once a present tile was sent.
-use Rattle.std.proofs.Common.{◌≡◌, ◌≢◌, ℕ, ◌+◌, ◌*◌, ◌<◌, ◌≤◌, Bool, true, false, not, ◌&&◌, ◌||◌, cond, List, [], ◌∷◌, ◌++◌, length, filter, Option, None, Some, refl, ap, sym, subst, ◌∙◌, arith, inl, inr, length-append}
+use Rattle.std.proofs.Common.{◌≡◌, ◌≢◌, ℕ, ◌+◌, ◌*◌, ◌≤◌, Bool, true, false, not, ◌&&◌, ◌||◌, cond, List, [], ◌∷◌, length, filter, Option, None, Some, refl, ap, sym, ◌∙◌, arith, inl, inr, length-append}
 use Rattle.std.specs.Prelude.{nat_lt, nat_le}
-use Rattle.std.specs.List.{list_any, count_by, sum_by, AllByRecursion}
+use Rattle.std.specs.List.{count_by, AllByRecursion}
 use Rattle.std.proofs.lemmas.Bool.{cases_Bool, cases_lt, and_parts}
 use Rattle.std.proofs.lemmas.Bool.Decides.{nat_tests}
 use Rattle.std.proofs.lemmas.List.Sums.{sum_by-cons}
@@ -12,11 +12,11 @@ use Rattle.tile_key.proofs.VisibleFacts.{visible_order}
 use Rattle.std.specs.Ordering.{is_lt}
 use Rattle.document_machine.proofs.Lists.{same_self, all_filter}
 use Rattle.document_machine.proofs.Present.{untouched}
-use Rattle.document_machine.specs.Due.{is_due, is_lacking, has_room, touched, keys, size_of, visible, version_of, with_version, without_version, is_newer, takes, sent, is_current, asked_after, screen_after}
+use Rattle.document_machine.specs.Due.{is_due, is_lacking, has_room, touched, keys, size_of, visible, version_of, with_version, is_newer, takes, sent, is_current, asked_after, screen_after}
 use Rattle.document_machine.specs.Keys.{Pairwise, is_among, ordered}
 use Rattle.document_machine.specs.Kept.{IsKept, IsViewKept}
 use Rattle.document_machine.specs.State.{Shown, View, Document}
-use Rattle.document_laws.proofs.KeyOrder.{same_is, same_sym}
+use Rattle.document_laws.proofs.KeyOrder.{same_is}
 use Rattle.document_laws.proofs.Ordered.{one, count_new, count_ordered, pairwise_by, weaker}
 use Rattle.document_laws.proofs.Quiet.{version_applied}
 use Rattle.document_laws.proofs.Sending.{without_key, sent_due}
@@ -157,15 +157,15 @@ module _ {C B S : Type 0} (rules : Rules C B) (d : Document S) where
       let gone : List Place = without_key view.asked key in
       let asked_is : (sent rules d version key view).asked ≡ gone = rw clean refl in
       let after : due_of (sent rules d version key view) ≡ count_by p vis + count_new p vis gone =
-          ap (λ asked. count_by p (ordered asked vis)) asked_is ∙ count_ordered p gone vis ready.order (asked_once view.asked key true ready.once) in
+      ap (λ asked. count_by p (ordered asked vis)) asked_is ∙ count_ordered p gone vis ready.order (asked_once view.asked key true ready.once) in
       let before : due_of view ≡ count_by q vis + count_new q vis view.asked = count_ordered q view.asked vis ready.order ready.once in
       let imp : (x : Place) → p x ≡ true → q x ≡ true = λ x e. (and_parts (is_due rules d view x) (not (same_place key x)) (sym (sent_due rules d version key view clean x) ∙ e)).0 in
       let none : (b : Bool) → (b && false) ≡ false = elim [ true ↦ refl | false ↦ refl ] in
       let no : p key ≡ false = sent_due rules d version key view clean key ∙ ap (λ b. is_due rules d view key && not b) (same_self key) ∙ none (is_due rules d view key) in
       let imp_new : (x : Place) → (p x && not (is_among vis x)) ≡ true → (q x && not (is_among vis x)) ≡ true = λ x e.
-          let parts = and_parts (p x) (not (is_among vis x)) e in
-          let yes : q x ≡ true = imp x parts.0 in
-          rw (yes, parts.1) refl in
+      let parts = and_parts (p x) (not (is_among vis x)) e in
+      let yes : q x ≡ true = imp x parts.0 in
+      rw (yes, parts.1) refl in
       elim (cases_Bool (is_among vis key)) [
         | inl seen ↦
             let first : count_by p vis + 1 ≤ count_by q vis = count_lt p q vis key imp seen no due in
@@ -206,6 +206,6 @@ module _ {C B S : Type 0} (rules : Rules C B) (d : Document S) where
   pub takes_by : (key : Place) (view : View) → IsReady rules d view → has_room view ≡ true → is_due rules d view key ≡ true → takes rules d d.applied key view ≡ true
   takes_by key view ready room due =
       let newer : is_newer (version_of view.screen key) d.applied (is_among view.asked key) ≡ true =
-          newer_by key (is_among view.asked key) (version_of view.screen key) (λ version e. version_applied view.screen key d.applied version ready.versions e) (is_among (visible rules d view) key) due in
+      newer_by key (is_among view.asked key) (version_of view.screen key) (λ version e. version_applied view.screen key d.applied version ready.versions e) (is_among (visible rules d view) key) due in
       let go : (a b c : Bool) → a ≡ true → b ≡ true → c ≡ true → (a && (b && c)) ≡ true = λ a b c e f h. rw (e, f, h) refl in
       go (is_newer (version_of view.screen key) d.applied (is_among view.asked key)) (is_due rules d view key) (has_room view) newer due room

@@ -1,8 +1,8 @@
 -- What a message does to a view that is kept leaves it kept.
-use Rattle.std.proofs.Common.{◌≡◌, ◌≢◌, ℕ, ◌+◌, ◌<◌, ◌≤◌, Bool, true, false, not, ◌&&◌, ◌||◌, cond, nat_eq, List, [], ◌∷◌, ◌++◌, length, map, filter, Option, None, Some, Ok, Err, refl, ap, sym, subst, ◌∙◌, arith, inl, inr, length-append}
+use Rattle.std.proofs.Common.{◌≡◌, ◌≢◌, ℕ, ◌<◌, ◌≤◌, Bool, true, false, not, ◌||◌, cond, nat_eq, List, [], ◌∷◌, ◌++◌, length, filter, Option, None, Some, Ok, Err, refl, ap, sym, subst, ◌∙◌, arith}
 use Rattle.std.specs.Prelude.{nat_lt, nat_le, IfSome, Result}
 use Rattle.std.specs.List.{list_any, list_all, AllByRecursion}
-use Rattle.std.proofs.lemmas.Bool.{cases_Bool, and_parts, or_parts, ltb-true, ltb-false}
+use Rattle.std.proofs.lemmas.Bool.{and_parts, or_parts, ltb-true, ltb-false}
 use Rattle.asked_keys.specs.Asked.{is_key_of, keys_of, places_of}
 use Rattle.cool_base.specs.Points.{Rectangle}
 use Rattle.cool_frame.specs.declared.kind.ErrorKind.TheVariants.{InputsFull, ReadOnly, AskedFull, BadTile, TooLarge}
@@ -22,11 +22,10 @@ use Rattle.tile_key.proofs.PlaceFacts.{key_facts}
 use Rattle.document_machine.proofs.Lists.{all_push, all_filter, filter_le, same_self}
 use Rattle.document_machine.specs.Due.{parts_of, size_of, visible, sees_or_asks}
 use Rattle.document_machine.specs.Keys.{Pairwise, is_among}
-use Rattle.document_machine.specs.Kept.{IsKept, IsViewKept}
-use Rattle.document_machine.specs.Message.{Effect, Refuses, Greets, Inputs, Asks, Cancels, Looks, Zooms, GoesTo, Acknowledges, Passes, asked_with, asked_with_all, input_effect, key_effect, mouse_effect, asking_effect, seeing_effect, zooming_effect, going_effect, message_effect, reading_effect, effect, effect_of, asks, forgets, cancels, looks, zooms, goes_to, acknowledged}
+use Rattle.document_machine.specs.Kept.{IsViewKept}
+use Rattle.document_machine.specs.Message.{Effect, Refuses, Greets, Inputs, Asks, Cancels, Looks, Zooms, GoesTo, Acknowledges, Passes, asked_with, asked_with_all, input_effect, key_effect, mouse_effect, asking_effect, zooming_effect, going_effect, message_effect, reading_effect, effect, asks, forgets, cancels, looks, zooms, goes_to, acknowledged}
 use Rattle.document_machine.specs.State.{Shown, View, Document}
-use Rattle.document_laws.proofs.KeyOrder.{same_is}
-use Rattle.document_laws.proofs.Ordered.{weaker, both, all_among}
+use Rattle.document_laws.proofs.Ordered.{weaker}
 use Rattle.document_laws.proofs.Fewer.{pairwise_filter}
 use Rattle.document_laws.proofs.KeptViews.{filter_all, pairwise_push}
 

@@ -1,7 +1,6 @@
 -- What is kept of views stays, whatever becomes of one of them.
-use Rattle.std.proofs.Common.{◌≡◌, ◌≢◌, ℕ, ◌+◌, ◌<◌, ◌≤◌, Bool, true, false, not, ◌&&◌, ◌||◌, cond, nat_eq, List, [], ◌∷◌, ◌++◌, length, map, filter, Option, None, Some, refl, ap, sym, subst, ◌∙◌, arith, inl, inr, length-append}
-use Rattle.std.specs.Prelude.{nat_lt}
-use Rattle.std.specs.List.{list_any, AllByRecursion}
+use Rattle.std.proofs.Common.{◌≡◌, ℕ, ◌+◌, ◌<◌, ◌≤◌, Bool, true, false, not, ◌&&◌, ◌||◌, cond, nat_eq, List, [], ◌∷◌, ◌++◌, length, map, filter, Some, refl, ap, sym, subst, ◌∙◌, arith, inl, inr, length-append}
+use Rattle.std.specs.List.{AllByRecursion}
 use Rattle.std.specs.Ordering.{is_lt}
 use Rattle.std.proofs.lemmas.Bool.{cases_Bool, and_parts, ltb-true, not-true}
 use Rattle.kit_trait.specs.Rules.{Rules}
@@ -9,10 +8,10 @@ use Rattle.kit_trait.specs.declared.values.Input.{Input}
 use Rattle.tile_key.specs.Places.{Place, IsKey, key_order, same_place}
 use Rattle.tile_key.specs.Visible.{IsBefore}
 use Rattle.document_machine.proofs.Lists.{all_push, all_filter, filter_le}
-use Rattle.document_machine.specs.Due.{parts_of, has_room, touched, is_current, is_due, takes, visible, sees_or_asks, with_version, without_version, asked_after, screen_after, sent}
+use Rattle.document_machine.specs.Due.{parts_of, has_room, is_current, is_due, takes, visible, with_version, asked_after, screen_after, sent}
 use Rattle.document_machine.specs.Keys.{Pairwise, is_among}
 use Rattle.document_machine.specs.Kept.{IsKept, IsViewKept}
-use Rattle.document_machine.specs.State.{Shown, Sent, View, Job, Document, find_view, with_view, without_view}
+use Rattle.document_machine.specs.State.{Shown, View, Job, Document, find_view, with_view, without_view}
 use Rattle.document_machine.specs.Step.{offered, views_offered}
 use Rattle.document_laws.proofs.KeyOrder.{same_is, same_sym, before_by, after_by, before_trans}
 use Rattle.document_laws.proofs.Ordered.{weaker}
@@ -80,7 +79,7 @@ asked_few : (n : ℕ) (asked : List Place) (key : Place) (current : Bool) → le
 asked_few n asked key true few = omega (arith, filter_le (λ other. not (same_place other key)) asked)
 asked_few n asked key false few = few
 
-asked_still : (asked : List Place) (key : Place) (current : Bool) (x : Place) → same_place key x ≡ false → is_among (asked_after asked key current) x ≡ is_among asked x
+pub asked_still : (asked : List Place) (key : Place) (current : Bool) (x : Place) → same_place key x ≡ false → is_among (asked_after asked key current) x ≡ is_among asked x
 asked_still asked key true x away = asked_other asked key x away
 asked_still asked key false x away = refl
 
@@ -189,11 +188,13 @@ map_all : (P : View → Type 0) (views : List View) (change : View → View) →
 map_all P [] change imp all = tt
 map_all P (v ∷ vs) change imp all = (imp v all.0, map_all P vs change imp all.1)
 
-map_ids : (views : List View) (change : View → View) → ((v : View) → (change v).id ≡ v.id) → Pairwise (λ v w. v.id < w.id) views → Pairwise (λ v w. v.id < w.id) (map change views)
+pub map_ids : (views : List View) (change : View → View) → ((v : View) → (change v).id ≡ v.id) → Pairwise (λ v w. v.id < w.id) views → Pairwise (λ v w. v.id < w.id) (map change views)
 map_ids [] change same order = tt
-map_ids (v ∷ vs) change same order =
-    (weaker (λ w. v.id < w.id) (λ w. (change v).id < w.id) (map change vs) (λ w lt. omega (arith, same v))
-    (map_all (λ w. v.id < w.id) vs change (λ w lt. omega (arith, same w)) order.0), map_ids vs change same order.1)
+map_ids (v ∷ vs) change same order = (
+  weaker (λ w. v.id < w.id) (λ w. (change v).id < w.id) (map change vs) (λ w lt. omega (arith, same v))
+      (map_all (λ w. v.id < w.id) vs change (λ w lt. omega (arith, same w)) order.0),
+  map_ids vs change same order.1,
+)
 
 map_length : (views : List View) (change : View → View) → length (map change views) ≡ length views
 map_length [] change = refl

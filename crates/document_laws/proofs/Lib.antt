@@ -2,14 +2,18 @@ pub mod Acknowledged
 pub mod Ending
 mod Examples
 pub mod Fewer
+pub mod Idle
 pub mod KeptSaid
 pub mod KeptViews
 pub mod KeyOrder
 pub mod Lower
+pub mod Numbered
 pub mod Ordered
 pub mod Quiet
 pub mod QuietTest
 pub mod Rank
+pub mod Rising
 pub mod Sending
+pub mod Tiles
 pub mod Untouched
 pub mod Whole

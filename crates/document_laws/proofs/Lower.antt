@@ -1,7 +1,7 @@
 -- Less is left to do after a turn whose job is painted at once.
-use Rattle.std.proofs.Common.{◌≡◌, ◌≢◌, ℕ, zero, suc, ◌+◌, ◌-◌, ◌*◌, ◌<◌, ◌≤◌, Bool, true, false, not, ◌&&◌, ◌||◌, cond, nat_eq, List, [], ◌∷◌, ◌++◌, length, map, Option, None, Some, refl, ap, sym, subst, ◌∙◌, arith, inl, inr}
-use Rattle.std.specs.Prelude.{◌⊎◌, slice_get}
-use Rattle.std.specs.List.{list_any, count_by, sum_by, AllByRecursion}
+use Rattle.std.proofs.Common.{◌≡◌, ℕ, ◌+◌, ◌-◌, ◌*◌, ◌<◌, ◌≤◌, Bool, true, false, ◌&&◌, ◌||◌, cond, nat_eq, List, [], ◌∷◌, ◌++◌, length, map, Some, refl, ap, sym, subst, ◌∙◌, arith, inl, inr}
+use Rattle.std.specs.Prelude.{slice_get}
+use Rattle.std.specs.List.{list_any, sum_by, AllByRecursion}
 use Rattle.std.proofs.lemmas.Bool.{cases_Bool, and_parts, or_parts, not-true}
 use Rattle.std.proofs.lemmas.List.Sums.{sum_by-cons, count_by-le-length}
 use Rattle.std.proofs.lemmas.Option.{slice_get_cases}
@@ -13,16 +13,14 @@ use Rattle.tile_key.specs.Places.{Place}
 use Rattle.document_machine.proofs.Lists.{nat_eq_self}
 use Rattle.document_machine.proofs.Present.{untouched}
 use Rattle.document_machine.specs.Due.{is_due, has_room, touched, keys, takes, sent}
-use Rattle.document_machine.specs.Event.{Painted}
 use Rattle.document_machine.specs.Kept.{IsKept}
-use Rattle.document_machine.specs.Outputs.{nothing, joined}
-use Rattle.document_machine.specs.Rank.{left_to_do, still_to_come, pairs, due_pairs, unacknowledged}
+use Rattle.document_machine.specs.Rank.{left_to_do, pairs, due_pairs, unacknowledged}
 use Rattle.document_machine.specs.Run.{Segment}
 use Rattle.document_machine.specs.State.{View, Job, Document, find_view, with_view, find_job, without_job}
 use Rattle.document_machine.specs.Step.{Applies, Cuts, Sends, Works, Step, Paints, offered, views_offered, is_wanted, given}
 use Rattle.document_machine.specs.declared.outs.Outs.{Outs}
 use Rattle.document_laws.specs.AtOnce.{answered, all_answered}
-use Rattle.document_laws.proofs.Fewer.{IsReady, due_of, left_of, all_ready, ready_sent, sent_less, due_less, takes_by}
+use Rattle.document_laws.proofs.Fewer.{IsReady, due_of, left_of, all_ready, ready_sent, sent_less, takes_by}
 
 -- a sum of smaller numbers is no larger
 pub sum_le : {X : Type 0} (f g : X → ℕ) (xs : List X) → ((x : X) → f x ≤ g x) → sum_by f xs ≤ sum_by g xs
@@ -257,8 +255,8 @@ module _ {C B S : Type 0} (rules : Rules C B) where
       let given_is : outs.jobs ≡ given cuts.job ∷ [] = ap (λ o. o.jobs) cuts.outs_are in
       let same : job ≡ given cuts.job = cc in
       let there : Step rules paints (cut_now old cuts.job) (answered (given cuts.job)) later new =
-          subst (λ (j : PaintJob S). Step rules paints (cut_now old cuts.job) (answered j) later new) same
-          (subst (λ (m : Document S). Step rules paints m (answered job) later new) cuts.new_is step) in
+      subst (λ (j : PaintJob S). Step rules paints (cut_now old cuts.job) (answered j) later new) same
+      (subst (λ (m : Document S). Step rules paints m (answered job) later new) cuts.new_is step) in
       let is = painted_is paints old new cuts.job later none there in
       let less = cut_left old cuts.job kept cuts.level cuts.number_is cuts.wanted in
       (ap (λ e. e.jobs) is, subst (λ e. left_to_do rules e < left_to_do rules old) (sym is) less)
@@ -268,8 +266,8 @@ module _ {C B S : Type 0} (rules : Rules C B) where
   at_once_lowers paints old mid new outs later works none kept run =
       let Lower : Document S → Type 0 = λ e. (e.jobs ≡ []) × (left_to_do rules e < left_to_do rules old) in
       let stays : outs.jobs ≡ [] → Lower mid → Lower new = λ e low.
-          let run0 = subst (λ (js : List (PaintJob S)). Segment rules paints mid (map answered js) later new) e run in
-          subst Lower (sym run0.1) low in
+      let run0 = subst (λ (js : List (PaintJob S)). Segment rules paints mid (map answered js) later new) e run in
+      subst Lower (sym run0.1) low in
       elim works [
         | inl applies ↦ stays (ap (λ o. o.jobs) applies.outs_are) (applied_lowers old mid outs applies none)
         | inr other ↦ elim other [

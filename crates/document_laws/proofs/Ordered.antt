@@ -1,6 +1,6 @@
 -- Keys put in order: which there are, and how many of them pass a test.
-use Rattle.std.proofs.Common.{◌≡◌, ◌≢◌, ◌<◌, ◌≤◌, ◌+◌, ℕ, zero, suc, Bool, true, false, not, ◌&&◌, ◌||◌, cond, List, [], ◌∷◌, length, All, AllPairs, refl, sym, ap, subst, ◌∙◌, inl, inr, arith}
-use Rattle.std.specs.List.{list_any, count_by, sum_by, AllByRecursion}
+use Rattle.std.proofs.Common.{◌≡◌, ◌≢◌, ◌<◌, ◌+◌, ℕ, suc, Bool, true, false, not, ◌&&◌, ◌||◌, cond, List, [], ◌∷◌, length, All, AllPairs, refl, sym, ap, subst, ◌∙◌, inl, inr, arith}
+use Rattle.std.specs.List.{count_by, AllByRecursion}
 use Rattle.std.specs.Ordering.{is_lt}
 use Rattle.std.proofs.lemmas.Bool.{cases_Bool}
 use Rattle.std.proofs.lemmas.List.Sums.{sum_by-cons}
@@ -8,7 +8,7 @@ use Rattle.tile_key.specs.Places.{Place, key_order, same_place}
 use Rattle.tile_key.specs.Visible.{IsBefore}
 use Rattle.document_machine.proofs.Lists.{same_self}
 use Rattle.document_machine.specs.Keys.{Pairwise, is_among, inserted, ordered}
-use Rattle.document_laws.proofs.KeyOrder.{same_is, same_sym, not_same, before_apart, before_by, after_by, before_trans}
+use Rattle.document_laws.proofs.KeyOrder.{same_is, same_sym, before_apart, before_by, after_by, before_trans}
 
 -- what two facts on each of a list give together
 pub both : {X : Type 0} (P Q R : X → Type 0) (xs : List X) → ((x : X) → P x → Q x → R x) → AllByRecursion P xs → AllByRecursion Q xs → AllByRecursion R xs
@@ -112,7 +112,7 @@ count_inserted p (other ∷ others) key order =
     let later = sum_by-cons (λ x. one (p x)) other (inserted others key) in
     let rest : count_by p (inserted others key) ≡ count_by p others + one (p key && not (is_among others key)) = count_inserted p others key order.1 in
     let go : (a b : Bool) → is_lt (key_order key other) ≡ a → same_place key other ≡ b
-        → count_by p (cond a (key ∷ (other ∷ others)) (cond b (other ∷ others) (other ∷ inserted others key))) ≡ count_by p (other ∷ others) + one (p key && not (is_among (other ∷ others) key)) = elim [
+    → count_by p (cond a (key ∷ (other ∷ others)) (cond b (other ∷ others) (other ∷ inserted others key))) ≡ count_by p (other ∷ others) + one (p key && not (is_among (other ∷ others) key)) = elim [
       | true ↦ λ b less e.
           let first = before_by key other less in
           let none : is_among (other ∷ others) key ≡ false = not_among key (other ∷ others) (first, before_all key other others first order.0) in
@@ -168,8 +168,8 @@ count_ordered p (key ∷ keys) list order once =
     let none : (a b : Bool) → b ≡ false → (a || b) ≡ a = elim [ true ↦ λ b e. refl | false ↦ λ b e. e ] in
     let apart : (x : Place) → key ≢ x → same_place key x ≡ false = λ x away. elim (cases_Bool (same_place key x)) [ inl same ↦ absurd (away (same_is key x same)) | inr off ↦ off ] in
     let same : count_new p (inserted list key) keys ≡ count_new p list keys =
-        count_same (λ x. p x && not (is_among (inserted list key) x)) (λ x. p x && not (is_among list x)) (λ x. key ≢ x) keys
-        (λ x away. ap (λ b. p x && not b) (among_inserted list key x ∙ none (is_among list x) (same_place key x) (apart x away))) once.0 in
+    count_same (λ x. p x && not (is_among (inserted list key) x)) (λ x. p x && not (is_among list x)) (λ x. key ≢ x) keys
+    (λ x away. ap (λ b. p x && not b) (among_inserted list key x ∙ none (is_among list x) (same_place key x) (apart x away))) once.0 in
     omega (arith, rest, put, same, sum_by-cons (λ x. one (p x && not (is_among list x))) key keys)
 
 -- what holds at each place holds of each

@@ -1,5 +1,5 @@
 -- Why a pair that is not due is right, and so why a quiet document is.
-use Rattle.std.proofs.Common.{◌≡◌, ℕ, ◌+◌, ◌*◌, ◌/◌, ◌<◌, ◌≤◌, Bool, true, false, ◌&&◌, ◌||◌, cond, List, [], ◌∷◌, length, Option, None, Some, refl, ap, sym, ◌∙◌, arith, inl, inr}
+use Rattle.std.proofs.Common.{◌≡◌, ℕ, ◌+◌, ◌/◌, ◌<◌, ◌≤◌, Bool, true, false, ◌&&◌, ◌||◌, cond, List, [], ◌∷◌, length, Option, None, Some, refl, ap, sym, ◌∙◌, arith, inl, inr}
 use Rattle.std.specs.Prelude.{◌⊎◌, nat_lt}
 use Rattle.std.specs.List.{AllByRecursion}
 use Rattle.std.proofs.lemmas.Bool.{cases_Bool, cases_lt, or_parts}
@@ -7,16 +7,16 @@ use Rattle.cool_base.specs.Points.{Rectangle, Extent, cut_of}
 use Rattle.kit_trait.specs.Rules.{Rules, doc, shown}
 use Rattle.kit_trait.specs.declared.values.Input.{Input}
 use Rattle.tile_key.specs.Places.{Place, Scale, is_zoom, same_place}
-use Rattle.tile_key.specs.Visible.{visible_keys, tiles_to, whole_part, tile_in}
+use Rattle.tile_key.specs.Visible.{visible_keys, tiles_to, whole_part}
 use Rattle.tile_key.proofs.GridFacts.{rows_all}
 use Rattle.tile_key.proofs.VisibleFacts.{IsSized, zoom_facts}
 use Rattle.document_machine.specs.Due.{is_due, is_lacking, has_room, is_out, keys, size_of, touched, version_of, visible}
-use Rattle.document_machine.specs.Keys.{is_among, ordered}
+use Rattle.document_machine.specs.Keys.{is_among}
 use Rattle.document_machine.specs.Kept.{IsKept, IsViewKept}
 use Rattle.document_machine.specs.Quiet.{IsQuiet, IsRight, AllRight}
 use Rattle.document_machine.specs.State.{Shown, View, Document}
 use Rattle.document_machine.specs.Step.{IsServed}
-use Rattle.document_laws.proofs.Ordered.{both, weaker, all_by, all_ordered, ordered_all, all_among}
+use Rattle.document_laws.proofs.Ordered.{both, weaker, all_by, all_ordered, all_among}
 
 -- a place that no input between touched looks the same
 abbrev pub Unchanged : {C B : Type 0} → Rules C B → Type 0

@@ -1,12 +1,12 @@
 -- Why the test of a quiet document tells.
-use Rattle.std.proofs.Common.{◌≡◌, ◌≤◌, Bool, true, false, not, ◌&&◌, ◌||◌, cond, List, [], ◌∷◌, length, nat_eq, refl, ap, sym, subst, arith, inl, inr}
+use Rattle.std.proofs.Common.{◌≡◌, ◌≤◌, Bool, true, false, not, ◌&&◌, List, [], ◌∷◌, length, nat_eq, refl, ap, sym, subst, arith}
 use Rattle.std.specs.Prelude.{◌⊎◌}
 use Rattle.std.specs.List.{list_any, list_all, AllByRecursion}
 use Rattle.std.proofs.lemmas.Bool.{and_parts, or_parts, not-true}
 use Rattle.std.proofs.lemmas.Bool.Decides.{nat_tests}
 use Rattle.kit_trait.specs.Rules.{Rules}
 use Rattle.tile_key.specs.Places.{Place}
-use Rattle.document_machine.specs.Due.{is_due, has_room, is_out, keys, visible}
+use Rattle.document_machine.specs.Due.{is_due, has_room, is_out, visible}
 use Rattle.document_machine.specs.Keys.{is_among, ordered}
 use Rattle.document_machine.specs.Quiet.{IsQuiet, is_quiet, is_still}
 use Rattle.document_machine.specs.State.{View, Document}
@@ -53,8 +53,8 @@ module _ {C B S : Type 0} (rules : Rules C B) (d : Document S) (view : View) whe
       let Served : Place → Type 0 = λ key. (has_room view && is_due rules d view key) ≡ true → (is_out d.jobs key ≡ true) ⊎ (64 ≤ length d.jobs) in
       let away : (a b : Bool) → b ≡ false → (a && b) ≡ true → ⊥ = elim [ true ↦ λ b e f. (cc) | false ↦ λ b e f. (cc) ] in
       let served : AllByRecursion Served (visible rules d view) =
-          weaker (λ key. is_due rules d view key ≡ false) Served (visible rules d view)
-          (λ key is wanted. absurd (away (has_room view) (is_due rules d view key) is wanted)) clean in
+      weaker (λ key. is_due rules d view key ≡ false) Served (visible rules d view)
+      (λ key is wanted. absurd (away (has_room view) (is_due rules d view key) is wanted)) clean in
       (subst (λ asked. AllByRecursion Served (ordered asked (visible rules d view))) (sym idle) served, none_there view.window first.0)
 
   -- nothing is asked for where no key that is asked for is due

@@ -1,6 +1,5 @@
 -- Each work of a turn lowers the rank, and the rank never goes below nothing.
-use Rattle.std.proofs.Common.{◌≡◌, ◌≢◌, ℕ, ◌+◌, ◌-◌, ◌*◌, ◌<◌, ◌≤◌, Bool, true, false, not, ◌&&◌, ◌||◌, cond, nat_eq, List, [], ◌∷◌, ◌++◌, length, Option, None, Some, refl, ap, sym, subst, ◌∙◌, arith, inl, inr, add-one}
-use Rattle.std.specs.Prelude.{◌⊎◌, nat_le}
+use Rattle.std.proofs.Common.{◌≡◌, ℕ, ◌+◌, ◌*◌, ◌<◌, ◌≤◌, Bool, true, false, not, ◌&&◌, ◌||◌, cond, nat_eq, List, [], ◌∷◌, ◌++◌, length, Option, None, Some, refl, ap, sym, subst, ◌∙◌, arith, inl, inr, add-one}
 use Rattle.std.specs.List.{list_any, count_by, sum_by, AllByRecursion}
 use Rattle.std.proofs.lemmas.Bool.{cases_Bool, and_parts, or_parts, not-true}
 use Rattle.std.proofs.lemmas.List.Sums.{sum_by-cons, sum_by_push}
@@ -9,16 +8,16 @@ use Rattle.kit_trait.specs.declared.values.Input.{Input}
 use Rattle.kit_trait.specs.declared.values.Pixels.{Pixels}
 use Rattle.tile_key.specs.Places.{Place, same_place}
 use Rattle.document_machine.proofs.Lists.{holds_among, same_self}
-use Rattle.document_machine.specs.Due.{is_due, is_lacking, is_hurt, damage_of, has_room, is_out, touched, keys, version_of, visible, sent}
-use Rattle.document_machine.specs.Keys.{Pairwise, is_among, inserted, ordered}
+use Rattle.document_machine.specs.Due.{is_due, is_lacking, has_room, is_out, touched, keys, version_of, visible, sent}
+use Rattle.document_machine.specs.Keys.{is_among, inserted, ordered}
 use Rattle.document_machine.specs.Kept.{IsKept}
 use Rattle.document_machine.specs.Rank.{IsLower, is_due_somewhere, jobs_due, due_pairs, pairs, still_to_come}
 use Rattle.document_machine.specs.State.{View, Job, Document, find_view, with_view}
-use Rattle.document_machine.specs.Step.{Applies, Cuts, Sends, Works, is_wanted}
+use Rattle.document_machine.specs.Step.{Works, is_wanted}
 use Rattle.document_machine.specs.declared.outs.Outs.{Outs}
 use Rattle.document_laws.specs.Apart.{ShareNone, AreApart}
 use Rattle.document_laws.proofs.KeyOrder.{same_is, same_sym}
-use Rattle.document_laws.proofs.Ordered.{one, weaker, among_inserted}
+use Rattle.document_laws.proofs.Ordered.{one, among_inserted}
 use Rattle.document_laws.proofs.Sending.{sent_due}
 use Rattle.document_laws.proofs.Fewer.{IsReady, due_of, all_ready, due_less, one_le, count_le, count_lt}
 use Rattle.document_laws.proofs.Lower.{sum_le, sum_with, found_view, one_input, no_input, some_input, due_le_pairs}
@@ -129,8 +128,8 @@ module _ {C B S : Type 0} (rules : Rules C B) (d : Document S) where
       let first = sum_by-cons (λ j. one (has_due j)) job jobs in
       let rest : count_by has_due jobs ≤ sum_by (due_within (is_out jobs)) d.views = counts jobs apart.1 in
       let imp : (key : Place) → is_out jobs key ≡ true → is_out (job ∷ jobs) key ≡ true = λ key e.
-          let any : (b : Bool) → (b || true) ≡ true = elim [ true ↦ refl | false ↦ refl ] in
-          rw e (any (is_among job.keys key)) in
+      let any : (b : Bool) → (b || true) ≡ true = elim [ true ↦ refl | false ↦ refl ] in
+      rw e (any (is_among job.keys key)) in
       let go : (b : Bool) → has_due job ≡ b → count_by has_due (job ∷ jobs) ≤ sum_by (due_within (is_out (job ∷ jobs))) d.views = elim [
         | true ↦ λ due.
             let it = any_key (is_due_somewhere rules d) job.keys due in
@@ -199,9 +198,9 @@ module _ {C B S : Type 0} (rules : Rules C B) (d : Document S) where
   cut_lower : (job : Job S) → list_any (is_wanted rules d) job.keys ≡ true → IsLower rules (cut_more job) d
   cut_lower job wanted =
       let due : has_due rules d job ≡ true =
-          any_le (is_wanted rules d) (is_due_somewhere rules d) job.keys
-          (λ key some. any_le (λ view. has_room view && is_due rules d view key) (due_there rules d key) d.views
-          (λ view e. there_by rules d key view (and_parts (has_room view) (is_due rules d view key) e).1) some) wanted in
+      any_le (is_wanted rules d) (is_due_somewhere rules d) job.keys
+      (λ key some. any_le (λ view. has_room view && is_due rules d view key) (due_there rules d key) d.views
+      (λ view e. there_by rules d key view (and_parts (has_room view) (is_due rules d view key) e).1) some) wanted in
       let push : jobs_due rules (cut_more job) ≡ jobs_due rules d + one (has_due rules d job) = sum_by_push (λ j. one (has_due rules d j)) d.jobs job in
       let yes : one (has_due rules d job) ≡ 1 = ap one due in
       let same : still_to_come rules (cut_more job) ≡ still_to_come rules d = refl in

@@ -1,24 +1,18 @@
 -- What a present tile changes for the view that it is sent to: its pair is no longer due, and no other pair
 -- changes.
-use Rattle.std.proofs.Common.{◌≡◌, ◌≢◌, ℕ, ◌+◌, ◌*◌, ◌<◌, ◌≤◌, Bool, true, false, not, ◌&&◌, ◌||◌, cond, List, [], ◌∷◌, ◌++◌, length, filter, Option, None, Some, refl, ap, sym, subst, ◌∙◌, arith, inl, inr, length-append}
-use Rattle.std.specs.List.{list_any, count_by, sum_by, AllByRecursion}
+use Rattle.std.proofs.Common.{◌≡◌, ℕ, ◌+◌, Bool, true, false, not, ◌&&◌, ◌||◌, cond, List, [], ◌∷◌, ◌++◌, filter, Some, refl, ap, sym, ◌∙◌, inl, inr}
 use Rattle.std.specs.Ordering.{is_lt}
 use Rattle.std.proofs.lemmas.Bool.{cases_Bool}
-use Rattle.std.proofs.lemmas.List.Sums.{sum_by-cons}
 use Rattle.kit_trait.specs.Rules.{Rules}
 use Rattle.tile_key.specs.Places.{Place, key_order, same_place}
-use Rattle.tile_key.specs.Visible.{IsBefore}
-use Rattle.tile_key.proofs.VisibleFacts.{visible_order}
-use Rattle.document_machine.proofs.Lists.{same_self, taken_out, all_filter}
-use Rattle.document_machine.specs.Due.{is_due, is_lacking, is_current, touched, keys, size_of, visible, version_of, with_version, without_version, asked_after, screen_after, sent}
-use Rattle.document_machine.specs.Keys.{Pairwise, is_among, ordered}
-use Rattle.document_machine.specs.Kept.{IsViewKept}
+use Rattle.document_machine.proofs.Lists.{same_self, taken_out}
+use Rattle.document_machine.specs.Due.{is_due, is_lacking, touched, visible, version_of, with_version, without_version, screen_after, sent}
+use Rattle.document_machine.specs.Keys.{is_among}
 use Rattle.document_machine.specs.State.{Shown, View, Document}
 use Rattle.document_laws.proofs.KeyOrder.{same_is, same_sym}
-use Rattle.document_laws.proofs.Ordered.{one, count_new, count_ordered, pairwise_by}
 
 -- the screen has the version of the key
-with_same : (screen : List Shown) (key : Place) (version : ℕ) → version_of (with_version screen key version) key ≡ Some version
+pub with_same : (screen : List Shown) (key : Place) (version : ℕ) → version_of (with_version screen key version) key ≡ Some version
 with_same [] key version = rw (same_self key) refl
 with_same (shown ∷ screen) key version =
     let go : (a b : Bool) → same_place key shown.key ≡ b → version_of (cond a (record { key = key; version = version } ∷ (shown ∷ screen)) (cond b (record { key = key; version = version } ∷ screen) (shown ∷ with_version screen key version))) key ≡ Some version = elim [
@@ -60,7 +54,7 @@ without_other (shown ∷ screen) key x away =
     ] in
     go (same_place shown.key key) refl
 
-screen_other : (screen : List Shown) (key : Place) (version : ℕ) (wanted : Bool) (x : Place) → same_place key x ≡ false → version_of (screen_after screen key version wanted) x ≡ version_of screen x
+pub screen_other : (screen : List Shown) (key : Place) (version : ℕ) (wanted : Bool) (x : Place) → same_place key x ≡ false → version_of (screen_after screen key version wanted) x ≡ version_of screen x
 screen_other screen key version true x away = with_other screen key version x away
 screen_other screen key version false x away = without_other screen key x away
 

@@ -1,24 +1,23 @@
 -- Every step leaves a whole document whole, and so every document that is reached is whole.
-use Rattle.std.proofs.Common.{◌≡◌, ◌≢◌, ℕ, ◌+◌, ◌/◌, ◌<◌, ◌≤◌, Bool, true, false, not, ◌&&◌, ◌||◌, cond, nat_eq, List, [], ◌∷◌, ◌++◌, length, map, filter, Option, None, Some, refl, ap, sym, subst, ◌∙◌, arith, inl, inr, length-append}
-use Rattle.std.specs.Prelude.{◌⊎◌, nat_lt}
-use Rattle.std.specs.List.{list_any, AllByRecursion}
+use Rattle.std.proofs.Common.{◌≡◌, ℕ, ◌+◌, ◌/◌, ◌<◌, ◌≤◌, Bool, true, false, cond, nat_eq, List, [], ◌∷◌, ◌++◌, length, Option, None, Some, refl, ap, sym, subst, arith, inl, inr, length-append}
+use Rattle.std.specs.Prelude.{nat_lt}
+use Rattle.std.specs.List.{AllByRecursion}
 use Rattle.std.proofs.lemmas.Bool.{or_parts, ltb-true}
 use Rattle.std.proofs.lemmas.Bool.Decides.{nat_tests}
 use Rattle.cool_base.specs.Points.{Rectangle, Extent, do_meet, cut_of, nowhere}
 use Rattle.kit_trait.specs.Rules.{Rules}
 use Rattle.kit_trait.specs.declared.values.Input.{Input}
 use Rattle.kit_trait.specs.declared.values.Pixels.{Pixels}
-use Rattle.tile_key.specs.Places.{Place}
 use Rattle.tile_key.specs.Visible.{visible_keys, rows_of, is_too_large, tiles_to, whole_part}
 use Rattle.document_machine.proofs.Lists.{all_push}
 use Rattle.document_machine.specs.Due.{parts_of, size_of, is_out, sent}
 use Rattle.document_machine.specs.Event.{Event, Joined, Left, Said, Turned, Painted}
 use Rattle.document_machine.specs.Keys.{Pairwise, is_among}
-use Rattle.document_machine.specs.Kept.{IsKept, IsViewKept}
+use Rattle.document_machine.specs.Kept.{IsViewKept}
 use Rattle.document_machine.specs.Message.{Effect, Refuses, Greets, Inputs, Asks, Cancels, Looks, Zooms, GoesTo, Acknowledges, Passes, effect, took, asks, cancels, looks, zooms, goes_to, acknowledged}
 use Rattle.document_machine.specs.Run.{Segment}
 use Rattle.document_machine.specs.State.{View, Job, Document, opening, opening_view, first_zoom, no_area, find_view, with_view, without_view, find_job, without_job}
-use Rattle.document_machine.specs.Step.{JoinsWhere, Joins, Leaves, Says, Applies, Sends, Cuts, Works, Rests, Paints, Step, views_offered}
+use Rattle.document_machine.specs.Step.{JoinsWhere, Works, Paints, Step, views_offered}
 use Rattle.document_machine.specs.declared.outs.Outs.{Outs}
 use Rattle.document_machine.specs.declared.rights.Rights.{Rights}
 use Rattle.document_laws.specs.Apart.{ShareNone, AreApart}
@@ -63,7 +62,7 @@ job_without_length (j ∷ js) ticket =
       | false ↦ omega (arith, job_without_length js ticket)
     ]
 
-found_job : {S : Type 0} (P : Job S → Type 0) (jobs : List (Job S)) (ticket : ℕ) (job : Job S) → AllByRecursion P jobs → find_job jobs ticket ≡ Some job → P job
+pub found_job : {S : Type 0} (P : Job S → Type 0) (jobs : List (Job S)) (ticket : ℕ) (job : Job S) → AllByRecursion P jobs → find_job jobs ticket ≡ Some job → P job
 found_job P [] ticket job all e = absurd (cc)
 found_job P (j ∷ js) ticket job all e =
     let go : (b : Bool) → cond b (Some j) (find_job js ticket) ≡ Some job → P job = elim [

@@ -2,25 +2,27 @@
 //! kits alone, whatever broker runs it. Each is a function with an empty body whose contract is the law.
 #![tactic(auto)]
 
-ghost use Rattle.std.specs.Prelude.{◌≡◌, ◌≢◌, ℕ, ◌+◌, ◌^◌, ◌≤◌, ◌<◌, ◌⊎◌, true, false, List, [], ◌∷◌, length, Some, Ok};
+ghost use Rattle.std.specs.Prelude.{◌≡◌, ◌≢◌, ℕ, ◌+◌, ◌^◌, ◌≤◌, ◌<◌, ◌⊎◌, true, false, List, [], ◌∷◌, ◌++◌, length, nat_eq, ◌&&◌, Some, None, Ok};
 ghost use Rattle.cool_message.specs.Reading.{reading};
 ghost use Rattle.cool_message.specs.Writing.{written};
 ghost use Rattle.cool_message.specs.declared.message.ClientMessage.TheVariants.{TileProcessed};
-ghost use Rattle.std.specs.List.{AllByRecursion};
+ghost use Rattle.std.specs.List.{list_any, AllByRecursion};
 ghost use Rattle.document_laws.specs.Apart.{AreApart};
 ghost use Rattle.document_laws.specs.AtOnce.{all_answered, numbers, IsAcknowledged};
 ghost use Rattle.document_laws.specs.InARow.{WorkInARow};
+ghost use Rattle.document_laws.specs.Tiles.{IsShown, IsNoStepBack, AreNumbered};
 ghost use Rattle.document_laws.specs.Whole.{IsWhole};
-ghost use Rattle.document_machine.specs.Due.{touched, is_due, keys};
+ghost use Rattle.document_machine.specs.Due.{touched, is_due, is_out, has_room, keys};
 ghost use Rattle.document_machine.specs.Event.{Event as Happening, Painted};
 ghost use Rattle.document_machine.specs.Kept.{IsKept};
 ghost use Rattle.document_machine.specs.Message.{Acknowledges, took};
+ghost use Rattle.document_machine.specs.Next.{next_pair, none_kept};
 ghost use Rattle.document_machine.specs.Outputs.{nothing};
 ghost use Rattle.document_machine.specs.Quiet.{IsQuiet, is_quiet, IsRight, AllRight};
 ghost use Rattle.document_machine.specs.Rank.{IsLower, due_pairs, jobs_due, left_to_do, rank};
 ghost use Rattle.document_machine.specs.Run.{Segment};
 ghost use Rattle.document_machine.specs.State.{View, Document, find_view, opening};
-ghost use Rattle.document_machine.specs.Step.{Applies, Cuts, Says, Sends, Step, Works};
+ghost use Rattle.document_machine.specs.Step.{Applies, Cuts, Rests, Says, Sends, Step, Works};
 ghost use Rattle.document_machine.specs.declared.outs.Outs.{Outs as Given};
 ghost use Rattle.kit_trait.specs.declared.jobs.PaintJob.{PaintJob as Task};
 ghost use Rattle.kit_trait.specs.Rules.{doc, shown};
@@ -29,10 +31,10 @@ ghost use Rattle.tile_key.specs.Places.{Place};
 
 use kit_trait::Kit;
 
-/// In a quiet document that a broker keeps every view has on its screen each key that it sees, in a
-/// version that looks like the document after all accepted inputs, point by point. (It asks for no key
-/// then, and each key that it asked for before has come.) Of what a broker keeps this wants that zooms are
-/// zooms, so that each tile has a point, and that the versions on screens are of inputs that are applied.
+/// In a quiet document that a broker keeps every view has on its screen each key that it sees or asked for,
+/// in a version that looks like the document after all accepted inputs, point by point. Of what a broker
+/// keeps this wants that zooms are zooms, so that each tile has a point, and that the versions on screens
+/// are of inputs that are applied.
 pub fn quiet_is_right<K: Kit>()
     ensures { (d : Document K.Scene) → IsKept K.rules d → IsQuiet K.rules d → AllRight K.rules d }
 {}
@@ -48,6 +50,31 @@ pub fn untouched_is_unchanged<K: Kit>()
 pub fn quiet_test<K: Kit>()
     ensures passed { (d : Document K.Scene) → is_quiet K.rules d ≡ true → IsQuiet K.rules d }
     ensures passes { (d : Document K.Scene) → IsQuiet K.rules d → is_quiet K.rules d ≡ true }
+{}
+
+/// Each tile shows the document after as many inputs as its version says, in one step (`step`), where that
+/// many are applied, and in a run (`run`), where that many are accepted at its end.
+pub fn tiles_show_prefixes<K: Kit>()
+    ensures step { (old new : Document K.Scene) (event : Happening K.Scene) (outs : Given K.Scene) → IsWhole K.rules old → Step K.rules K.Scene.paints old event outs new → AllByRecursion (IsShown K.rules old.base old.journal old.applied) outs.frames }
+    ensures run { (events : List (Happening K.Scene)) (old new : Document K.Scene) (outs : Given K.Scene) → IsWhole K.rules old → Segment K.rules K.Scene.paints old events outs new → AllByRecursion (IsShown K.rules new.base new.journal (length new.journal)) outs.frames }
+{}
+
+/// No event takes a screen a step back: what a view was sent of a key is later no older, as long as its
+/// screen has the key.
+pub fn screens_never_step_back<K: Kit>()
+    ensures { (old new : Document K.Scene) (event : Happening K.Scene) (outs : Given K.Scene) → IsWhole K.rules old → Step K.rules K.Scene.paints old event outs new → (id : ℕ) (before later : View) → find_view old.views id ≡ Some before → find_view new.views id ≡ Some later → IsNoStepBack before later }
+{}
+
+/// The tiles that a step gives to a view that was there and stays have the view's next numbers, one after
+/// the other, whatever other views get. A view's first number is 1, so its tiles are numbered from 1 on
+/// without a gap.
+pub fn tiles_are_numbered<K: Kit>()
+    ensures { (old new : Document K.Scene) (event : Happening K.Scene) (outs : Given K.Scene) → IsWhole K.rules old → Step K.rules K.Scene.paints old event outs new → (id : ℕ) (before later : View) → find_view old.views id ≡ Some before → find_view new.views id ≡ Some later → AreNumbered id before later outs.frames }
+{}
+
+/// The accepted inputs of a run begin with those that there were, and the file stays.
+pub fn inputs_go_on<K: Kit>()
+    ensures { (events : List (Happening K.Scene)) (old new : Document K.Scene) (outs : Given K.Scene) → Segment K.rules K.Scene.paints old events outs new → (new.base ≡ old.base) × (more : List Typed) × (new.journal ≡ old.journal ++ more) }
 {}
 
 /// In a document that a broker keeps each pair of a view and a key that it sees or asked for is right, or
@@ -103,6 +130,16 @@ pub fn said_acknowledges<K: Kit>()
 /// are one message.
 pub fn written_lowers<K: Kit>()
     ensures { (d new : Document K.Scene) (id : ℕ) (view : View) (outs : Given K.Scene) → IsKept K.rules d → find_view d.views id ≡ Some view → view.window ≢ [] → AllByRecursion (λ n. n < 2 ^ 64) (numbers view) → Says K.rules d id (written (TileProcessed (numbers view))) outs new → IsAcknowledged K.rules d id view outs new }
+{}
+
+/// Where all inputs are applied there is nothing to do exactly where no pair is next (`idle`, `rests`), and
+/// a pair that is next is one of a view with room that is due the key, of which no job is out, while fewer
+/// than 64 jobs are (`next`). So a broker that serves the next pair by a job of its key alone leaves no
+/// work undone.
+pub fn idle_exactly<K: Kit>()
+    ensures idle { (d : Document K.Scene) → d.applied ≡ length d.journal → next_pair K.rules none_kept d ≡ None → Rests K.rules d }
+    ensures rests { (d : Document K.Scene) → Rests K.rules d → next_pair K.rules none_kept d ≡ None }
+    ensures next { (d : Document K.Scene) (id : ℕ) (key : Place) → next_pair K.rules none_kept d ≡ Some (id, key) → (length d.jobs < 64) × (is_out d.jobs key ≡ false) × (list_any (λ view. nat_eq view.id id && (has_room view && is_due K.rules d view key)) d.views ≡ true) }
 {}
 
 /// Each work of a turn lowers the rank, in a document that a broker keeps and in which no key is in two
