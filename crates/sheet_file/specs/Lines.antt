@@ -40,9 +40,13 @@ some_parts count = if nat_le 1 count then Some count else None
 abbrev pub parts_in : List ℕ × List ℕ → Option ℕ
 parts_in (word, rest) = if bytes_eq word (codes "parts") then option_and_then some_parts (plain_number 16 rest) else None
 
--- how many parts a line says that there are: `parts`, a blank and the number, from 1 to 16
+-- how many parts the text of a line says that there are: `parts`, a blank and the number, from 1 to 16
+abbrev pub parts_of_text : List ℕ → Option ℕ
+parts_of_text text = option_and_then parts_in (cut_at 32 text)
+
+-- the same of a line with its newline
 unfoldable pub parts_said : List ℕ → Option ℕ
-parts_said line = option_and_then parts_in (option_and_then (cut_at 32) (before_newline line))
+parts_said line = option_and_then parts_of_text (before_newline line)
 
 -- the place of the cell that a word names in capital letters
 abbrev pub place_named : List ℕ → Option Place
@@ -67,6 +71,15 @@ cell_by parts part (name, raw) =
 abbrev pub cell_in : ℕ → List ℕ × List ℕ → Option Cell
 cell_in parts (part, behind) = option_and_then (cell_by parts part) (cut_at 32 behind)
 
--- the cell and the raw text that a line says: the number of its part, a blank, its name, a blank and the text
+-- the cell and the raw text that the text of a line says: the number of its part, a blank, its name, a blank and the raw text
+abbrev pub cell_of_text : ℕ → List ℕ → Option Cell
+cell_of_text parts text = option_and_then (cell_in parts) (cut_at 32 text)
+
+-- the same of a line with its newline
 unfoldable pub cell_said : ℕ → List ℕ → Option Cell
-cell_said parts line = option_and_then (cell_in parts) (option_and_then (cut_at 32) (before_newline line))
+cell_said parts line = option_and_then (cell_of_text parts) (before_newline line)
+
+-- the cell that the first of some lines says, and the lines behind it
+abbrev pub first_said : ℕ → List (List ℕ) → Option (Cell × List (List ℕ))
+first_said parts [] = None
+first_said parts (line ∷ lines) = option_map (λ cell. (cell, lines)) (cell_said parts line)
