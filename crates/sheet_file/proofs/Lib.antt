@@ -1,4 +1,5 @@
 pub mod CutLaws
 pub mod LineLaws
+pub mod Words
 pub mod ReadLaws
 pub mod FileLaws

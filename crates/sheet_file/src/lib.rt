@@ -13,3 +13,6 @@ mod writing;
 pub use fault::BookFault;
 pub use reading::read_book;
 pub use writing::write_book;
+
+#[cfg(test)]
+mod tests;
