@@ -53,7 +53,7 @@ cut_join byte (c ∷ front) back clean = by (λ h. cut_join byte front back h) (
     by ih false is (Some s) cut e = cc
 
 -- the lines of a file that is cut at its first newline
-line_step : (c : ℕ) (bytes : List ℕ) (b : Bool) → eqb c 10 ≡ b → lines_of (c ∷ bytes) ≡ cond b ((10 ∷ []) ∷ lines_of bytes) (in_front c (lines_of bytes))
+pub line_step : (c : ℕ) (bytes : List ℕ) (b : Bool) → eqb c 10 ≡ b → lines_of (c ∷ bytes) ≡ cond b ((10 ∷ []) ∷ lines_of bytes) (in_front c (lines_of bytes))
 unfolding lines_of
 line_step c bytes b h = ap (λ (t : Bool). cond t ((10 ∷ []) ∷ lines_of bytes) (in_front c (lines_of bytes))) h
 

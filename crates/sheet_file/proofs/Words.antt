@@ -169,9 +169,9 @@ name_spelled word p h =
 
 -- ---- names that are written
 
-record IsCapitals (letters : List ℕ) : Type 0 where
-  pub letters : list_all is_letter letters ≡ true
-  pub capitals : list_all (λ c. nat_lt c 97) letters ≡ true
+pub record IsCapitals (word : List ℕ) : Type 0 where
+  pub letters : list_all is_letter word ≡ true
+  pub capitals : list_all (λ c. nat_lt c 97) word ≡ true
 
 capital_code : (c : ℕ) → 65 ≤ c → c ≤ 90 → (is_letter c ≡ true) × (nat_lt c 97 ≡ true)
 capital_code c low high = (grind (arith, nat_tests), grind (arith, nat_tests))
