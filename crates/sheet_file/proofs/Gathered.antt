@@ -1,5 +1,5 @@
 -- Cells put one after another into parts, and the cells of parts one after another.
-use Rattle.std.proofs.Common.{◌≡◌, ℕ, zero, suc, ◌+◌, ◌<◌, ◌≤◌, Bool, true, false, cond, List, [], ◌∷◌, ◌++◌, length, map, Option, Some, None, refl, ap, sym, ◌∙◌, subst, arith, append_assoc, append-nil, length-append, get_or}
+use Rattle.std.proofs.Common.{◌≡◌, ℕ, zero, suc, ◌+◌, ◌<◌, ◌≤◌, true, List, [], ◌∷◌, ◌++◌, length, map, Option, Some, refl, ap, sym, ◌∙◌, subst, arith, append_assoc, append-nil}
 use Rattle.std.specs.Prelude.{fold, replicate}
 use Rattle.std.specs.List.{flat_map, AllByRecursion}
 use Rattle.std.specs.List.Sorted.{IsStrictlySortedBy}
@@ -10,10 +10,8 @@ use Rattle.std.specs.declared.cmp.Ordering.{Ordering}
 use Rattle.std.specs.declared.cmp.Ordering.TheVariants.{Less, Equal, Greater}
 use Rattle.std.specs.Cmp.{IsTotalOrder, eq_by_cmp_equiv}
 use Rattle.std.proofs.Math.ListN.{set}
-use Rattle.std.proofs.lemmas.Bool.{both_ways}
 use Rattle.std.proofs.lemmas.Cmp.{then_total, on_total, nat_cmp_total}
 use Rattle.std.proofs.lemmas.Grind.{flat_map-append}
-use Rattle.std.proofs.lemmas.List.Sums.{fold-append}
 use Rattle.std.proofs.lemmas.Map.Lookups.{exact_unsigned}
 use Rattle.sheet_cells.specs.declared.cells.CellRef.{CellRef}
 use Rattle.sheet_cells.specs.Cells.{cell_cmp}
@@ -51,7 +49,7 @@ same_number : (n : ℕ) → nat_cmp n n ≡ Equal
 same_number n = is_equal (nat_cmp n n) ((eq_by_cmp_equiv nat_cmp_total).refl n)
 
 -- within a part cells come by their places
-part_order : (n : ℕ) (p : Place) (at : CellRef) → at.part ≡ n → cell_cmp (cell_at n p) at ≡ place_cmp p (place_of at)
+pub part_order : (n : ℕ) (p : Place) (at : CellRef) → at.part ≡ n → cell_cmp (cell_at n p) at ≡ place_cmp p (place_of at)
 part_order n p at same =
     ap (λ (o : Ordering). ordering_then o (place_cmp p (place_of at))) (ap (nat_cmp n) same ∙ same_number n)
 
@@ -65,7 +63,7 @@ not_before n p at h less = by (nat_cmp n at.part) refl less
     by Greater is e = cc
 
 -- and one of an earlier part does
-part_before : (n : ℕ) (p : Place) (at : CellRef) → n < at.part → cell_cmp (cell_at n p) at ≡ Less
+pub part_before : (n : ℕ) (p : Place) (at : CellRef) → n < at.part → cell_cmp (cell_at n p) at ≡ Less
 part_before n p at h = ap (λ (o : Ordering). ordering_then o (place_cmp p (place_of at))) (less_from_below n at.part h)
 
 -- ---- a cell behind all cells of a part
@@ -164,10 +162,11 @@ further n (part ∷ parts) at next less below = (further_part n part at next les
 below_put : (parts : Parts) (n k : ℕ) (at next : CellRef) (raw : List ℕ) → at.part ≡ n + k → cell_cmp at next ≡ Less → Below n parts at → Below n (appended parts k (place_of at, raw)) next
 below_put [] n k at next raw same less below = tt
 below_put (part ∷ parts) n zero at next raw same less below =
-    let number : at.part ≡ n = omega (arith, same) in
-    (all_last (λ e. cell_cmp (cell_at n e.0) next ≡ Less) part (place_of at, raw) (further_part n part at next less below.0)
-    (ap (λ (m : ℕ). cell_cmp (cell_at m (place_of at)) next) (sym number) ∙ less),
-    further (n + 1) parts at next less below.1)
+    let number : at.part ≡ n = omega (arith, same) in (
+      all_last (λ e. cell_cmp (cell_at n e.0) next ≡ Less) part (place_of at, raw) (further_part n part at next less below.0)
+          (ap (λ (m : ℕ). cell_cmp (cell_at m (place_of at)) next) (sym number) ∙ less),
+      further (n + 1) parts at next less below.1,
+    )
 below_put (part ∷ parts) n (suc k) at next raw same less below = (further_part n part at next less below.0, below_put parts (n + 1) k at next raw (omega (arith, same)) less below.1)
 
 length_put : (parts : Parts) (k : ℕ) (x : Place × List ℕ) → length (appended parts k x) ≡ length parts
@@ -213,9 +212,9 @@ gathered (cell ∷ cells) draft before book upto all ordered =
       book = rest.book;
       count = rest.count ∙ same;
       lines =
-        rest.lines
-        ∙ ap (λ (t : List ℕ). t ++ joined (map line_of cells)) (ap (all_lines 0) put ∙ lines_put draft 0 at.part at raw (omega arith) part below)
-        ∙ append_assoc (all_lines 0 draft) (line_of cell) (joined (map line_of cells));
+          rest.lines
+          ∙ ap (λ (t : List ℕ). t ++ joined (map line_of cells)) (ap (all_lines 0) put ∙ lines_put draft 0 at.part at raw (omega arith) part below)
+          ∙ append_assoc (all_lines 0 draft) (line_of cell) (joined (map line_of cells));
     }
 
 -- parts without cells

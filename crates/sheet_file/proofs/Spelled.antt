@@ -1,27 +1,25 @@
 -- The line of a cell: what is written of it is read as it, and a line that is read is written so.
-use Rattle.std.proofs.Common.{◌≡◌, ℕ, ◌+◌, ◌-◌, ◌^◌, ◌<◌, ◌≤◌, Bool, true, false, not, ◌&&◌, cond, eqb, leb, List, [], ◌∷◌, ◌++◌, length, Option, Some, None, IsTrue, refl, ap, sym, ◌∙◌, subst, arith, append_assoc, append-nil}
+use Rattle.std.proofs.Common.{◌≡◌, ℕ, ◌+◌, ◌-◌, ◌^◌, ◌<◌, ◌≤◌, Bool, true, false, not, cond, eqb, List, [], ◌∷◌, ◌++◌, length, Option, Some, None, refl, ap, sym, ◌∙◌, subst, arith, append_assoc}
 use Rattle.std.specs.Prelude.{nat_le}
 use Rattle.std.specs.Option.{option_map, option_and_then}
 use Rattle.std.specs.List.{list_all, AllByRecursion}
 use Rattle.std.specs.Char.{is_ascii_digit}
 use Rattle.std.specs.Fmt.{decimal}
-use Rattle.std.specs.Str.{is_utf8}
 use Rattle.std.proofs.lemmas.Bool.{and_parts, and_from, both_ways}
 use Rattle.std.proofs.lemmas.Bool.Decides.{nat_tests}
 use Rattle.std.proofs.lemmas.Option.{same_Some, option_and_then_some}
 use Rattle.std.proofs.lemmas.Str.{IsUtf8-from_is_utf8}
 use Rattle.cool_words.specs.Words.{cut_at, with_front}
-use Rattle.sheet_cells.specs.declared.cells.CellRef.{CellRef}
-use Rattle.sheet_cells.specs.Cells.{IsCell, IsRaw, is_raw, is_raw_byte}
+use Rattle.sheet_cells.specs.Cells.{is_raw_byte}
 use Rattle.sheet_cells.specs.References.{is_letter}
 use Rattle.formula_base.specs.Ranges.{Place}
 use Rattle.part_calc.specs.Kept.{IsEntry}
 use Rattle.part_calc.specs.Text.{column_letters, reference_text, cell_line}
 use Rattle.sheet_calc.specs.Books.{place_of}
-use Rattle.sheet_file.specs.Lines.{in_front, lines_of, before_newline, plain_number, place_named, raw_written, Cell, cell_with, cell_by, cell_in, cell_of_text, cell_said}
-use Rattle.sheet_file.proofs.CutLaws.{IsCut, cut_is, cut_join, no_lines, line_step, text_cut}
+use Rattle.sheet_file.specs.Lines.{in_front, lines_of, before_newline, place_named, raw_written, Cell, cell_with, cell_by, cell_in, cell_of_text, cell_said}
+use Rattle.sheet_file.proofs.CutLaws.{cut_is, cut_join, no_lines, line_step, text_cut}
 use Rattle.sheet_file.proofs.LineLaws.{IsSaid, said_is, said_cell, raw_some}
-use Rattle.sheet_file.proofs.Words.{digits_of, plain_spelled, plain_written, IsCapitals, column_capitals, name_spelled, name_written, join_all}
+use Rattle.sheet_file.proofs.Words.{digits_of, plain_spelled, plain_written, column_capitals, name_spelled, name_written, join_all}
 
 -- a cell that a file can have a line of
 pub record IsWritable (parts : ℕ) (cell : Cell) : Type 0 where
@@ -57,7 +55,7 @@ weaker p q step (c ∷ xs) h =
     let parts = and_parts (p c) (list_all p xs) h in
     and_from (q c) (list_all q xs) (step c parts.0) (weaker p q step xs parts.1)
 
-digit_other : (c : ℕ) → is_ascii_digit c ≡ true → (not (eqb c 32) ≡ true) × (not (eqb c 10) ≡ true)
+pub digit_other : (c : ℕ) → is_ascii_digit c ≡ true → (not (eqb c 32) ≡ true) × (not (eqb c 10) ≡ true)
 digit_other c h = (grind (arith, nat_tests), grind (arith, nat_tests))
 
 letter_other : (c : ℕ) → is_letter c ≡ true → (not (eqb c 32) ≡ true) × (not (eqb c 10) ≡ true)
@@ -66,7 +64,7 @@ letter_other c h = (grind (arith, nat_tests), grind (arith, nat_tests))
 raw_other : (c : ℕ) → is_raw_byte c ≡ true → not (eqb c 10) ≡ true
 raw_other c h = grind (arith, nat_tests)
 
-digits_clean : (n byte : ℕ) → n < 2 ^ 64 → ((c : ℕ) → is_ascii_digit c ≡ true → not (eqb c byte) ≡ true) → list_all (λ c. not (eqb c byte)) (decimal n) ≡ true
+pub digits_clean : (n byte : ℕ) → n < 2 ^ 64 → ((c : ℕ) → is_ascii_digit c ≡ true → not (eqb c byte) ≡ true) → list_all (λ c. not (eqb c byte)) (decimal n) ≡ true
 digits_clean n byte small step = weaker is_ascii_digit (λ c. not (eqb c byte)) step (decimal n) (digits_of n small)
 
 name_clean : (p : Place) (byte : ℕ) → p.0 < 4096 → p.1 < 256 → ((c : ℕ) → is_ascii_digit c ≡ true → not (eqb c byte) ≡ true) → ((c : ℕ) → is_letter c ≡ true → not (eqb c byte) ≡ true) → list_all (λ c. not (eqb c byte)) (reference_text p) ≡ true
@@ -157,7 +155,7 @@ line_spelled cell parts line some few one h =
         let joined = (cut_is 10 line s.0 s.1 is).joined in
         record {
           spelled =
-            joined ∙ ap (λ (t : List ℕ). s.0 ++ 10 ∷ t) (one s.0 s.1 is) ∙ ap (λ (t : List ℕ). t ++ 10 ∷ []) (same ∙ text_spelled cell parts text few said) ∙ sym (line_split cell);
+              joined ∙ ap (λ (t : List ℕ). s.0 ++ 10 ∷ t) (one s.0 s.1 is) ∙ ap (λ (t : List ℕ). t ++ 10 ∷ []) (same ∙ text_spelled cell parts text few said) ∙ sym (line_split cell);
           writable = writable cell parts text some said;
         }
 

@@ -38,30 +38,90 @@ fn hostile_files(rt: HostRuntime) -> Result<(), Fail> {
         ("coolsheet 1\nparts 1\n", None),
         ("coolsheet 1\nparts 16\n15 IV4096 x\n", None),
         ("coolsheet 1\nparts 1\n\n", Some(BookFault::BadLine(3))),
-        ("coolsheet 1\nparts 1\n1 A1 x\n", Some(BookFault::BadLine(3))),
-        ("coolsheet 1\nparts 12\n00 A1 x\n", Some(BookFault::BadLine(3))),
-        ("coolsheet 1\nparts 1\n-0 A1 x\n", Some(BookFault::BadLine(3))),
-        ("coolsheet 1\nparts 1\n0 a1 x\n", Some(BookFault::BadLine(3))),
-        ("coolsheet 1\nparts 1\n0 IW1 x\n", Some(BookFault::BadLine(3))),
-        ("coolsheet 1\nparts 1\n0 A4097 x\n", Some(BookFault::BadLine(3))),
-        ("coolsheet 1\nparts 1\n0 A0 x\n", Some(BookFault::BadLine(3))),
-        ("coolsheet 1\nparts 1\n0 A01 x\n", Some(BookFault::BadLine(3))),
-        ("coolsheet 1\nparts 1\n0  A1 x\n", Some(BookFault::BadLine(3))),
+        (
+            "coolsheet 1\nparts 1\n1 A1 x\n",
+            Some(BookFault::BadLine(3)),
+        ),
+        (
+            "coolsheet 1\nparts 12\n00 A1 x\n",
+            Some(BookFault::BadLine(3)),
+        ),
+        (
+            "coolsheet 1\nparts 1\n-0 A1 x\n",
+            Some(BookFault::BadLine(3)),
+        ),
+        (
+            "coolsheet 1\nparts 1\n0 a1 x\n",
+            Some(BookFault::BadLine(3)),
+        ),
+        (
+            "coolsheet 1\nparts 1\n0 IW1 x\n",
+            Some(BookFault::BadLine(3)),
+        ),
+        (
+            "coolsheet 1\nparts 1\n0 A4097 x\n",
+            Some(BookFault::BadLine(3)),
+        ),
+        (
+            "coolsheet 1\nparts 1\n0 A0 x\n",
+            Some(BookFault::BadLine(3)),
+        ),
+        (
+            "coolsheet 1\nparts 1\n0 A01 x\n",
+            Some(BookFault::BadLine(3)),
+        ),
+        (
+            "coolsheet 1\nparts 1\n0  A1 x\n",
+            Some(BookFault::BadLine(3)),
+        ),
         (" coolsheet 1\nparts 1\n", Some(BookFault::NoHeader)),
-        ("coolsheet 1\nparts 1\n 0 A1 x\n", Some(BookFault::BadLine(3))),
+        (
+            "coolsheet 1\nparts 1\n 0 A1 x\n",
+            Some(BookFault::BadLine(3)),
+        ),
         ("coolsheet 1\nparts 1\n0 A1\n", Some(BookFault::BadLine(3))),
         ("coolsheet 1\nparts 1\n0 A1 \n", Some(BookFault::BadLine(3))),
         ("coolsheet 1\nparts 1\n0 A1 x", Some(BookFault::BadLine(3))),
-        ("coolsheet 1\nparts 1\n0 A1 x\r\n", Some(BookFault::BadLine(3))),
-        ("coolsheet 1\nparts 1\n0 A1 \t\n", Some(BookFault::BadLine(3))),
-        ("coolsheet 1\nparts 1\n0 A1 x\u{7f}\n", Some(BookFault::BadLine(3))),
-        ("coolsheet 1\nparts 1\n0 A1 x\n0 A1 x\n", Some(BookFault::OutOfOrder(4))),
-        ("coolsheet 1\nparts 1\n0 B1 x\n0 A1 y\n", Some(BookFault::OutOfOrder(4))),
-        ("coolsheet 1\nparts 1\n0 A2 x\n0 B1 y\n", Some(BookFault::OutOfOrder(4))),
-        ("coolsheet 1\nparts 2\n1 A1 x\n0 B9 y\n", Some(BookFault::OutOfOrder(4))),
-        ("coolsheet 1\nparts 1\n0 B1 x\n0 A1 y\nbad\n", Some(BookFault::OutOfOrder(4))),
-        ("coolsheet 1\nparts 1\n0 B1 x\n0 A1 \u{1}\n", Some(BookFault::BadLine(4))),
-        ("coolsheet 1\nparts 1\n0 A1 x\n0 B1 y\nbad", Some(BookFault::BadLine(5))),
+        (
+            "coolsheet 1\nparts 1\n0 A1 x\r\n",
+            Some(BookFault::BadLine(3)),
+        ),
+        (
+            "coolsheet 1\nparts 1\n0 A1 \t\n",
+            Some(BookFault::BadLine(3)),
+        ),
+        (
+            "coolsheet 1\nparts 1\n0 A1 x\u{7f}\n",
+            Some(BookFault::BadLine(3)),
+        ),
+        (
+            "coolsheet 1\nparts 1\n0 A1 x\n0 A1 x\n",
+            Some(BookFault::OutOfOrder(4)),
+        ),
+        (
+            "coolsheet 1\nparts 1\n0 B1 x\n0 A1 y\n",
+            Some(BookFault::OutOfOrder(4)),
+        ),
+        (
+            "coolsheet 1\nparts 1\n0 A2 x\n0 B1 y\n",
+            Some(BookFault::OutOfOrder(4)),
+        ),
+        (
+            "coolsheet 1\nparts 2\n1 A1 x\n0 B9 y\n",
+            Some(BookFault::OutOfOrder(4)),
+        ),
+        (
+            "coolsheet 1\nparts 1\n0 B1 x\n0 A1 y\nbad\n",
+            Some(BookFault::OutOfOrder(4)),
+        ),
+        (
+            "coolsheet 1\nparts 1\n0 B1 x\n0 A1 \u{1}\n",
+            Some(BookFault::BadLine(4)),
+        ),
+        (
+            "coolsheet 1\nparts 1\n0 A1 x\n0 B1 y\nbad",
+            Some(BookFault::BadLine(5)),
+        ),
     ];
     for (file, fault) in rows {
         assert_eq!(rt; fault_of(alloc, file.as_bytes()), fault, "{file:?}");
@@ -78,7 +138,10 @@ fn files_that_are_no_text(rt: HostRuntime) -> Result<(), Fail> {
     assert_eq!(rt; second, Some(BookFault::BadLine(2)));
     let name = fault_of(alloc, b"coolsheet 1\nparts 1\n0 A\xc31 x\n".as_slice());
     assert_eq!(rt; name, Some(BookFault::BadLine(3)));
-    let text = fault_of(alloc, b"coolsheet 1\nparts 1\n0 A1 x\n0 B1 \xc3\n".as_slice());
+    let text = fault_of(
+        alloc,
+        b"coolsheet 1\nparts 1\n0 A1 x\n0 B1 \xc3\n".as_slice(),
+    );
     assert_eq!(rt; text, Some(BookFault::BadLine(4)));
     let cut = fault_of(alloc, b"coolsheet 1\nparts 1\n0 A1 \xe2\x82\n".as_slice());
     assert_eq!(rt; cut, Some(BookFault::BadLine(3)));
@@ -101,13 +164,22 @@ fn longest_texts(rt: HostRuntime) -> Result<(), Fail> {
     let longest = file_of_one(alloc, 1024)?;
     assert_eq!(rt; fault_of(alloc, longest.as_slice()), None);
     let longer = file_of_one(alloc, 1025)?;
-    assert_eq!(rt; fault_of(alloc, longer.as_slice()), Some(BookFault::BadLine(3)));
+    assert_eq!(rt;
+        fault_of(alloc, longer.as_slice()),
+        Some(BookFault::BadLine(3))
+    );
     let largest = file_of_one(alloc, 2_097_152 - 26)?;
     assert_eq!(rt; largest.len(), 2_097_152);
-    assert_eq!(rt; fault_of(alloc, largest.as_slice()), Some(BookFault::BadLine(3)));
+    assert_eq!(rt;
+        fault_of(alloc, largest.as_slice()),
+        Some(BookFault::BadLine(3))
+    );
     let larger = file_of_one(alloc, 2_097_153 - 26)?;
     assert_eq!(rt; larger.len(), 2_097_153);
-    assert_eq!(rt; fault_of(alloc, larger.as_slice()), Some(BookFault::TooLarge));
+    assert_eq!(rt;
+        fault_of(alloc, larger.as_slice()),
+        Some(BookFault::TooLarge)
+    );
     Ok(())
 }
 
@@ -140,11 +212,15 @@ fn no_bytes_are_one_empty_part(rt: HostRuntime) -> Result<(), Fail> {
 #[test]
 fn a_file_is_read_and_written(rt: HostRuntime) -> Result<(), Fail> {
     let alloc = rt.alloc();
-    let text = "coolsheet 1\nparts 2\n0 A1 6\n0 Z1 =A1*7\n0 AA1  gr\u{fc}\u{df}e \u{20ac}\n0 A12 x\n1 IV4096 =IV4095\n";
+    let text =
+        "coolsheet 1\nparts 2\n0 A1 6\n0 Z1 =A1*7\n0 AA1  gr\u{fc}\u{df}e \u{20ac}\n0 A12 x\n1 IV4096 =IV4095\n";
     let book = read_book(alloc, text.as_bytes())?;
     assert_eq!(rt; book.parts(), 2);
     assert_eq!(rt; book.shown(&cell(&rt, &book, 0, 0, 25)), "42");
-    assert_eq!(rt; book.raw(&cell(&rt, &book, 0, 0, 26)), " gr\u{fc}\u{df}e \u{20ac}");
+    assert_eq!(rt;
+        book.raw(&cell(&rt, &book, 0, 0, 26)),
+        " gr\u{fc}\u{df}e \u{20ac}"
+    );
     assert_eq!(rt; book.shown(&cell(&rt, &book, 1, 4095, 255)), "0");
     let file = written(&rt, alloc, &book)?;
     assert_eq!(rt; file.as_slice(), text.as_bytes());
