@@ -1,5 +1,5 @@
 -- How long the lines of a part are.
-use Rattle.std.proofs.Common.{◌≡◌, ℕ, suc, ◌+◌, ◌*◌, ◌/◌, ◌%◌, ◌^◌, ◌<◌, ◌≤◌, Bool, true, false, cond, List, [], ◌∷◌, length, map, leb, refl, ap, sym, ◌∙◌, arith, length-append}
+use Rattle.std.proofs.Common.{◌≡◌, ℕ, suc, ◌+◌, ◌*◌, ◌/◌, ◌%◌, ◌^◌, ◌<◌, ◌≤◌, Bool, true, false, cond, List, [], ◌∷◌, ◌++◌, length, map, leb, refl, ap, sym, ◌∙◌, subst, arith, append_assoc, append-nil, length-append}
 use Rattle.std.specs.Prelude.{nat_lt}
 use Rattle.std.specs.Fmt.{decimal}
 use Rattle.std.specs.List.{flat_map, list_all, AllByRecursion}
@@ -62,9 +62,25 @@ unfolding part_lines
 lines_end part total s all told none =
     let e : length (flat_map (cell_line part) s) ≡ 0 = ap (λ (u : Part). length (flat_map (cell_line part) u)) none in omega (arith, told, e)
 
+-- ---- lines that are written
+
+pub written_turn : (part : ℕ) (e : Place × List ℕ) (s t : Part) (out more all : List ℕ) → out ++ part_lines part s ≡ all → s ≡ e ∷ t → more ≡ out ++ cell_line part e → more ++ part_lines part t ≡ all
+unfolding part_lines
+written_turn part e s t out more all told is line =
+    ap (λ (bytes : List ℕ). bytes ++ flat_map (cell_line part) t) line
+    ∙ append_assoc out (cell_line part e) (flat_map (cell_line part) t)
+    ∙ ap (λ (u : Part). out ++ flat_map (cell_line part) u) (sym is) ∙ told
+
+pub written_end : (part : ℕ) (s : Part) (out all : List ℕ) → out ++ part_lines part s ≡ all → s ≡ [] → out ≡ all
+unfolding part_lines
+written_end part s out all told none = sym (append-nil out) ∙ ap (λ (u : Part). out ++ flat_map (cell_line part) u) (sym none) ∙ told
+
+pub written_left : (e : Place × List ℕ) (s t : Part) → AllByRecursion IsEntry s → s ≡ e ∷ t → IsEntry e × AllByRecursion IsEntry t
+written_left e s t all is = subst (AllByRecursion IsEntry) is all
+
 -- ---- how long they can be
 
-short_raw : (raw : List ℕ) → IsRaw raw → length raw ≤ 1024
+pub short_raw : (raw : List ℕ) → IsRaw raw → length raw ≤ 1024
 short_raw raw valid = leb-true (length raw) 1024 (and_parts (leb (length raw) 1024) (list_all is_raw_byte raw) valid).0
 
 two : (b : Bool) → cond b 1 2 ≤ 2
@@ -92,13 +108,13 @@ lines_bound part (e ∷ cells) h all =
 
 -- ---- how many cells there can be
 
-below_from_less : (a b : ℕ) → nat_cmp a b ≡ Less → a < b
+pub below_from_less : (a b : ℕ) → nat_cmp a b ≡ Less → a < b
 below_from_less a b h =
     let le = le_from_not_gt a b (ap is_gt h) in
     let apart : a ≡ b → ⊥ = λ e. both_ways (is_eq (nat_cmp a b)) (ap is_eq h) (ap (λ (c : ℕ). is_eq (nat_cmp a c)) (sym e) ∙ (eq_by_cmp_equiv nat_cmp_total).refl a) in
     omega (arith, le, apart)
 
-less_from_below : (a b : ℕ) → a < b → nat_cmp a b ≡ Less
+pub less_from_below : (a b : ℕ) → a < b → nat_cmp a b ≡ Less
 less_from_below a b h = by (nat_cmp a b) refl
   where
     by : (o : Ordering) → nat_cmp a b ≡ o → o ≡ Less

@@ -1,16 +1,18 @@
 //! `Part`: the cells of one part, with what they show.
-ghost use Rattle.std.specs.Prelude.{◌≡◌, ◌≢◌, ◌<◌, ◌^◌, ◌↔◌, [], length, IfOk, OnOk, OnErr};
+ghost use Rattle.std.specs.Prelude.{◌≡◌, ◌≢◌, ◌<◌, ◌^◌, ◌↔◌, ◌++◌, [], length, IfOk, OnOk, OnErr};
 ghost use Rattle.std.specs.List.{Contains};
 ghost use Rattle.std.specs.List.Sorted.{IsStrictlySortedBy};
 ghost use Rattle.std.specs.Map.{keys_of};
 ghost use Rattle.sheet_cells.specs.Cells.{IsRaw};
 ghost use Rattle.formula_base.specs.Ranges.{Place, place_cmp};
+ghost use Rattle.part_calc.specs.Kept.{IsPart, IsShown};
 ghost use Rattle.part_calc.specs.Parts.{text_at, with_text};
 ghost use Rattle.part_calc.specs.Shown.{shown_at, changed_cells};
 ghost use Rattle.part_calc.specs.Text.{part_lines};
 
 use crate::contents::Cell;
 use crate::lengths::lines_len;
+use crate::lines::write_lines;
 use crate::recalculation::{old_text, recalculate};
 use crate::shown::Shown;
 use cool_base::{ListOf, Memory};
@@ -45,12 +47,22 @@ impl Model for Part {
 impl Part {
     /// A part whose cells are all empty.
     pub fn new(alloc: Global) -> Part
-        ensures { result ≡ [] }
+        ensures none { result ≡ [] }
+        ensures kept { IsPart result }
     {
         Part {
             cells: BTreeMap::new(alloc),
             shown: BTreeMap::new(alloc),
         }
+    }
+
+    // The part of these cells, where `shown` is what their formulas show.
+    pub(crate) fn of(cells: BTreeMap<(u32, u32), Cell>, shown: Shown) -> Part
+        requires cells { IsPart cells.entries }
+        requires shown { IsShown cells.entries shown.entries }
+        ensures { result ≡ cells.entries }
+    {
+        Part { cells, shown }
     }
 
     /// Gives the cell the raw text, and answers the cells whose shown text differs from what it was.
@@ -70,6 +82,7 @@ impl Part {
         ensures changed { IfOk result (λ changed. changed ≡ changed_cells self.old (with_text self.old at raw.now)) }
         ensures exactly { IfOk result (λ changed. (p : Place) → Contains changed p ↔ (shown_at self.old p ≢ shown_at self.new p)) }
         ensures in_order { IfOk result (λ changed. IsStrictlySortedBy place_cmp changed) }
+        ensures kept { OnOk result (IsPart self.new) }
         ensures err { OnErr result (self.new ≡ self.old) }
     {
         let cell = Cell::of(alloc, raw)?;
@@ -106,11 +119,22 @@ impl Part {
     {
         lines_len(&self.cells, number)
     }
+
+    /// Adds the part's lines in the text of a file, as those of the part of this number.
+    pub fn write_lines(&self, number: u32, out: &mut Vec<u8>) -> Result<(), Memory>
+        ensures { OnOk result (out.new.items ≡ out.old.items ++ part_lines number self.now) }
+    {
+        write_lines(&self.cells, number, out)
+    }
 }
 
 // Gives the cell a text, or takes it out where the text is empty. After `Memory` all is unchanged.
 #[tactic(auto, unfolding(crate::specs::Parts::with_text))]
-fn put(cells: &mut BTreeMap<(u32, u32), Cell>, at: (u32, u32), cell: Cell) -> Result<(), Memory>
+pub(crate) fn put(
+    cells: &mut BTreeMap<(u32, u32), Cell>,
+    at: (u32, u32),
+    cell: Cell,
+) -> Result<(), Memory>
     ensures ok { OnOk result (cells.new.entries ≡ with_text cells.old.entries at cell) }
     ensures ordered { OnOk result (IsStrictlySortedBy place_cmp (keys_of cells.new.entries)) }
     ensures err { OnErr result (cells.new.entries ≡ cells.old.entries) }
