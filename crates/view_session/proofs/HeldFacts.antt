@@ -1,22 +1,25 @@
 -- What a view keeps, from its slots, and what small changes leave of it.
-use Rattle.std.proofs.Common.{◌≡◌, ℕ, ◌+◌, ◌<◌, ◌≤◌, ◌^◌, Bool, true, false, not, ◌&&◌, ◌||◌, cond, List, [], ◌∷◌, ◌++◌, length, map, filter, find, Option, Some, None, refl, ap, sym, subst, ◌∙◌, nat_eq, arith}
+use Rattle.std.proofs.Common.{◌≡◌, ◌≢◌, ℕ, suc, ◌+◌, ◌<◌, ◌≤◌, ◌^◌, Bool, true, false, not, ◌&&◌, ◌||◌, cond, List, [], ◌∷◌, ◌++◌, length, map, filter, find, Option, Some, None, refl, ap, sym, subst, ◌∙◌, nat_eq, arith}
 use Rattle.std.specs.Prelude.{option_map}
 use Rattle.std.specs.List.{list_any, AllByRecursion}
 use Rattle.std.proofs.lemmas.Bool.Decides.{nat_tests}
-use Rattle.cool_base.specs.Points.{Rectangle}
-use Rattle.tile_key.specs.Places.{Place, Scale, is_zoom}
-use Rattle.tile_key.specs.Visible.{IsBefore, is_too_large}
+use Rattle.cool_base.specs.Points.{Rectangle, Extent}
+use Rattle.tile_key.specs.Places.{Place, Scale, IsKey, is_zoom, same_place}
+use Rattle.tile_key.specs.Visible.{IsBefore, is_too_large, visible_keys}
+use Rattle.document_machine.specs.Due.{asked_after}
 use Rattle.document_machine.specs.Keys.{is_among, Pairwise}
+use Rattle.document_machine.specs.Message.{asked_with_all}
 use Rattle.document_machine.specs.State.{Sent}
 use Rattle.document_machine.specs.declared.rights.Rights.{Rights}
-use Rattle.view_session.specs.Viewing.{Entry, Viewing, wants, is_due, hit, damaged, keys, uncurrent}
+use Rattle.document_machine.proofs.Lists.{filter_le}
+use Rattle.view_session.specs.Viewing.{Entry, Viewing, wants, is_due, hit, damaged, keys, uncurrent, cancels, asks, forgets, looks, zooms, goes_to, sent, screen_after}
 use Rattle.view_session.specs.Keeps.{IsViewing}
 use Rattle.view_session.specs.Slots.{keys_in, seen_in, with_shown, screen_in, slot_due, IsSlotted}
 use Rattle.view_session.specs.Moves.{hit_shown, hit_slot}
 use Rattle.view_session.specs.Held.{IsHeld}
 use Rattle.view_session.specs.declared.slots.Shown.{Shown}
 use Rattle.view_session.specs.declared.slots.Slot.{Slot}
-use Rattle.view_session.proofs.ListFacts.{all_keep, pairs_keep}
+use Rattle.view_session.proofs.ListFacts.{all_keep, all_join, all_from, pairs_keep, pairs_push}
 use Rattle.view_session.proofs.FindFacts.{Comes}
 use Rattle.view_session.proofs.SlotFacts.{Tells, entry_at, each_slot}
 use Rattle.view_session.proofs.DueFacts.{IsOf, tells_wants, all_due, find_keys, filter_keys, any_seen}
@@ -37,6 +40,9 @@ screen_order (slot ∷ slots) p =
       | None ↦ screen_order slots p.1
       | Some shown ↦ (all_shown (IsBefore slot.key) slots p.0, screen_order slots p.1)
     ]
+
+few_kept : {X : Type 0} (p : X → Bool) (xs : List X) (n : ℕ) → length xs ≤ n → length (filter p xs) ≤ n
+few_kept p xs n le = let less : length (filter p xs) ≤ length xs = filter_le p xs in omega arith
 
 -- what every view keeps
 pub viewing_by : (v : Viewing) (slots : List Slot) → IsOf v slots → IsHeld v.zoom slots v.asked v.window v.next_wid → is_zoom v.zoom ≡ true → length v.window ≤ 64 → v.next_wid < 2 ^ 64 → IsViewing v
@@ -122,7 +128,7 @@ hit_length part rect old new e = ap length e ∙ count old
   where
     count : (slots : List Slot) → length (map (hit_slot part rect) slots) ≡ length slots
     count [] = refl
-    count (slot ∷ slots) = ap (λ n. n + 1) (count slots)
+    count (slot ∷ slots) = ap suc (count slots)
 
 and_true : (b : Bool) → b ≡ (b && true)
 and_true true = refl
@@ -178,9 +184,123 @@ module _ (rights : Rights) (part : ℕ) (zoom : Scale) (area : Rectangle) (slots
       let n : length v.asked ≡ length asked = ap (λ (w : Viewing). length w.asked) (sym is) in
       rw (n, not_none (length asked) some) (sym (and_false (not (list_any (is_due v) v.visible))))
 
+  pub whole_cancelled : (new : List Slot) (kept : List Place) → seen_in new ≡ seen_in slots → kept ≡ filter (is_among (seen_in slots)) asked → screen_in new ≡ filter (λ entry. is_among (seen_in slots) entry.key || is_among kept entry.key) (screen_in slots) → whole rights part zoom area new kept window next ≡ cancels v
+  whole_cancelled new kept seen kept_is screen =
+      let old : Viewing = whole rights part zoom area slots asked window next in
+      let step : whole rights part zoom area new kept window next ≡ cancels old =
+          λ i. record old { visible = seen i; asked = kept_is i; screen = (screen ∙ ap (λ (ks : List Place). filter (λ (entry : Entry). is_among (seen_in slots) entry.key || is_among ks entry.key) (screen_in slots)) kept_is) i } in
+      step ∙ ap cancels is
+
+  pub whole_asked : (new : List Slot) (now keys : List Place) → seen_in new ≡ seen_in slots → screen_in new ≡ screen_in slots → now ≡ asked_with_all asked keys → whole rights part zoom area new now window next ≡ asks keys v
+  whole_asked new now keys seen screen now_is =
+      let old : Viewing = whole rights part zoom area slots asked window next in
+      let step : whole rights part zoom area new now window next ≡ asks keys old = λ i. record old { visible = seen i; asked = now_is i; screen = screen i } in
+      step ∙ ap (asks keys) is
+
+  -- it sees these keys now, at another place
+  seeing : (part' : ℕ) (zoom' : Scale) (area' : Rectangle) (keys : List Place) → Viewing
+  seeing part' zoom' area' keys = forgets (record (whole rights part zoom area slots asked window next) { part = part'; zoom = zoom'; area = area'; visible = keys })
+
+  whole_seeing : (part' : ℕ) (zoom' : Scale) (area' : Rectangle) (new : List Slot) (keys seen_keys : List Place) → seen_in new ≡ keys → keys ≡ seen_keys → screen_in new ≡ filter (λ entry. is_among keys entry.key || is_among asked entry.key) (screen_in slots) → whole rights part' zoom' area' new asked window next ≡ seeing part' zoom' area' seen_keys
+  unfolding seeing
+  whole_seeing part' zoom' area' new keys seen_keys seen keys_are screen =
+      λ i. record {
+        rights = rights;
+        part = part';
+        zoom = zoom';
+        area = area';
+        visible = (seen ∙ keys_are) i;
+        asked = asked;
+        screen = (screen ∙ ap (λ (ks : List Place). filter (λ (entry : Entry). is_among ks entry.key || is_among asked entry.key) (screen_in slots)) keys_are) i;
+        window = window;
+        next_wid = next;
+      }
+
+  pub whole_looks : (size : Extent) (area' : Rectangle) (new : List Slot) (keys : List Place) → seen_in new ≡ keys → keys ≡ visible_keys part zoom area' size → screen_in new ≡ filter (λ entry. is_among keys entry.key || is_among asked entry.key) (screen_in slots) → whole rights part zoom area' new asked window next ≡ looks area' size v
+  unfolding seeing
+  whole_looks size area' new keys seen keys_are screen = whole_seeing part zoom area' new keys (visible_keys part zoom area' size) seen keys_are screen ∙ ap (looks area' size) is
+
+  pub whole_zooms : (size : Extent) (zoom' : Scale) (new : List Slot) (keys : List Place) → seen_in new ≡ keys → keys ≡ visible_keys part zoom' area size → screen_in new ≡ filter (λ entry. is_among keys entry.key || is_among asked entry.key) (screen_in slots) → whole rights part zoom' area new asked window next ≡ zooms zoom' size v
+  unfolding seeing
+  whole_zooms size zoom' new keys seen keys_are screen = whole_seeing part zoom' area new keys (visible_keys part zoom' area size) seen keys_are screen ∙ ap (zooms zoom' size) is
+
+  pub whole_goes : (size : Extent) (part' : ℕ) (new : List Slot) (keys : List Place) → seen_in new ≡ keys → keys ≡ visible_keys part' zoom area size → screen_in new ≡ filter (λ entry. is_among keys entry.key || is_among asked entry.key) (screen_in slots) → whole rights part' zoom area new asked window next ≡ goes_to part' size v
+  unfolding seeing
+  whole_goes size part' new keys seen keys_are screen = whole_seeing part' zoom area new keys (visible_keys part' zoom area size) seen keys_are screen ∙ ap (goes_to part' size) is
+
+  pub whole_sent : (key : Place) (version : ℕ) (current : Bool) (new : List Slot) (now : List Place) (window_new : List Sent) → seen_in new ≡ seen_in slots → now ≡ asked_after asked key current → screen_in new ≡ screen_after (screen_in slots) key version (not current) (is_among (seen_in slots) key || is_among now key) → window_new ≡ window ++ record { wid = next; key = key } ∷ [] → whole rights part zoom area new now window_new (next + 1) ≡ sent key version current v
+  whole_sent key version current new now window_new seen now_is screen window_is =
+      let old : Viewing = whole rights part zoom area slots asked window next in
+      let step : whole rights part zoom area new now window_new (next + 1) ≡ sent key version current old =
+          λ i. record {
+            rights = rights;
+            part = part;
+            zoom = zoom;
+            area = area;
+            visible = seen i;
+            asked = now_is i;
+            screen = (screen ∙ ap (λ (ks : List Place). screen_after (screen_in slots) key version (not current) (is_among (seen_in slots) key || is_among ks key)) now_is) i;
+            window = window_is i;
+            next_wid = next + 1;
+          } in
+      step ∙ ap (sent key version current) is
+
+  -- a key that is wanted, by the parts
+  pub whole_wants : (key : Place) → wants v key ≡ true → (is_among (seen_in slots) key || is_among asked key) ≡ true
+  whole_wants key w = ap (λ (x : Viewing). wants x key) is ∙ w
+
   pub whole_damaged : (p : ℕ) (rect : Rectangle) (new : List Slot) → new ≡ map (hit_slot p rect) slots → whole rights part zoom area new asked window next ≡ damaged p rect v
   whole_damaged p rect new e =
       let old : Viewing = whole rights part zoom area slots asked window next in
       let step : whole rights part zoom area new asked window next ≡ damaged p rect old =
           λ i. record old { visible = (ap seen_in e ∙ seen_hit p rect slots) i; screen = (ap screen_in e ∙ screen_hit p rect slots) i } in
       step ∙ ap (damaged p rect) is
+
+-- what is kept where the slots and the asked keys change
+pub held_cancelled : (zoom : Scale) (slots new : List Slot) (asked kept : List Place) (window : List Sent) (next : ℕ) → IsHeld zoom slots asked window next → IsSlotted new kept → seen_in new ≡ seen_in slots → kept ≡ filter (is_among (seen_in slots)) asked → IsHeld zoom new kept window next
+held_cancelled zoom slots new asked kept window next h k seen kept_is = record {
+  slotted = k;
+  seen = rw seen h.seen;
+  asked_keys = rw kept_is (all_keep IsKey (is_among (seen_in slots)) asked h.asked_keys);
+  asked_once = rw kept_is (pairs_keep (λ p q. p ≢ q) (is_among (seen_in slots)) asked h.asked_once);
+  asked_few = rw kept_is (few_kept (is_among (seen_in slots)) asked 1024 h.asked_few);
+  wids = h.wids;
+  wids_below = h.wids_below;
+}
+
+pub held_asked : (zoom : Scale) (slots new : List Slot) (asked now : List Place) (window : List Sent) (next : ℕ) → IsHeld zoom slots asked window next → IsSlotted new now → seen_in new ≡ seen_in slots → AllByRecursion IsKey now → Pairwise (λ p q. p ≢ q) now → length now ≤ 1024 → IsHeld zoom new now window next
+held_asked zoom slots new asked now window next h k seen form once few = record {
+  slotted = k;
+  seen = rw seen h.seen;
+  asked_keys = form;
+  asked_once = once;
+  asked_few = few;
+  wids = h.wids;
+  wids_below = h.wids_below;
+}
+
+pub held_seeing : (zoom zoom' : Scale) (slots new : List Slot) (keys asked : List Place) (window : List Sent) (next : ℕ) → IsHeld zoom slots asked window next → IsSlotted new asked → seen_in new ≡ keys → is_too_large zoom' (length keys) ≡ false → IsHeld zoom' new asked window next
+held_seeing zoom zoom' slots new keys asked window next h k seen small = record {
+  slotted = k;
+  seen = rw seen small;
+  asked_keys = h.asked_keys;
+  asked_once = h.asked_once;
+  asked_few = h.asked_few;
+  wids = h.wids;
+  wids_below = h.wids_below;
+}
+
+asked_rest : (P : List Place → Type 0) (asked : List Place) (key : Place) (ends : Bool) → P asked → P (filter (λ x. not (same_place x key)) asked) → P (asked_after asked key ends)
+asked_rest P asked key true a b = b
+asked_rest P asked key false a b = a
+
+pub held_sent : (zoom : Scale) (slots new : List Slot) (asked now : List Place) (window window_new : List Sent) (next : ℕ) (key : Place) (ends : Bool) → IsHeld zoom slots asked window next → IsSlotted new now → seen_in new ≡ seen_in slots → now ≡ asked_after asked key ends → window_new ≡ window ++ record { wid = next; key = key } ∷ [] → IsHeld zoom new now window_new (next + 1)
+held_sent zoom slots new asked now window window_new next key ends h k seen now_is window_is = record {
+  slotted = k;
+  seen = rw seen h.seen;
+  asked_keys = rw now_is (asked_rest (AllByRecursion IsKey) asked key ends h.asked_keys (all_keep IsKey (λ x. not (same_place x key)) asked h.asked_keys));
+  asked_once = rw now_is (asked_rest (Pairwise (λ p q. p ≢ q)) asked key ends h.asked_once (pairs_keep (λ p q. p ≢ q) (λ x. not (same_place x key)) asked h.asked_once));
+  asked_few = rw now_is (asked_rest (λ ks. length ks ≤ 1024) asked key ends h.asked_few (few_kept (λ x. not (same_place x key)) asked 1024 h.asked_few));
+  wids = rw window_is (pairs_push (λ (a b : Sent). a.wid < b.wid) window (record { wid = next; key = key }) h.wids h.wids_below);
+  wids_below = rw window_is (all_join (λ (tile : Sent). tile.wid < next + 1) window (record { wid = next; key = key } ∷ []) (all_from (λ (tile : Sent). tile.wid < next) (λ (tile : Sent). tile.wid < next + 1) window (λ tile lt. omega arith) h.wids_below) (omega arith, tt));
+}

@@ -6,3 +6,7 @@ pub mod DueFacts
 pub mod KeysFacts
 pub mod HeldFacts
 pub mod FreshFacts
+pub mod ShowFacts
+pub mod AskFacts
+pub mod CancelFacts
+pub mod SeeFacts

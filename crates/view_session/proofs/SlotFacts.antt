@@ -42,7 +42,7 @@ split_around front slot back slots order e =
 split_key : (slots : List Slot) (key other : Place) (front : List Slot) (slot : Slot) (back : List Slot) → other ≡ key → IsSplit slots other front slot back → IsSplit slots key front slot back
 split_key slots key other front slot back e s = subst (λ (k : Place). IsSplit slots k front slot back) e s
 
-cut_at : (slots : List Slot) (i : ℕ) (slot : Slot) → i < length slots → slot ≡ get_or slots i slot → slots ≡ take i slots ++ slot ∷ drop (suc i) slots
+pub cut_at : (slots : List Slot) (i : ℕ) (slot : Slot) → i < length slots → slot ≡ get_or slots i slot → slots ≡ take i slots ++ slot ∷ drop (suc i) slots
 cut_at [] i slot h e = absurd (omega arith)
 cut_at (s ∷ slots) zero slot h e = ap (λ t. t ∷ slots) (sym e)
 cut_at (s ∷ slots) (suc i) slot h e = ap (λ ss. s ∷ ss) (cut_at slots i slot (omega arith) e)
@@ -137,6 +137,19 @@ screen_here slot back a =
       | None ↦ screen_none slot.key back a
       | Some shown ↦ rw (same_self slot.key) refl
     ]
+
+seen_split_front : (front : List Slot) (slot : Slot) (back slots : List Slot) → IsSplit slots slot.key front slot back → is_among (seen_in slots) slot.key ≡ slot.visible
+seen_split_front front slot back slots s =
+    rw s.is (seen_skip slot.key (slot ∷ back) front (others_before slot.key front s.before) ∙ seen_here slot back (others_after slot.key back s.after))
+
+-- whether the key of a slot is seen
+pub seen_of_split : (slots : List Slot) (key : Place) (front : List Slot) (slot : Slot) (back : List Slot) → IsSplit slots key front slot back → is_among (seen_in slots) key ≡ slot.visible
+seen_of_split slots key front slot back s =
+    let mine : IsSplit slots slot.key front slot back = subst (λ (p : Place). IsSplit slots p front slot back) (sym s.here) s in
+    subst (λ (p : Place). is_among (seen_in slots) p ≡ slot.visible) s.here (seen_split_front front slot back slots mine)
+
+pub seen_of_others : (slots : List Slot) (key : Place) → Others key slots → is_among (seen_in slots) key ≡ false
+seen_of_others slots key off = seen_none key slots off
 
 tells_front : (front : List Slot) (slot : Slot) (back : List Slot) (slots : List Slot) (asked : List Place) → IsSlotted slots asked → IsSplit slots slot.key front slot back → Tells slots asked slot.key slot
 tells_front front slot back slots asked k s =

@@ -31,7 +31,7 @@ pub(crate) struct Slot {
 }
 
 impl Slot {
-    ghost use Rattle.std.specs.Prelude.{◌≡◌, option_map};
+    ghost use Rattle.std.specs.Prelude.{◌≡◌, ◌&&◌, ◌||◌, true, not, option_map, Some};
     ghost use Rattle.view_session.specs.Slots.{slot_due};
     ghost use Rattle.view_session.specs.Moves.{hit_slot};
 
@@ -58,6 +58,37 @@ impl Slot {
         match self.shown {
             Some(shown) => shown.stale,
             None => true,
+        }
+    }
+
+    // Whether the view sees or asks for the key.
+    fn is_needed(&self) -> bool
+        ensures { result ≡ (self.now.visible || self.now.asked) }
+    {
+        self.visible || self.asked
+    }
+
+    // The slot with this on the screen; where `ends`, the asking for it has ended.
+    fn showing(&self, shown: Shown, ends: bool) -> Slot
+        ensures { result ≡ record self.now { asked = self.now.asked && not ends; shown = Some shown } }
+    {
+        Slot {
+            key: self.key,
+            visible: self.visible,
+            asked: self.asked && !ends,
+            shown: Some(shown),
+        }
+    }
+
+    // The slot, marked as asked for.
+    fn asking(&self) -> Slot
+        ensures { result ≡ record self.now { asked = true } }
+    {
+        Slot {
+            key: self.key,
+            visible: self.visible,
+            asked: true,
+            shown: self.shown,
         }
     }
 
@@ -115,11 +146,12 @@ fn ask_one(slots: &mut Vec<Slot>, asked: &mut Vec<TileKey>, key: &TileKey) -> Re
     let _part = key.part();
     match find(slots.as_slice(), key) {
         Ok(i) => {
-            if slots[i].asked {
+            let slot = slots[i];
+            if slot.asked {
                 return Ok(());
             }
             asked.push(*key)?;
-            slots[i].asked = true;
+            slots[i] = slot.asking();
             Ok(())
         }
         Err(i) => {
@@ -166,15 +198,9 @@ pub(crate) fn show(slots: &mut Vec<Slot>, key: &TileKey, shown: Shown, ends: boo
     let Ok(i) = find(slots.as_slice(), key) else {
         return;
     };
-    let slot = slots[i];
-    let asked = slot.asked && !ends;
-    if slot.visible || asked {
-        slots[i] = Slot {
-            key: slot.key,
-            visible: slot.visible,
-            asked,
-            shown: Some(shown),
-        };
+    let slot = slots[i].showing(shown, ends);
+    if slot.is_needed() {
+        slots[i] = slot;
     } else {
         slots.remove(i);
     }
