@@ -85,6 +85,7 @@ screen_filter t p (slot ∷ slots) a =
 -- what cancelling leaves
 pub record IsCancelled (slots new : List Slot) (asked kept : List Place) : Type 0 where
   pub slotted : IsSlotted new kept
+  pub kept_are : kept ≡ filter (is_among (seen_in slots)) asked
   pub seen : seen_in new ≡ seen_in slots
   pub screen : screen_in new ≡ filter (λ entry. is_among (seen_in slots) entry.key || is_among kept entry.key) (screen_in slots)
 
@@ -105,6 +106,7 @@ only_seen slots asked k = record {
     held = all_kept (λ key. is_among (keys_in (filter (λ slot. slot.visible) slots)) key ≡ true) (is_among (seen_in slots)) asked
     (all_of (λ key. is_among (seen_in slots) key ≡ true → is_among (keys_in (filter (λ slot. slot.visible) slots)) key ≡ true) asked (λ key there. rw (keys_filter slots) there));
   };
+  kept_are = refl;
   seen = seen_filter slots;
   screen = screen_filter (λ key. is_among (seen_in slots) key || is_among (filter (is_among (seen_in slots)) asked) key) (λ slot. slot.visible) slots
   (each_slot (λ slot. (is_among (seen_in slots) slot.key || is_among (filter (is_among (seen_in slots)) asked) slot.key) ≡ slot.visible) slots asked k

@@ -9,7 +9,7 @@ use Rattle.document_machine.specs.Keys.{is_among, Pairwise}
 use Rattle.document_machine.specs.Message.{asked_with, asked_with_all}
 use Rattle.view_session.specs.Viewing.{Entry, with_entry, screen_after}
 use Rattle.view_session.specs.Slots.{keys_in, seen_in, screen_in, with_shown, IsSlotted}
-use Rattle.view_session.specs.Moves.{seen_slot, shown_in}
+use Rattle.view_session.specs.Moves.{seen_slot, shown_in, shown_again}
 use Rattle.view_session.specs.declared.slots.Shown.{Shown}
 use Rattle.view_session.specs.declared.slots.Slot.{Slot}
 use Rattle.view_session.proofs.ListFacts.{all_keep, all_join, pairs_before}
@@ -51,7 +51,7 @@ pub record IsCopied (slots done : List Slot) (keys asked : List Place) : Type 0 
   pub screen : screen_in slots ≡ filter (is_wanted keys asked) (screen_in done)
 
 -- one more slot, with nothing on the screen
-pub copied_none : (slots old : List Slot) (keys asked : List Place) (i : ℕ) (slot : Slot) → IsCopied slots (take i old) keys asked → i < length old → slot ≡ get_or old i slot → slot.shown ≡ None → IsCopied slots (take (i + 1) old) keys asked
+copied_none : (slots old : List Slot) (keys asked : List Place) (i : ℕ) (slot : Slot) → IsCopied slots (take i old) keys asked → i < length old → slot ≡ get_or old i slot → slot.shown ≡ None → IsCopied slots (take (i + 1) old) keys asked
 copied_none slots old keys asked i slot c lt e none =
     let more : take (i + 1) old ≡ take i old ++ slot ∷ [] = take_more old i slot lt ∙ ap (λ (s : Slot). take i old ++ s ∷ []) (sym e) in
     let blank : screen_in (slot ∷ []) ≡ [] = rw none refl in
@@ -100,13 +100,22 @@ copied_other slots new old keys asked i slot shown c lt e some is off =
     })
 
 -- one more slot, with something on the screen
-pub copied_more : (slots new old : List Slot) (keys asked : List Place) (i : ℕ) (slot : Slot) (shown : Shown) → Pairwise Comes old → IsCopied slots (take i old) keys asked → i < length old → slot ≡ get_or old i slot → slot.shown ≡ Some shown → new ≡ shown_in slots slot.key shown false → IsCopied new (take (i + 1) old) keys asked
+copied_more : (slots new old : List Slot) (keys asked : List Place) (i : ℕ) (slot : Slot) (shown : Shown) → Pairwise Comes old → IsCopied slots (take i old) keys asked → i < length old → slot ≡ get_or old i slot → slot.shown ≡ Some shown → new ≡ shown_in slots slot.key shown false → IsCopied new (take (i + 1) old) keys asked
 copied_more slots new old keys asked i slot shown order c lt e some is =
     elim (where_is slots slot.key c.slotted.order) [
       | inl p ↦ let t : Tells slots asked slot.key p.slot = tells slots asked slot.key p.front p.slot p.back c.slotted p.split in
           copied_wanted slots new old keys asked i slot shown order c lt e some is (rw (t.seen, t.asking) t.needed)
       | inr off ↦ copied_other slots new old keys asked i slot shown c lt e some is off
     ]
+
+-- one more slot
+pub copied_step : (slots new old : List Slot) (keys asked : List Place) (i : ℕ) (slot : Slot) → Pairwise Comes old → IsCopied slots (take i old) keys asked → i < length old → slot ≡ get_or old i slot → new ≡ shown_again slots slot.key slot.shown → IsCopied new (take (i + 1) old) keys asked
+copied_step slots new old keys asked i slot order c lt e is =
+    let go : (o : Option Shown) → slot.shown ≡ o → new ≡ shown_again slots slot.key o → IsCopied new (take (i + 1) old) keys asked = elim [
+      | None ↦ λ none same. subst (λ (x : List Slot). IsCopied x (take (i + 1) old) keys asked) (sym same) (copied_none slots old keys asked i slot c lt e none)
+      | Some shown ↦ λ some same. copied_more slots new old keys asked i slot shown order c lt e some same
+    ] in
+    go slot.shown refl is
 
 -- ---- the asked keys once more
 

@@ -47,6 +47,11 @@ shown_in [] key shown ends = []
 shown_in (slot ∷ slots) key shown ends =
     if same_place slot.key key then show_slot slot shown ends slots else slot ∷ shown_in slots key shown ends
 
+-- the slots with what was on the screen of the key, where it was and the key has a slot
+abbrev pub shown_again : List Slot → Place → Option Shown → List Slot
+shown_again slots key None = slots
+shown_again slots key (Some shown) = shown_in slots key shown false
+
 -- what is shown of a key once a rectangle of a part was damaged
 abbrev pub hit_shown : (part : ℕ) → Rectangle → Place → Shown → Shown
 hit_shown part rect key shown = record shown { stale = shown.stale || (nat_eq part key.part && do_meet rect (rect_of_place key)) }

@@ -8,7 +8,7 @@ ghost use Rattle.document_machine.specs.Keys.{is_among, Pairwise};
 ghost use Rattle.document_machine.specs.Message.{asked_with_all};
 ghost use Rattle.document_machine.specs.Due.{asked_after};
 ghost use Rattle.view_session.specs.Slots.{keys_in, seen_in, screen_in, slot_due, IsSlotted};
-ghost use Rattle.view_session.specs.Moves.{IsAt, IsGap, IsAsked, seen_slot, shown_in, hit_slot};
+ghost use Rattle.view_session.specs.Moves.{IsAt, IsGap, IsAsked, seen_slot, shown_in, shown_again, hit_slot};
 
 use cool_base::{Memory, Rect, meets};
 use std::alloc::Global;
@@ -224,11 +224,20 @@ pub(crate) fn seeing(
     let mut again = Vec::new(alloc);
     ask_all(&mut slots, &mut again, asked)?;
     for slot in old {
-        if let Some(shown) = slot.shown {
-            show(&mut slots, &slot.key, shown, false);
-        }
+        show_again(&mut slots, slot);
     }
     Ok(slots)
+}
+
+/// What was on the screen of the slot's key is there again, where the key has a slot.
+fn show_again(slots: &mut Vec<Slot>, slot: &Slot)
+    requires { Pairwise (λ a b. IsBefore a.key b.key) slots.old.items }
+    ensures { slots.new.items ≡ shown_again slots.old.items slot.now.key slot.now.shown }
+{
+    let Some(shown) = slot.shown else {
+        return;
+    };
+    show(slots, &slot.key, shown, false);
 }
 
 /// Where `ends`, the asking for the key ends.
