@@ -1,18 +1,17 @@
 -- What changes in a list of slots where a key is asked for.
-use Rattle.std.proofs.Common.{◌≡◌, ◌≢◌, ℕ, zero, suc, ◌+◌, ◌<◌, ◌≤◌, Bool, true, false, not, ◌&&◌, ◌||◌, cond, List, [], ◌∷◌, ◌++◌, length, take, drop, set, get_or, Option, Some, None, refl, ap, sym, subst, ◌∙◌}
+use Rattle.std.proofs.Common.{◌≡◌, ◌≢◌, ℕ, suc, Bool, true, false, ◌||◌, cond, List, [], ◌∷◌, ◌++◌, take, drop, set, get_or, refl, ap, sym, subst, ◌∙◌}
 use Rattle.std.specs.List.{AllByRecursion, insert}
 use Rattle.std.proofs.lemmas.List.{take-append-drop}
-use Rattle.tile_key.specs.Places.{Place, IsKey, same_place}
+use Rattle.tile_key.specs.Places.{Place, same_place}
 use Rattle.tile_key.specs.Visible.{IsBefore}
 use Rattle.document_machine.specs.Keys.{is_among, Pairwise}
 use Rattle.document_machine.specs.Message.{asked_with, asked_with_all}
-use Rattle.document_machine.proofs.Lists.{same_self, holds_among}
+use Rattle.document_machine.proofs.Lists.{same_self}
 use Rattle.view_session.specs.Slots.{keys_in, seen_in, screen_in, with_shown, IsSlotted}
 use Rattle.view_session.specs.Moves.{IsAt, IsGap, IsAsked, asked_slot}
-use Rattle.view_session.specs.declared.slots.Shown.{Shown}
 use Rattle.view_session.specs.declared.slots.Slot.{Slot}
 use Rattle.view_session.proofs.ListFacts.{all_join, all_left, all_right, all_swap, all_in, all_both, all_from, pairs_swap, pairs_in, pairs_push}
-use Rattle.view_session.proofs.OrderFacts.{same_is, same_swap}
+use Rattle.view_session.proofs.OrderFacts.{same_swap}
 use Rattle.view_session.proofs.FindFacts.{Comes}
 use Rattle.view_session.proofs.SlotFacts.{IsSplit, Others, Tells, TellsNone, others_before, others_after, at_split, gap_others, tells, tells_none}
 use Rattle.view_session.proofs.ShowFacts.{keys_mid, seen_mid, set_cut}
@@ -84,8 +83,8 @@ mark_here front slot back asked k before after fresh there = record {
     order = pairs_swap Comes front slot (record slot { asked = true }) back (λ z h. h) (λ z h. h) k.order;
     needed = all_swap (λ s. (s.visible || s.asked) ≡ true) front slot (record slot { asked = true }) back (λ h. or_true slot.visible) k.needed;
     marks = all_join (λ s. s.asked ≡ is_among (asked ++ slot.key ∷ []) s.key) front (record slot { asked = true } ∷ back)
-    (marks_push asked slot.key front (others_before slot.key front before) (all_left (λ s. s.asked ≡ is_among asked s.key) front (slot ∷ back) k.marks))
-    (sym (among_last asked slot.key), marks_push asked slot.key back (others_after slot.key back after) (all_right (λ s. s.asked ≡ is_among asked s.key) front (slot ∷ back) k.marks).1);
+        (marks_push asked slot.key front (others_before slot.key front before) (all_left (λ s. s.asked ≡ is_among asked s.key) front (slot ∷ back) k.marks))
+        (sym (among_last asked slot.key), marks_push asked slot.key back (others_after slot.key back after) (all_right (λ s. s.asked ≡ is_among asked s.key) front (slot ∷ back) k.marks).1);
     held = rw (keys_mid slot true slot.shown back front) (all_join (λ key. is_among (keys_in (front ++ slot ∷ back)) key ≡ true) asked (slot.key ∷ []) k.held (there, tt));
   };
   seen = seen_mid slot true slot.shown back front;
@@ -124,10 +123,10 @@ gap_marked front back asked key k before after fresh = record {
     order = pairs_in Comes front (asked_slot key) back before after k.order;
     needed = all_in (λ s. (s.visible || s.asked) ≡ true) front (asked_slot key) back refl k.needed;
     marks = all_in (λ s. s.asked ≡ is_among (asked ++ key ∷ []) s.key) front (asked_slot key) back (sym (among_last asked key))
-    (marks_push asked key (front ++ back) (all_join (λ s. same_place s.key key ≡ false) front back (others_before key front before) (others_after key back after)) k.marks);
+        (marks_push asked key (front ++ back) (all_join (λ s. same_place s.key key ≡ false) front back (others_before key front before) (others_after key back after)) k.marks);
     held = all_join (λ p. is_among (keys_in (front ++ asked_slot key ∷ back)) p ≡ true) asked (key ∷ [])
-    (all_from (λ p. is_among (keys_in (front ++ back)) p ≡ true) (λ p. is_among (keys_in (front ++ asked_slot key ∷ back)) p ≡ true) asked (λ p h. keys_more key p back front h) k.held)
-    (keys_new key back front, tt);
+        (all_from (λ p. is_among (keys_in (front ++ back)) p ≡ true) (λ p. is_among (keys_in (front ++ asked_slot key ∷ back)) p ≡ true) asked (λ p h. keys_more key p back front h) k.held)
+        (keys_new key back front, tt);
   };
   seen = seen_in_gap key back front;
   screen = screen_in_gap key back front;
@@ -166,10 +165,3 @@ once_with asked key p =
 pub once_with_all : (keys asked : List Place) → Pairwise (λ p q. p ≢ q) asked → Pairwise (λ p q. p ≢ q) (asked_with_all asked keys)
 once_with_all [] asked p = p
 once_with_all (key ∷ keys) asked p = once_with_all keys (asked_with asked key) (once_with asked key p)
-
-pub form_with : (asked : List Place) (key : Place) → IsKey key → AllByRecursion IsKey asked → AllByRecursion IsKey (asked_with asked key)
-form_with asked key f a =
-    elim (is_among asked key) as (λ b. AllByRecursion IsKey (cond b asked (asked ++ key ∷ []))) [
-      | true ↦ a
-      | false ↦ all_join IsKey asked (key ∷ []) a (f, tt)
-    ]

@@ -1,5 +1,5 @@
 -- What stays where a view asks only for what it sees.
-use Rattle.std.proofs.Common.{◌≡◌, ℕ, Bool, true, false, not, ◌&&◌, ◌||◌, cond, List, [], ◌∷◌, ◌++◌, filter, get_or, Option, Some, None, refl, ap, sym, subst, ◌∙◌}
+use Rattle.std.proofs.Common.{◌≡◌, ℕ, Bool, true, false, ◌&&◌, ◌||◌, cond, List, [], ◌∷◌, filter, get_or, Option, Some, None, refl, ap, sym, subst, ◌∙◌}
 use Rattle.std.specs.List.{AllByRecursion}
 use Rattle.tile_key.specs.Places.{Place, same_place}
 use Rattle.document_machine.specs.Keys.{is_among, Pairwise}
@@ -11,7 +11,7 @@ use Rattle.view_session.specs.declared.slots.Slot.{Slot}
 use Rattle.view_session.proofs.ListFacts.{all_kept, pairs_keep}
 use Rattle.view_session.proofs.OrderFacts.{same_is}
 use Rattle.view_session.proofs.FindFacts.{Comes}
-use Rattle.view_session.proofs.SlotFacts.{IsSplit, Others, Tells, entry_at, seen_of_split, seen_of_others, at_split, gap_others, each_slot}
+use Rattle.view_session.proofs.SlotFacts.{entry_at, seen_of_split, seen_of_others, at_split, gap_others, each_slot}
 
 -- a search for what is seen, by the key's slot
 pub seen_at : (slots : List Slot) (key : Place) (i : ℕ) (slot : Slot) → Pairwise Comes slots → IsAt slots key i → slot ≡ get_or slots i slot → slot.visible ≡ is_among (seen_in slots) key
@@ -101,16 +101,16 @@ only_seen slots asked k = record {
     order = pairs_keep Comes (λ slot. slot.visible) slots k.order;
     needed = all_kept (λ slot. (slot.visible || slot.asked) ≡ true) (λ slot. slot.visible) slots (all_of (λ slot. slot.visible ≡ true → (slot.visible || slot.asked) ≡ true) slots (λ slot seen. rw seen refl));
     marks = all_kept (λ slot. slot.asked ≡ is_among (filter (is_among (seen_in slots)) asked) slot.key) (λ slot. slot.visible) slots
-    (each_slot (λ slot. slot.visible ≡ true → slot.asked ≡ is_among (filter (is_among (seen_in slots)) asked) slot.key) slots asked k
-    (λ slot t seen. sym (among_kept (is_among (seen_in slots)) asked slot.key ∙ rw (t.seen ∙ seen, t.asking) (and_true slot.asked))));
+        (each_slot (λ slot. slot.visible ≡ true → slot.asked ≡ is_among (filter (is_among (seen_in slots)) asked) slot.key) slots asked k
+        (λ slot t seen. sym (among_kept (is_among (seen_in slots)) asked slot.key ∙ rw (t.seen ∙ seen, t.asking) (and_true slot.asked))));
     held = all_kept (λ key. is_among (keys_in (filter (λ slot. slot.visible) slots)) key ≡ true) (is_among (seen_in slots)) asked
-    (all_of (λ key. is_among (seen_in slots) key ≡ true → is_among (keys_in (filter (λ slot. slot.visible) slots)) key ≡ true) asked (λ key there. rw (keys_filter slots) there));
+        (all_of (λ key. is_among (seen_in slots) key ≡ true → is_among (keys_in (filter (λ slot. slot.visible) slots)) key ≡ true) asked (λ key there. rw (keys_filter slots) there));
   };
   kept_are = refl;
   seen = seen_filter slots;
   screen = screen_filter (λ key. is_among (seen_in slots) key || is_among (filter (is_among (seen_in slots)) asked) key) (λ slot. slot.visible) slots
-  (each_slot (λ slot. (is_among (seen_in slots) slot.key || is_among (filter (is_among (seen_in slots)) asked) slot.key) ≡ slot.visible) slots asked k
-  (λ slot t. ap (λ b. is_among (seen_in slots) slot.key || b) (among_kept (is_among (seen_in slots)) asked slot.key) ∙ or_and (is_among asked slot.key) (is_among (seen_in slots) slot.key) ∙ t.seen));
+      (each_slot (λ slot. (is_among (seen_in slots) slot.key || is_among (filter (is_among (seen_in slots)) asked) slot.key) ≡ slot.visible) slots asked k
+      (λ slot t. ap (λ b. is_among (seen_in slots) slot.key || b) (among_kept (is_among (seen_in slots)) asked slot.key) ∙ or_and (is_among asked slot.key) (is_among (seen_in slots) slot.key) ∙ t.seen));
 }
 
 pub cancelled_by : (slots now new : List Slot) (asked kept : List Place) → IsSlotted slots asked → new ≡ filter (λ slot. slot.visible) slots → now ≡ new → kept ≡ filter (is_among (seen_in now)) asked → IsCancelled slots new asked kept

@@ -1,15 +1,15 @@
 -- What a view says of a key, by the key's slot.
-use Rattle.std.proofs.Common.{◌≡◌, ℕ, zero, arith, ◌<◌, Bool, true, false, not, ◌&&◌, ◌||◌, cond, List, [], ◌∷◌, ◌++◌, length, take, drop, map, filter, find, get_or, Option, Some, None, suc, refl, ap, sym, subst, ◌∙◌}
+use Rattle.std.proofs.Common.{◌≡◌, ℕ, zero, arith, ◌<◌, Bool, true, false, ◌&&◌, ◌||◌, cond, List, [], ◌∷◌, length, take, drop, filter, find, get_or, Option, Some, None, suc, refl, ap, subst}
 use Rattle.std.specs.Prelude.{option_map}
 use Rattle.std.specs.List.{list_any, AllByRecursion}
 use Rattle.tile_key.specs.Places.{Place}
-use Rattle.document_machine.specs.Keys.{is_among, Pairwise}
-use Rattle.view_session.specs.Viewing.{Entry, Viewing, entry_of, version_on, wants, is_lacking, is_due}
+use Rattle.document_machine.specs.Keys.{is_among}
+use Rattle.view_session.specs.Viewing.{Entry, Viewing, version_on, wants, is_lacking, is_due}
 use Rattle.view_session.specs.Slots.{keys_in, seen_in, screen_in, lacks, slot_due, IsSlotted}
 use Rattle.view_session.specs.Moves.{IsAt, IsGap}
 use Rattle.view_session.specs.declared.slots.Shown.{Shown}
 use Rattle.view_session.specs.declared.slots.Slot.{Slot}
-use Rattle.view_session.proofs.SlotFacts.{IsSplit, Tells, TellsNone, entry_at, tells, tells_none, at_split, gap_others, each_slot}
+use Rattle.view_session.proofs.SlotFacts.{Tells, TellsNone, entry_at, tells, tells_none, at_split, gap_others, each_slot}
 
 -- the lists of a view that are its slots
 pub record IsOf (v : Viewing) (slots : List Slot) : Type 0 where

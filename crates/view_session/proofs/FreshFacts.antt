@@ -1,5 +1,5 @@
 -- Slots of keys that are seen, with nothing on the screen, and a view as it joins.
-use Rattle.std.proofs.Common.{◌≡◌, ℕ, ◌≤◌, ◌||◌, Bool, true, false, List, [], ◌∷◌, length, map, refl, ap, sym, ◌∙◌, arith}
+use Rattle.std.proofs.Common.{◌≡◌, ◌||◌, Bool, true, false, List, [], ◌∷◌, length, map, refl, ap, ◌∙◌, arith}
 use Rattle.std.specs.List.{AllByRecursion}
 use Rattle.cool_base.specs.Points.{Extent}
 use Rattle.tile_key.specs.Places.{Place, Scale}
@@ -7,8 +7,8 @@ use Rattle.tile_key.specs.Visible.{IsBefore, visible_keys, is_too_large}
 use Rattle.document_machine.specs.Keys.{Pairwise}
 use Rattle.document_machine.specs.State.{Sent, first_zoom, no_area}
 use Rattle.document_machine.specs.declared.rights.Rights.{Rights}
-use Rattle.view_session.specs.Viewing.{Viewing, opening}
-use Rattle.view_session.specs.Slots.{keys_in, seen_in, screen_in, IsSlotted}
+use Rattle.view_session.specs.Viewing.{opening}
+use Rattle.view_session.specs.Slots.{seen_in, screen_in, IsSlotted}
 use Rattle.view_session.specs.Moves.{seen_slot}
 use Rattle.view_session.specs.Held.{IsHeld}
 use Rattle.view_session.specs.declared.slots.Slot.{Slot}

@@ -1,27 +1,24 @@
 -- What a view keeps, from its slots, and what small changes leave of it.
-use Rattle.std.proofs.Common.{◌≡◌, ◌≢◌, ℕ, suc, ◌+◌, ◌<◌, ◌≤◌, ◌^◌, Bool, true, false, not, ◌&&◌, ◌||◌, cond, List, [], ◌∷◌, ◌++◌, length, map, filter, find, Option, Some, None, refl, ap, sym, subst, ◌∙◌, nat_eq, arith}
+use Rattle.std.proofs.Common.{◌≡◌, ◌≢◌, ℕ, suc, ◌+◌, ◌<◌, ◌≤◌, ◌^◌, Bool, true, false, not, ◌&&◌, ◌||◌, cond, List, [], ◌∷◌, ◌++◌, length, map, filter, find, Some, None, refl, ap, sym, subst, ◌∙◌, nat_eq, arith}
 use Rattle.std.specs.Prelude.{option_map}
 use Rattle.std.specs.List.{list_any, AllByRecursion}
-use Rattle.std.proofs.lemmas.Bool.Decides.{nat_tests}
-use Rattle.cool_base.specs.Points.{Rectangle, Extent}
+use Rattle.cool_base.specs.Points.{Rectangle}
 use Rattle.tile_key.specs.Places.{Place, Scale, IsKey, is_zoom, same_place}
-use Rattle.tile_key.specs.Visible.{IsBefore, is_too_large, visible_keys}
+use Rattle.tile_key.specs.Visible.{IsBefore}
 use Rattle.document_machine.specs.Due.{asked_after}
 use Rattle.document_machine.specs.Keys.{is_among, Pairwise}
-use Rattle.document_machine.specs.Message.{asked_with_all}
 use Rattle.document_machine.specs.State.{Sent}
 use Rattle.document_machine.specs.declared.rights.Rights.{Rights}
 use Rattle.document_machine.proofs.Lists.{filter_le}
-use Rattle.view_session.specs.Viewing.{Entry, Viewing, wants, is_due, hit, damaged, keys, uncurrent, cancels, asks, forgets, looks, zooms, goes_to, sent, screen_after}
+use Rattle.view_session.specs.Viewing.{Entry, Viewing, wants, is_due, hit, damaged, keys, uncurrent, cancels, sent, screen_after}
 use Rattle.view_session.specs.Keeps.{IsViewing}
 use Rattle.view_session.specs.Slots.{keys_in, seen_in, with_shown, screen_in, slot_due, IsSlotted}
 use Rattle.view_session.specs.Moves.{hit_shown, hit_slot}
 use Rattle.view_session.specs.Held.{IsHeld}
-use Rattle.view_session.specs.declared.slots.Shown.{Shown}
 use Rattle.view_session.specs.declared.slots.Slot.{Slot}
 use Rattle.view_session.proofs.ListFacts.{all_keep, all_join, all_from, pairs_keep, pairs_push}
 use Rattle.view_session.proofs.FindFacts.{Comes}
-use Rattle.view_session.proofs.SlotFacts.{Tells, entry_at, each_slot}
+use Rattle.view_session.proofs.SlotFacts.{entry_at, each_slot}
 use Rattle.view_session.proofs.DueFacts.{IsOf, tells_wants, all_due, find_keys, filter_keys, any_seen}
 use Rattle.view_session.proofs.KeysFacts.{rising_seen, keys_are}
 
@@ -134,13 +131,6 @@ and_true : (b : Bool) → b ≡ (b && true)
 and_true true = refl
 and_true false = refl
 
-and_false : (b : Bool) → (b && false) ≡ false
-and_false true = refl
-and_false false = refl
-
-not_none : (n : ℕ) → 0 < n → nat_eq n 0 ≡ false
-not_none n h = grind (arith, nat_tests)
-
 -- the view that its parts are
 abbrev pub whole : Rights → ℕ → Scale → Rectangle → List Slot → List Place → List Sent → ℕ → Viewing
 whole rights part zoom area slots asked window next = record {
@@ -179,70 +169,28 @@ module _ (rights : Rights) (part : ℕ) (zoom : Scale) (area : Rectangle) (slots
       let n : length v.asked ≡ 0 = ap (λ (w : Viewing). length w.asked) (sym is) ∙ none in
       rw (e, n) (and_true (not (list_any (λ (slot : Slot). slot.visible && slot_due slot) slots)))
 
-  pub whole_waits : 0 < length asked → false ≡ (not (list_any (is_due v) v.visible) && nat_eq (length v.asked) 0)
-  whole_waits some =
-      let n : length v.asked ≡ length asked = ap (λ (w : Viewing). length w.asked) (sym is) in
-      rw (n, not_none (length asked) some) (sym (and_false (not (list_any (is_due v) v.visible))))
-
   pub whole_cancelled : (new : List Slot) (kept : List Place) → seen_in new ≡ seen_in slots → kept ≡ filter (is_among (seen_in slots)) asked → screen_in new ≡ filter (λ entry. is_among (seen_in slots) entry.key || is_among kept entry.key) (screen_in slots) → whole rights part zoom area new kept window next ≡ cancels v
   whole_cancelled new kept seen kept_is screen =
       let old : Viewing = whole rights part zoom area slots asked window next in
       let step : whole rights part zoom area new kept window next ≡ cancels old =
-          λ i. record old { visible = seen i; asked = kept_is i; screen = (screen ∙ ap (λ (ks : List Place). filter (λ (entry : Entry). is_among (seen_in slots) entry.key || is_among ks entry.key) (screen_in slots)) kept_is) i } in
+      λ i. record old { visible = seen i; asked = kept_is i; screen = (screen ∙ ap (λ (ks : List Place). filter (λ (entry : Entry). is_among (seen_in slots) entry.key || is_among ks entry.key) (screen_in slots)) kept_is) i } in
       step ∙ ap cancels is
-
-  pub whole_asked : (new : List Slot) (now keys : List Place) → seen_in new ≡ seen_in slots → screen_in new ≡ screen_in slots → now ≡ asked_with_all asked keys → whole rights part zoom area new now window next ≡ asks keys v
-  whole_asked new now keys seen screen now_is =
-      let old : Viewing = whole rights part zoom area slots asked window next in
-      let step : whole rights part zoom area new now window next ≡ asks keys old = λ i. record old { visible = seen i; asked = now_is i; screen = screen i } in
-      step ∙ ap (asks keys) is
-
-  -- it sees these keys now, at another place
-  seeing : (part' : ℕ) (zoom' : Scale) (area' : Rectangle) (keys : List Place) → Viewing
-  seeing part' zoom' area' keys = forgets (record (whole rights part zoom area slots asked window next) { part = part'; zoom = zoom'; area = area'; visible = keys })
-
-  whole_seeing : (part' : ℕ) (zoom' : Scale) (area' : Rectangle) (new : List Slot) (keys seen_keys : List Place) → seen_in new ≡ keys → keys ≡ seen_keys → screen_in new ≡ filter (λ entry. is_among keys entry.key || is_among asked entry.key) (screen_in slots) → whole rights part' zoom' area' new asked window next ≡ seeing part' zoom' area' seen_keys
-  unfolding seeing
-  whole_seeing part' zoom' area' new keys seen_keys seen keys_are screen =
-      λ i. record {
-        rights = rights;
-        part = part';
-        zoom = zoom';
-        area = area';
-        visible = (seen ∙ keys_are) i;
-        asked = asked;
-        screen = (screen ∙ ap (λ (ks : List Place). filter (λ (entry : Entry). is_among ks entry.key || is_among asked entry.key) (screen_in slots)) keys_are) i;
-        window = window;
-        next_wid = next;
-      }
-
-  pub whole_looks : (size : Extent) (area' : Rectangle) (new : List Slot) (keys : List Place) → seen_in new ≡ keys → keys ≡ visible_keys part zoom area' size → screen_in new ≡ filter (λ entry. is_among keys entry.key || is_among asked entry.key) (screen_in slots) → whole rights part zoom area' new asked window next ≡ looks area' size v
-  unfolding seeing
-  whole_looks size area' new keys seen keys_are screen = whole_seeing part zoom area' new keys (visible_keys part zoom area' size) seen keys_are screen ∙ ap (looks area' size) is
-
-  pub whole_zooms : (size : Extent) (zoom' : Scale) (new : List Slot) (keys : List Place) → seen_in new ≡ keys → keys ≡ visible_keys part zoom' area size → screen_in new ≡ filter (λ entry. is_among keys entry.key || is_among asked entry.key) (screen_in slots) → whole rights part zoom' area new asked window next ≡ zooms zoom' size v
-  unfolding seeing
-  whole_zooms size zoom' new keys seen keys_are screen = whole_seeing part zoom' area new keys (visible_keys part zoom' area size) seen keys_are screen ∙ ap (zooms zoom' size) is
-
-  pub whole_goes : (size : Extent) (part' : ℕ) (new : List Slot) (keys : List Place) → seen_in new ≡ keys → keys ≡ visible_keys part' zoom area size → screen_in new ≡ filter (λ entry. is_among keys entry.key || is_among asked entry.key) (screen_in slots) → whole rights part' zoom area new asked window next ≡ goes_to part' size v
-  unfolding seeing
-  whole_goes size part' new keys seen keys_are screen = whole_seeing part' zoom area new keys (visible_keys part' zoom area size) seen keys_are screen ∙ ap (goes_to part' size) is
 
   pub whole_sent : (key : Place) (version : ℕ) (current : Bool) (new : List Slot) (now : List Place) (window_new : List Sent) → seen_in new ≡ seen_in slots → now ≡ asked_after asked key current → screen_in new ≡ screen_after (screen_in slots) key version (not current) (is_among (seen_in slots) key || is_among now key) → window_new ≡ window ++ record { wid = next; key = key } ∷ [] → whole rights part zoom area new now window_new (next + 1) ≡ sent key version current v
   whole_sent key version current new now window_new seen now_is screen window_is =
       let old : Viewing = whole rights part zoom area slots asked window next in
       let step : whole rights part zoom area new now window_new (next + 1) ≡ sent key version current old =
-          λ i. record {
-            rights = rights;
-            part = part;
-            zoom = zoom;
-            area = area;
-            visible = seen i;
-            asked = now_is i;
-            screen = (screen ∙ ap (λ (ks : List Place). screen_after (screen_in slots) key version (not current) (is_among (seen_in slots) key || is_among ks key)) now_is) i;
-            window = window_is i;
-            next_wid = next + 1;
-          } in
+      λ i. record {
+        rights = rights;
+        part = part;
+        zoom = zoom;
+        area = area;
+        visible = seen i;
+        asked = now_is i;
+        screen = (screen ∙ ap (λ (ks : List Place). screen_after (screen_in slots) key version (not current) (is_among (seen_in slots) key || is_among ks key)) now_is) i;
+        window = window_is i;
+        next_wid = next + 1;
+      } in
       step ∙ ap (sent key version current) is
 
   -- a key that is wanted, by the parts
@@ -253,7 +201,7 @@ module _ (rights : Rights) (part : ℕ) (zoom : Scale) (area : Rectangle) (slots
   whole_damaged p rect new e =
       let old : Viewing = whole rights part zoom area slots asked window next in
       let step : whole rights part zoom area new asked window next ≡ damaged p rect old =
-          λ i. record old { visible = (ap seen_in e ∙ seen_hit p rect slots) i; screen = (ap screen_in e ∙ screen_hit p rect slots) i } in
+      λ i. record old { visible = (ap seen_in e ∙ seen_hit p rect slots) i; screen = (ap screen_in e ∙ screen_hit p rect slots) i } in
       step ∙ ap (damaged p rect) is
 
 -- what is kept where the slots and the asked keys change
@@ -275,17 +223,6 @@ held_asked zoom slots new asked now window next h k seen form once few = record 
   asked_keys = form;
   asked_once = once;
   asked_few = few;
-  wids = h.wids;
-  wids_below = h.wids_below;
-}
-
-pub held_seeing : (zoom zoom' : Scale) (slots new : List Slot) (keys asked : List Place) (window : List Sent) (next : ℕ) → IsHeld zoom slots asked window next → IsSlotted new asked → seen_in new ≡ keys → is_too_large zoom' (length keys) ≡ false → IsHeld zoom' new asked window next
-held_seeing zoom zoom' slots new keys asked window next h k seen small = record {
-  slotted = k;
-  seen = rw seen small;
-  asked_keys = h.asked_keys;
-  asked_once = h.asked_once;
-  asked_few = h.asked_few;
   wids = h.wids;
   wids_below = h.wids_below;
 }

@@ -1,7 +1,7 @@
 -- The keys of the slots are the asked keys put into those that are seen, in key order.
-use Rattle.std.proofs.Common.{◌≡◌, Bool, true, false, ◌||◌, cond, List, [], ◌∷◌, map, refl, ap, sym, subst, ◌∙◌, inl, inr}
+use Rattle.std.proofs.Common.{◌≡◌, Bool, true, false, ◌||◌, cond, List, [], ◌∷◌, refl, ap, sym, subst, ◌∙◌, inl, inr}
 use Rattle.std.specs.Prelude.{◌⊎◌}
-use Rattle.std.specs.List.{list_any, AllByRecursion}
+use Rattle.std.specs.List.{AllByRecursion}
 use Rattle.std.specs.Ordering.{is_lt}
 use Rattle.std.specs.declared.cmp.Ordering.{Ordering}
 use Rattle.std.specs.declared.cmp.Ordering.TheVariants.{Less, Equal, Greater}
@@ -12,9 +12,9 @@ use Rattle.document_machine.proofs.Lists.{same_self, holds_among}
 use Rattle.view_session.specs.Slots.{keys_in, seen_in, IsSlotted}
 use Rattle.view_session.specs.declared.slots.Slot.{Slot}
 use Rattle.view_session.proofs.ListFacts.{all_from, pairs_map}
-use Rattle.view_session.proofs.OrderFacts.{before_trans, not_back, forth, equal_is, same_is, apart, apart_back}
+use Rattle.view_session.proofs.OrderFacts.{before_trans, not_back, forth, equal_is, same_is, apart_back}
 use Rattle.view_session.proofs.FindFacts.{Comes}
-use Rattle.view_session.proofs.SlotFacts.{Place_in, Others, Tells, TellsNone, tells, tells_none, where_is}
+use Rattle.view_session.proofs.SlotFacts.{Tells, TellsNone, tells, tells_none, where_is}
 
 -- keys that a key comes before are others
 pub none_among : (keys : List Place) (key : Place) → AllByRecursion (IsBefore key) keys → is_among keys key ≡ false

@@ -1,5 +1,5 @@
 -- What holds of each element and of each pair of a list, after changes of the list.
-use Rattle.std.proofs.Common.{◌≡◌, ℕ, zero, suc, ◌+◌, ◌<◌, Bool, true, false, cond, List, [], ◌∷◌, ◌++◌, length, map, filter, get_or, AllPairs, refl, ap, sym, subst, ◌∙◌, arith}
+use Rattle.std.proofs.Common.{◌≡◌, ℕ, suc, ◌<◌, Bool, true, false, cond, List, [], ◌∷◌, ◌++◌, length, map, filter, get_or, AllPairs, refl, ap, sym, ◌∙◌, arith}
 use Rattle.std.specs.List.{AllByRecursion}
 use Rattle.document_machine.specs.Keys.{Pairwise}
 
@@ -89,10 +89,6 @@ module _ {X : Type 0} (R : X → X → Type 0) where
   pub pairs_after : (xs : List X) (x : X) (ys : List X) → Pairwise R (xs ++ x ∷ ys) → AllByRecursion (R x) ys
   pairs_after [] x ys p = p.0
   pairs_after (z ∷ xs) x ys p = pairs_after xs x ys p.1
-
-  pub pairs_left : (xs ys : List X) → Pairwise R (xs ++ ys) → Pairwise R xs
-  pairs_left [] ys p = tt
-  pairs_left (x ∷ xs) ys p = (all_left (R x) xs ys p.0, pairs_left xs ys p.1)
 
   pub pairs_swap : (xs : List X) (x y : X) (ys : List X) → ((z : X) → R z x → R z y) → ((z : X) → R x z → R y z) → Pairwise R (xs ++ x ∷ ys) → Pairwise R (xs ++ y ∷ ys)
   pairs_swap [] x y ys f g p = (all_from (R x) (R y) ys g p.0, p.1)

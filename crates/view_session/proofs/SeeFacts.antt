@@ -1,21 +1,20 @@
 -- Slots of other keys that are seen, with what of them was on the screen.
-use Rattle.std.proofs.Common.{◌≡◌, ◌≢◌, ℕ, zero, suc, ◌+◌, ◌<◌, ◌≤◌, Bool, true, false, not, ◌&&◌, ◌||◌, cond, List, [], ◌∷◌, ◌++◌, length, take, drop, map, filter, get_or, Option, Some, None, refl, ap, sym, subst, ◌∙◌, inl, inr, append_assoc, append-nil}
+use Rattle.std.proofs.Common.{◌≡◌, ◌≢◌, ℕ, suc, ◌+◌, ◌<◌, Bool, true, false, ◌||◌, cond, List, [], ◌∷◌, ◌++◌, length, take, drop, filter, get_or, Option, Some, None, refl, ap, sym, subst, ◌∙◌, inl, inr, append_assoc, append-nil}
 use Rattle.std.specs.List.{AllByRecursion}
-use Rattle.std.specs.Ordering.{is_lt}
 use Rattle.std.proofs.lemmas.List.{take_more}
 use Rattle.tile_key.specs.Places.{Place, same_place}
 use Rattle.tile_key.specs.Visible.{IsBefore}
 use Rattle.document_machine.specs.Keys.{is_among, Pairwise}
 use Rattle.document_machine.specs.Message.{asked_with, asked_with_all}
 use Rattle.view_session.specs.Viewing.{Entry, with_entry, screen_after}
-use Rattle.view_session.specs.Slots.{keys_in, seen_in, screen_in, with_shown, IsSlotted}
-use Rattle.view_session.specs.Moves.{seen_slot, shown_in, shown_again}
+use Rattle.view_session.specs.Slots.{seen_in, screen_in, with_shown, IsSlotted}
+use Rattle.view_session.specs.Moves.{shown_in, shown_again}
 use Rattle.view_session.specs.declared.slots.Shown.{Shown}
 use Rattle.view_session.specs.declared.slots.Slot.{Slot}
-use Rattle.view_session.proofs.ListFacts.{all_keep, all_join, pairs_before}
+use Rattle.view_session.proofs.ListFacts.{all_keep, pairs_before}
 use Rattle.view_session.proofs.OrderFacts.{same_is, not_back, apart_back}
 use Rattle.view_session.proofs.FindFacts.{Comes}
-use Rattle.view_session.proofs.SlotFacts.{Place_in, Others, Tells, TellsNone, entry_at, cut_at, tells, tells_none, where_is}
+use Rattle.view_session.proofs.SlotFacts.{Others, Tells, TellsNone, entry_at, cut_at, tells, tells_none, where_is}
 use Rattle.view_session.proofs.ShowFacts.{IsShown, shown_by, shown_none}
 use Rattle.view_session.proofs.HeldFacts.{all_shown}
 
@@ -81,10 +80,10 @@ copied_wanted slots new old keys asked i slot shown order c lt e some is wanted 
       slotted = s.slotted;
       seen = s.seen ∙ c.seen;
       screen = s.screen
-      ∙ ap (λ b. screen_after (screen_in slots) slot.key shown.version shown.stale b) wanted
-      ∙ ap (λ (es : List Entry). with_entry es slot.key shown.version shown.stale) c.screen
-      ∙ last_entry (filter (is_wanted keys asked) (screen_in (take i old))) slot.key shown.version shown.stale before
-      ∙ sym (screen_more old keys asked i slot shown true lt e some want);
+          ∙ ap (λ b. screen_after (screen_in slots) slot.key shown.version shown.stale b) wanted
+          ∙ ap (λ (es : List Entry). with_entry es slot.key shown.version shown.stale) c.screen
+          ∙ last_entry (filter (is_wanted keys asked) (screen_in (take i old))) slot.key shown.version shown.stale before
+          ∙ sym (screen_more old keys asked i slot shown true lt e some want);
     }
 
 copied_other : (slots new old : List Slot) (keys asked : List Place) (i : ℕ) (slot : Slot) (shown : Shown) → IsCopied slots (take i old) keys asked → i < length old → slot ≡ get_or old i slot → slot.shown ≡ Some shown → new ≡ shown_in slots slot.key shown false → Others slot.key slots → IsCopied new (take (i + 1) old) keys asked
@@ -150,11 +149,3 @@ asked_again asked p = asked_on asked [] p
 pub copied_first : (slots old : List Slot) (keys asked again : List Place) → Pairwise (λ p q. p ≢ q) asked → again ≡ asked_with_all [] asked → IsSlotted slots again → seen_in slots ≡ keys → screen_in slots ≡ [] → IsCopied slots (take 0 old) keys asked
 copied_first slots old keys asked again once is k seen blank =
     record { slotted = subst (λ (x : List Place). IsSlotted slots x) (is ∙ asked_again asked once) k; seen = seen; screen = blank }
-
--- and behind the last
-pub copied_all : (slots old : List Slot) (keys asked : List Place) (i : ℕ) → i ≡ length old → IsCopied slots (take i old) keys asked → IsCopied slots old keys asked
-copied_all slots old keys asked i e c = subst (λ (x : List Slot). IsCopied slots x keys asked) (ap (λ n. take n old) e ∙ whole_taken old) c
-  where
-    whole_taken : {X : Type 0} (xs : List X) → take (length xs) xs ≡ xs
-    whole_taken [] = refl
-    whole_taken (x ∷ xs) = ap (λ ys. x ∷ ys) (whole_taken xs)

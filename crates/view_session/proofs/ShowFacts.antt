@@ -1,8 +1,8 @@
 -- What changes in a list of slots where something of a key is on the screen from now on.
-use Rattle.std.proofs.Common.{◌≡◌, ℕ, zero, suc, ◌+◌, ◌<◌, ◌≤◌, Bool, true, false, not, ◌&&◌, ◌||◌, cond, List, [], ◌∷◌, ◌++◌, length, take, drop, map, filter, set, get_or, Option, Some, None, refl, ap, sym, subst, ◌∙◌, arith, inl, inr}
+use Rattle.std.proofs.Common.{◌≡◌, ℕ, zero, suc, ◌<◌, Bool, true, false, not, ◌&&◌, ◌||◌, cond, List, [], ◌∷◌, ◌++◌, length, take, drop, filter, set, get_or, Option, Some, None, refl, ap, sym, subst, ◌∙◌, arith, inl, inr}
 use Rattle.std.specs.List.{AllByRecursion, remove}
 use Rattle.std.specs.Ordering.{is_lt}
-use Rattle.tile_key.specs.Places.{Place, key_order, same_place}
+use Rattle.tile_key.specs.Places.{Place, same_place}
 use Rattle.tile_key.specs.Visible.{IsBefore}
 use Rattle.document_machine.specs.Due.{asked_after}
 use Rattle.document_machine.specs.Keys.{is_among, Pairwise}
@@ -12,10 +12,10 @@ use Rattle.view_session.specs.Slots.{keys_in, seen_in, with_shown, screen_in, Is
 use Rattle.view_session.specs.Moves.{IsAt, IsGap, show_slot, shown_in}
 use Rattle.view_session.specs.declared.slots.Shown.{Shown}
 use Rattle.view_session.specs.declared.slots.Slot.{Slot}
-use Rattle.view_session.proofs.ListFacts.{all_join, all_left, all_right, all_mid, all_swap, all_out, all_keep, all_kept, all_both, all_from, pairs_swap, pairs_out}
+use Rattle.view_session.proofs.ListFacts.{all_join, all_left, all_right, all_swap, all_out, all_keep, all_kept, all_both, all_from, pairs_swap, pairs_out}
 use Rattle.view_session.proofs.OrderFacts.{same_is, same_swap, not_back, not_self, apart_back}
 use Rattle.view_session.proofs.FindFacts.{Comes}
-use Rattle.view_session.proofs.SlotFacts.{Place_in, IsSplit, Others, Tells, TellsNone, entry_at, others_before, others_after, at_split, gap_others, tells, tells_none, where_is}
+use Rattle.view_session.proofs.SlotFacts.{IsSplit, Others, Tells, TellsNone, entry_at, others_before, others_after, at_split, gap_others, tells, tells_none, where_is}
 
 -- a slot with this on the screen
 abbrev pub showing : Slot → Shown → (ends : Bool) → Slot
@@ -200,8 +200,8 @@ module _ (front : List Slot) (slot : Slot) (back : List Slot) (asked : List Plac
     order = pairs_swap Comes front slot (record slot { asked = false; shown = Some shown }) back (λ z h. h) (λ z h. h) k.order;
     needed = all_swap (λ s. (s.visible || s.asked) ≡ true) front slot (record slot { asked = false; shown = Some shown }) back (λ h. rw seen refl) k.needed;
     marks = all_join (λ s. s.asked ≡ is_among (filter (λ x. not (same_place x slot.key)) asked) s.key) front (record slot { asked = false; shown = Some shown } ∷ back)
-    (marks_stay asked slot.key front (others_before slot.key front before) marks_front)
-    (sym (taken_out asked slot.key), marks_stay asked slot.key back (others_after slot.key back after) marks_back.1);
+        (marks_stay asked slot.key front (others_before slot.key front before) marks_front)
+        (sym (taken_out asked slot.key), marks_stay asked slot.key back (others_after slot.key back after) marks_back.1);
     held = rw (keys_mid slot false (Some shown) back front) (all_keep (λ key. is_among (keys_in (front ++ slot ∷ back)) key ≡ true) (λ x. not (same_place x slot.key)) asked k.held);
   }
 
@@ -211,11 +211,11 @@ module _ (front : List Slot) (slot : Slot) (back : List Slot) (asked : List Plac
     order = pairs_out Comes front slot back k.order;
     needed = all_out (λ s. (s.visible || s.asked) ≡ true) front slot back k.needed;
     marks = all_join (λ s. s.asked ≡ is_among (filter (λ x. not (same_place x slot.key)) asked) s.key) front back
-    (marks_stay asked slot.key front (others_before slot.key front before) marks_front)
-    (marks_stay asked slot.key back (others_after slot.key back after) marks_back.1);
+        (marks_stay asked slot.key front (others_before slot.key front before) marks_front)
+        (marks_stay asked slot.key back (others_after slot.key back after) marks_back.1);
     held = all_kept (λ key. is_among (keys_in (front ++ back)) key ≡ true) (λ x. not (same_place x slot.key)) asked
-    (all_from (λ key. is_among (keys_in (front ++ slot ∷ back)) key ≡ true) (λ key. not (same_place key slot.key) ≡ true → is_among (keys_in (front ++ back)) key ≡ true) asked
-    (λ key h passed. keys_out front slot back key (passed_off key slot.key passed) h) k.held);
+        (all_from (λ key. is_among (keys_in (front ++ slot ∷ back)) key ≡ true) (λ key. not (same_place key slot.key) ≡ true → is_among (keys_in (front ++ back)) key ≡ true) asked
+        (λ key h passed. keys_out front slot back key (passed_off key slot.key passed) h) k.held);
   }
 
 -- what the change says
@@ -272,7 +272,7 @@ shown_here front slot back slots asked shown ends k s =
     let told : Tells (front ++ slot ∷ back) asked slot.key slot = tells (front ++ slot ∷ back) asked slot.key front slot back mine again in
     let e : shown_in (front ++ slot ∷ back) slot.key shown ends ≡ front ++ show_slot slot shown ends back = shown_split front slot back slot.key shown ends (others_before slot.key front s.before) refl in
     let done : IsShown (front ++ slot ∷ back) (shown_in (front ++ slot ∷ back) slot.key shown ends) asked (asked_after asked slot.key ends) slot.key shown =
-        subst (λ (x : List Slot). IsShown (front ++ slot ∷ back) x asked (asked_after asked slot.key ends) slot.key shown) (sym e) (shown_both front slot back asked shown mine s.before s.after told ends) in
+    subst (λ (x : List Slot). IsShown (front ++ slot ∷ back) x asked (asked_after asked slot.key ends) slot.key shown) (sym e) (shown_both front slot back asked shown mine s.before s.after told ends) in
     subst (λ (x : List Slot). IsShown x (shown_in x slot.key shown ends) asked (asked_after asked slot.key ends) slot.key shown) (sym s.is) done
 
 at_split_shown : (slots : List Slot) (asked : List Place) (key : Place) (shown : Shown) (ends : Bool) (front : List Slot) (slot : Slot) (back : List Slot) → IsSlotted slots asked → IsSplit slots key front slot back → IsShown slots (shown_in slots key shown ends) asked (asked_after asked key ends) key shown

@@ -1,9 +1,8 @@
 -- How a view keeps what it sees, what it asks for and what is on its screen: one slot for each key, in key
 -- order.
-use Rattle.std.specs.Prelude.{◌≡◌, Bool, true, not, ◌&&◌, ◌||◌, List, [], ◌∷◌, map, Option, None, Some, if◌then◌else◌}
-use Rattle.std.specs.Ordering.{is_lt}
+use Rattle.std.specs.Prelude.{◌≡◌, Bool, true, ◌&&◌, ◌||◌, List, [], ◌∷◌, map, Option, None, Some, if◌then◌else◌}
 use Rattle.std.specs.List.{AllByRecursion}
-use Rattle.tile_key.specs.Places.{Place, key_order, same_place}
+use Rattle.tile_key.specs.Places.{Place}
 use Rattle.tile_key.specs.Visible.{IsBefore}
 use Rattle.document_machine.specs.Keys.{is_among, Pairwise}
 use Rattle.view_session.specs.Viewing.{Entry}

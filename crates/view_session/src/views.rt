@@ -8,7 +8,8 @@ ghost use Rattle.view_session.specs.Viewing.{opening, looks, zooms, goes_to, ask
 ghost use Rattle.view_session.specs.Keeps.{IsViewing};
 
 use crate::slots::{
-    Shown, Slot, ask_all, damage, due_keys, end_asking, find, first_due, keep_seen, keys, see, seeing, sees_due, show,
+    Shown, Slot, ask_all, damage, due_keys, end_asking, find, first_due, keep_seen, keys, see,
+    seeing, sees_due, show,
 };
 use cool_base::{Memory, Rect, Size, Wid, Wids};
 use document_machine::Rights;
@@ -203,7 +204,12 @@ impl View {
     {
         let alloc = *self.slots.allocator();
         let keys = visible(alloc, self.part, &self.zoom, area, size)?;
-        let slots = seeing(alloc, keys.as_slice(), self.asked.as_slice(), self.slots.as_slice())?;
+        let slots = seeing(
+            alloc,
+            keys.as_slice(),
+            self.asked.as_slice(),
+            self.slots.as_slice(),
+        )?;
         self.slots = slots;
         self.area = *area;
         Ok(())
@@ -219,7 +225,12 @@ impl View {
     {
         let alloc = *self.slots.allocator();
         let keys = visible(alloc, self.part, zoom, &self.area, size)?;
-        let slots = seeing(alloc, keys.as_slice(), self.asked.as_slice(), self.slots.as_slice())?;
+        let slots = seeing(
+            alloc,
+            keys.as_slice(),
+            self.asked.as_slice(),
+            self.slots.as_slice(),
+        )?;
         self.slots = slots;
         self.zoom = *zoom;
         Ok(())
@@ -234,7 +245,12 @@ impl View {
     {
         let alloc = *self.slots.allocator();
         let keys = visible(alloc, part, &self.zoom, &self.area, size)?;
-        let slots = seeing(alloc, keys.as_slice(), self.asked.as_slice(), self.slots.as_slice())?;
+        let slots = seeing(
+            alloc,
+            keys.as_slice(),
+            self.asked.as_slice(),
+            self.slots.as_slice(),
+        )?;
         self.slots = slots;
         self.part = part;
         Ok(())

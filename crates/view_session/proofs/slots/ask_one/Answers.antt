@@ -1,5 +1,4 @@
-use Rattle.std.proofs.Common.{refl}
-use Rattle.view_session.proofs.AskFacts.{ask_there, ask_found, ask_gap}
+use Rattle.view_session.proofs.AskFacts.{ask_found, ask_gap}
 use Rattle.view_session.proofs.slots.ask_one.Goals as goal
 
 pub returns-in_ok-push-in-Ok-clause-asked : goal.returns-in_ok-push-in-Ok-clause-asked

@@ -1,4 +1,4 @@
-use Rattle.std.proofs.Common.{List, sym, ap, ◌∙◌, arith}
+use Rattle.std.proofs.Common.{List, ap, ◌∙◌, arith}
 use Rattle.tile_key.specs.Places.{Place}
 use Rattle.document_machine.specs.Message.{asked_with_all}
 use Rattle.view_session.specs.Slots.{seen_in, screen_in}

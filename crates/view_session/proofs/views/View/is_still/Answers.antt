@@ -1,4 +1,4 @@
-use Rattle.std.proofs.Common.{List, not, ◌&&◌, ap, ◌∙◌, arith}
+use Rattle.std.proofs.Common.{not, ◌&&◌, ap, ◌∙◌, arith}
 use Rattle.std.specs.List.{list_any}
 use Rattle.view_session.specs.Slots.{slot_due}
 use Rattle.view_session.specs.declared.slots.Slot.{Slot}

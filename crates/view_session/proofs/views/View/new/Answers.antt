@@ -1,4 +1,4 @@
-use Rattle.std.proofs.Common.{◌≡◌, length, map, sym, ap, ◌∙◌}
+use Rattle.std.proofs.Common.{◌≡◌, length, map, ap, ◌∙◌}
 use Rattle.tile_key.specs.Visible.{IsBefore, is_too_large}
 use Rattle.document_machine.specs.State.{first_zoom}
 use Rattle.view_session.specs.Moves.{seen_slot}

@@ -1,12 +1,5 @@
-use Rattle.std.proofs.Common.{◌≡◌, false, List, filter, length, ◌||◌, ap, sym, ◌∙◌}
-use Rattle.tile_key.specs.Places.{Place}
-use Rattle.tile_key.specs.Visible.{IsBefore, is_too_large}
-use Rattle.document_machine.specs.Keys.{is_among}
-use Rattle.view_session.specs.Viewing.{Entry}
-use Rattle.view_session.specs.Slots.{seen_in, screen_in}
+use Rattle.tile_key.specs.Visible.{IsBefore}
 use Rattle.view_session.proofs.ListFacts.{pairs_by_index}
-use Rattle.view_session.proofs.FreshFacts.{not_large}
-use Rattle.view_session.proofs.HeldFacts.{held_seeing, whole_zooms}
 use Rattle.view_session.proofs.views.View.set_zoom.Goals as goal
 
 pub seeing-requires-clause-order : goal.seeing-requires-clause-order
