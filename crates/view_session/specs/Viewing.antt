@@ -1,5 +1,5 @@
 -- A view: what it sees and asks for, what is on its screen, what it has not acknowledged.
-use Rattle.std.specs.Prelude.{ℕ, ◌+◌, Bool, true, not, ◌&&◌, ◌||◌, nat_eq, List, [], ◌∷◌, ◌++◌, filter, map, length, Option, None, Some, option_map, if◌then◌else◌}
+use Rattle.std.specs.Prelude.{ℕ, ◌+◌, Bool, true, not, ◌&&◌, ◌||◌, nat_eq, List, [], ◌∷◌, ◌++◌, filter, map, Option, None, Some, option_map, if◌then◌else◌}
 use Rattle.std.specs.Ordering.{is_lt}
 use Rattle.cool_base.specs.Points.{Rectangle, Extent, do_meet}
 use Rattle.tile_key.specs.Places.{Place, Scale, rect_of_place, key_order, same_place}
