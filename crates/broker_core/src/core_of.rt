@@ -10,27 +10,28 @@ use cool_frame::Frame;
 use kit_trait::{Input, Kit, LoadFault};
 use std::alloc::Global;
 use std::marker::Model;
-use tile_key::Group;
+use tile_key::TileKey;
 
 /// Frames in the order in which they are given, each with the view that it goes to.
 pub(crate) type Frames = ListOf<(ViewId, Frame)>;
 
-/// The job that is out: its ticket, the number of inputs that its picture shows, its keys and its scene.
+/// The job that is out, of one key: its ticket, the number of inputs that its picture shows, its key and
+/// its scene.
 #[derive(Drop)]
 pub(crate) struct Job<S> {
     pub(crate) ticket: u64,
     pub(crate) number: u64,
-    pub(crate) group: Group,
+    pub(crate) key: TileKey,
     pub(crate) scene: S,
 }
 
 impl<S> Model for Job<S> {
-    ghost use Rattle.tile_key.specs.Places.{place_of_keys};
+    ghost use Rattle.std.specs.Prelude.{[], ◌∷◌};
     ghost use Rattle.document_machine.specs.State.{Job as Out};
 
     ghost Value = { Out S };
 
-    ghost view = { λ j. record { ticket = j.ticket; number = j.number; keys = j.group; area = place_of_keys j.group; scene = j.scene } };
+    ghost view = { λ j. record { ticket = j.ticket; number = j.number; keys = j.key ∷ []; area = j.key; scene = j.scene } };
 }
 
 /// A document: the kit holds it after `applied` of the accepted inputs. Its methods take it by value, so

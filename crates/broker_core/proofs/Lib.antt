@@ -1,0 +1,2 @@
+pub mod SeatPlaces
+pub mod Commute
