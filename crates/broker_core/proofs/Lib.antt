@@ -1,3 +1,5 @@
+pub mod SeatPlaces
+pub mod Commute
 pub mod Marks
 pub mod SeatWords
 pub mod Search
