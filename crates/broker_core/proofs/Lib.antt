@@ -3,3 +3,4 @@ pub mod Commute
 pub mod Marks
 pub mod SeatWords
 pub mod Search
+pub mod Steps

@@ -156,3 +156,7 @@ ids_all P hurt (seat ∷ seats) all = (all.0, ids_all P hurt seats all.1)
 pub ids_struck : (hurt : List Damage) (seats : List Seat) → Pairwise (λ a b. a.id < b.id) seats → Pairwise (λ a b. a.id < b.id) (map (struck_seat hurt) seats)
 ids_struck hurt [] pairs = tt
 ids_struck hurt (seat ∷ seats) pairs = (ids_all (λ id. seat.id < id) hurt seats pairs.0, ids_struck hurt seats pairs.1)
+
+pub count_struck : (hurt : List Damage) (seats : List Seat) → length (map (struck_seat hurt) seats) ≡ length seats
+count_struck hurt [] = refl
+count_struck hurt (seat ∷ seats) = ap suc (count_struck hurt seats)
