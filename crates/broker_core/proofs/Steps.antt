@@ -21,7 +21,7 @@ use Rattle.document_machine.specs.declared.outs.Outs.{Outs}
 use Rattle.document_machine.proofs.Journal.{doc_more}
 use Rattle.document_machine.proofs.Lists.{nat_eq_self, all_at}
 use Rattle.broker_core.specs.Held.{Seat, view_of, views_of, Holds, IsSeated, IsOut}
-use Rattle.broker_core.specs.Serving.{struck_seat}
+use Rattle.broker_core.specs.Serving.{struck_seat, job_of}
 use Rattle.broker_core.proofs.Marks.{damage_is, views_struck, all_struck, ids_all, ids_struck, count_struck}
 use Rattle.broker_core.proofs.Search.{next_wanted, next_owed, next_part}
 
@@ -106,10 +106,6 @@ place_alone key =
     let t : key.tilewidth ≡ sum_by (λ (q : Place). q.tilewidth) (key ∷ []) = omega arith in
     ap (λ (n : ℕ). record key { width = n }) w
     ∙ ap (λ (n : ℕ). record key { width = sum_by (λ (q : Place). q.width) (key ∷ []); tilewidth = n }) t
-
--- the job of one key
-abbrev pub job_of : {S : Type 0} → (ticket number : ℕ) → Place → S → Job S
-job_of ticket number key scene = record { ticket = ticket; number = number; keys = key ∷ []; area = key; scene = scene }
 
 -- the next pair's key is of one of the kit's parts
 pub part_by : {C B S : Type 0} (rules : Rules C B) (paints : S → Pixels) (IsSound : C → Type 0) (contents : C) (file base : List ℕ) (journal : List Input) (applied : ℕ) (seats : List Seat) (next_view : ℕ) (jobs : List (Job S)) (next_ticket : ℕ) (id : ℕ) (key : Place) (old : Document S)

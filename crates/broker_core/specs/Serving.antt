@@ -10,6 +10,7 @@ use Rattle.document_machine.specs.Due.{is_newer}
 use Rattle.document_machine.specs.Keys.{is_among}
 use Rattle.document_machine.specs.Next.{or_later}
 use Rattle.document_machine.specs.Outputs.{named}
+use Rattle.document_machine.specs.State.{Job}
 use Rattle.view_session.specs.Viewing.{Viewing, damaged, keys, is_due, version_on, sent}
 use Rattle.broker_core.specs.Held.{Seat}
 
@@ -52,3 +53,7 @@ frames_for key version rgba seat =
 -- a view's window is empty, no key that it sees is due, and it asks for nothing
 abbrev pub is_still : Viewing → Bool
 is_still v = nat_eq (length v.window) 0 && (not (list_any (is_due v) v.visible) && nat_eq (length v.asked) 0)
+
+-- the job of one key
+abbrev pub job_of : {S : Type 0} → (ticket number : ℕ) → Place → S → Job S
+job_of ticket number key scene = record { ticket = ticket; number = number; keys = key ∷ []; area = key; scene = scene }
