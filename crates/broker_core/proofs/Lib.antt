@@ -4,3 +4,4 @@ pub mod Marks
 pub mod SeatWords
 pub mod Search
 pub mod Steps
+pub mod Offers

@@ -1,5 +1,5 @@
 -- What a turn and a painted tile do to the seats, in the words of the views.
-use Rattle.std.specs.Prelude.{ℕ, Bool, true, not, ◌&&◌, nat_eq, nat_lt, List, [], ◌∷◌, length, find, Option, None, Some, if◌then◌else◌}
+use Rattle.std.specs.Prelude.{◌≡◌, ◌≢◌, ⊤, ℕ, Bool, true, not, ◌&&◌, nat_eq, nat_lt, List, [], ◌∷◌, length, find, Option, None, Some, if◌then◌else◌}
 use Rattle.std.specs.List.{list_any}
 use Rattle.cool_base.specs.declared.ids.ViewId.{ViewId}
 use Rattle.cool_frame.specs.declared.frame.Frame.{Frame}
@@ -57,3 +57,13 @@ is_still v = nat_eq (length v.window) 0 && (not (list_any (is_due v) v.visible) 
 -- the job of one key
 abbrev pub job_of : {S : Type 0} → (ticket number : ℕ) → Place → S → Job S
 job_of ticket number key scene = record { ticket = ticket; number = number; keys = key ∷ []; area = key; scene = scene }
+
+-- the job with a ticket is out and has this scene
+abbrev pub Awaits : {S : Type 0} → S → Option (Job S) → Type 0
+Awaits scene None = ⊥
+Awaits scene (Some job) = scene ≡ job.scene
+
+-- no job with the ticket is out, or it has another scene
+abbrev pub Ignores : {S : Type 0} → S → Option (Job S) → Type 0
+Ignores scene None = ⊤
+Ignores scene (Some job) = scene ≢ job.scene

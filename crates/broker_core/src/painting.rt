@@ -1,12 +1,10 @@
 //! A painted job comes back.
-ghost use Rattle.std.specs.Prelude.{◌≡◌, ◌≢◌, ◌++◌, true, false, map, None, IfOk, OnOk, IfSome};
+ghost use Rattle.std.specs.Prelude.{◌≡◌, ◌++◌, true, false, map, IfOk, OnOk};
 ghost use Rattle.std.specs.List.{flat_map, AllByRecursion};
-ghost use Rattle.std.specs.Option.{ForSome};
-ghost use Rattle.document_machine.specs.Outputs.{nothing};
 ghost use Rattle.document_machine.specs.State.{find_job};
 ghost use Rattle.document_machine.specs.Step.{Paints};
 ghost use Rattle.view_session.specs.Keeps.{IsViewing};
-ghost use Rattle.broker_core.specs.Serving.{takes, offered, frames_for};
+ghost use Rattle.broker_core.specs.Serving.{takes, offered, frames_for, Awaits, Ignores};
 
 use crate::applying::frames_only;
 use crate::core_of::{Core, Frames};
@@ -107,8 +105,8 @@ fn offer(
 impl<K: Kit> Core<K> {
     /// Whether the job that is out is the one that was painted.
     fn awaits(&self, done: &Done<K::Scene>) -> bool
-        ensures yes { result ≡ true → ForSome (find_job self.now.jobs done.now.ticket.0) (λ job. done.now.scene ≡ job.scene) }
-        ensures no { result ≡ false → IfSome (find_job self.now.jobs done.now.ticket.0) (λ job. done.now.scene ≢ job.scene) }
+        ensures yes { result ≡ true → Awaits done.now.scene (find_job self.now.jobs done.now.ticket.0) }
+        ensures no { result ≡ false → Ignores done.now.scene (find_job self.now.jobs done.now.ticket.0) }
     {
         match &self.job {
             None => false,
@@ -134,7 +132,7 @@ impl<K: Kit> Core<K> {
 
     /// The painted result of the job that is out is taken.
     fn take(self, alloc: Global, done: &Done<K::Scene>) -> Result<(Core<K>, Outs<K::Scene>), Memory>
-        requires { ForSome (find_job self.jobs done.now.ticket.0) (λ job. done.now.scene ≡ job.scene) }
+        requires { Awaits done.now.scene (find_job self.jobs done.now.ticket.0) }
         ensures { IfOk result (λ r. Paints K.rules self done.now.ticket.0 done.now.scene r.1 r.0 (find_job self.jobs done.now.ticket.0)) }
     {
         let Core {
