@@ -5,3 +5,4 @@ pub mod SeatWords
 pub mod Search
 pub mod Steps
 pub mod Offers
+pub mod Rest
