@@ -1,2 +1,9 @@
 pub mod SeatPlaces
 pub mod Commute
+pub mod SeatLists
+pub mod Pushed
+pub mod Within
+pub mod Effects
+pub mod HeardBy
+pub mod Comings
+pub mod KeptBy
