@@ -6,3 +6,10 @@ pub mod Search
 pub mod Steps
 pub mod Offers
 pub mod Rest
+pub mod SeatLists
+pub mod Pushed
+pub mod Within
+pub mod Effects
+pub mod HeardBy
+pub mod Comings
+pub mod KeptBy
