@@ -10,7 +10,7 @@ use Rattle.document_machine.specs.Keys.{is_among, ordered, inserted}
 use Rattle.document_machine.specs.Quiet.{is_quiet, is_still}
 use Rattle.document_machine.specs.State.{Document, Job}
 use Rattle.document_machine.proofs.Lists.{same_self}
-use Rattle.view_session.specs.Viewing.{Viewing, is_due, keys}
+use Rattle.view_session.specs.Viewing.{Viewing, is_due, keys, entry_of, is_lacking}
 use Rattle.broker_core.specs.Held.{Seat, views_of, IsSeated}
 use Rattle.broker_core.specs.Serving as serving
 use Rattle.broker_core.proofs.SeatWords.{same_is, stills_same}
@@ -75,7 +75,7 @@ asks_due due (key ∷ asked) visible asks =
 pub none_due : (v : Viewing) → is_none (find (is_due v) (keys v)) ≡ (not (list_any (is_due v) v.visible) && nat_eq (length v.asked) 0)
 none_due v =
     none_found (is_due v) (keys v)
-    ∙ asks_due (is_due v) v.asked v.visible (λ key is. ap (λ b. (is_among v.visible key && _) || b) is ∙ or_true _)
+    ∙ asks_due (is_due v) v.asked v.visible (λ key is. ap (λ b. (is_among v.visible key && is_lacking (entry_of v.screen key)) || b) is ∙ or_true (is_among v.visible key && is_lacking (entry_of v.screen key)))
 
 -- the machine's test, by the parts that a broker keeps
 pub quiet_by : {C B S : Type 0} (rules : Rules C B) (d : Document S) (seats : List Seat) → d.views ≡ views_of seats → AllByRecursion (IsSeated rules d.base d.journal d.applied) seats → d.applied ≡ length d.journal → d.jobs ≡ [] → list_all (λ (seat : Seat). serving.is_still seat.view) seats ≡ is_quiet rules d
