@@ -24,7 +24,7 @@ use Rattle.view_session.specs.Viewing.{Viewing, Entry, with_entry, without_entry
 use Rattle.broker_core.specs.Held.{Seat, view_of, views_of, Holds, IsSeated, IsOut}
 use Rattle.broker_core.specs.Serving.{takes, offered, frames_for, job_of, Awaits, Ignores}
 use Rattle.broker_core.proofs.SeatWords.{takes_same, sent_same, same_is}
-use Rattle.broker_core.proofs.Steps.{document}
+use Rattle.broker_core.proofs.HeardBy.{document_of}
 
 -- a tile of the present number is the present one
 current_now : {C B S : Type 0} (rules : Rules C B) (d : Document S) (number : ℕ) (key : Place) → number ≡ d.applied → is_current rules d number key ≡ true
@@ -177,21 +177,21 @@ the_job job ticket scene some =
 
 -- a painted result that is taken
 pub paints_by : {C B S : Type 0} (rules : Rules C B) (paints : S → Pixels) (IsSound : C → Type 0) (contents : C) (file base : List ℕ) (journal : List Input) (applied : ℕ) (seats after : List Seat) (next_view : ℕ) (jobs : List (Job S)) (next_ticket : ℕ) (ticket number : ℕ) (key : Place) (scene : S) (done_ticket : ℕ) (done_scene : S) (pixels : Pixels) (frames : List (ViewId × Frame)) (old : Document S)
-    → Holds rules paints IsSound contents base journal applied seats next_view jobs → document file base journal applied seats next_view jobs next_ticket ≡ old → jobs ≡ job_of ticket number key scene ∷ []
+    → Holds rules paints IsSound contents base journal applied seats next_view jobs → document_of file base journal applied seats next_view jobs next_ticket ≡ old → jobs ≡ job_of ticket number key scene ∷ []
     → Awaits done_scene (find_job old.jobs done_ticket) → pixels ≡ paints done_scene
     → after ≡ map (offered key number) seats → frames ≡ flat_map (frames_for key number pixels.rgba) seats
-    → Paints rules old done_ticket done_scene (frames_only frames) (document file base journal applied after next_view [] next_ticket) (find_job old.jobs done_ticket)
+    → Paints rules old done_ticket done_scene (frames_only frames) (document_of file base journal applied after next_view [] next_ticket) (find_job old.jobs done_ticket)
 paints_by {C} {B} {S} rules paints IsSound contents file base journal applied seats after next_view jobs next_ticket ticket number key scene done_ticket done_scene pixels frames old h is jobs_are some painted after_is frames_are =
     let job : Job S = job_of ticket number key scene in
-    let d : Document S = document file base journal applied seats next_view (job ∷ []) next_ticket in
-    let there : d ≡ old = ap (λ js. document file base journal applied seats next_view js next_ticket) (sym jobs_are) ∙ is in
+    let d : Document S = document_of file base journal applied seats next_view (job ∷ []) next_ticket in
+    let there : d ≡ old = ap (λ js. document_of file base journal applied seats next_view js next_ticket) (sym jobs_are) ∙ is in
     let some2 : Awaits done_scene (find_job (job ∷ []) done_ticket) = subst (λ (o : Document S). Awaits done_scene (find_job o.jobs done_ticket)) (sym there) some in
     let it : (nat_eq ticket done_ticket ≡ true) × (done_scene ≡ scene) = the_job job done_ticket done_scene some2 in
     let out : AllByRecursion (IsOut rules paints base journal applied) (job ∷ []) = subst (λ (js : List (Job S)). AllByRecursion (IsOut rules paints base journal applied) js) jobs_are h.out in
     let number_is : number ≡ applied = out.0.number in
     let rgba_is : pixels.rgba ≡ (shown rules (doc rules base journal number) key).rgba =
     ap (λ (p : Pixels). p.rgba) (painted ∙ ap paints it.1 ∙ out.0.shows ∙ ap (λ n. shown rules (doc rules base journal n) key) (sym number_is)) in
-    let new : Document S = document file base journal applied after next_view [] next_ticket in
+    let new : Document S = document_of file base journal applied after next_view [] next_ticket in
     let outs_are : frames_only {S = S} frames ≡ frames_only (tiles_for rules d number (key ∷ []) d.views) =
     ap frames_only (frames_are ∙ all_frames rules d number key pixels.rgba seats rgba_is h.seated ∙ sym (append-nil (flat_map (step.tile_for rules d number key) (views_of seats)))) in
     let new_is : new ≡ record d { jobs = without_job (job ∷ []) done_ticket; views = views_offered rules d number (key ∷ []) d.views } =
