@@ -1,9 +1,9 @@
 -- A painted tile, offered to every view.
-use Rattle.std.proofs.Common.{◌≡◌, ◌≢◌, ℕ, zero, suc, ◌+◌, ◌<◌, ◌≤◌, Bool, true, false, not, ◌&&◌, ◌||◌, cond, List, [], ◌∷◌, ◌++◌, length, map, filter, Option, Some, None, refl, sym, ap, subst, ◌∙◌, inl, inr, arith, rules, nat_eq, append-nil}
+use Rattle.std.proofs.Common.{◌≡◌, ◌≢◌, ℕ, zero, suc, ◌+◌, ◌<◌, ◌≤◌, Bool, true, false, not, ◌&&◌, ◌||◌, cond, List, [], ◌∷◌, ◌++◌, length, map, filter, take, drop, get_or, Option, Some, None, refl, sym, ap, subst, ◌∙◌, inl, inr, arith, rules, nat_eq, append-nil}
 use Rattle.std.specs.Prelude.{nat_lt, ◌⊎◌}
 use Rattle.std.specs.List.{list_any, flat_map, AllByRecursion}
 use Rattle.std.specs.Ordering.{is_lt}
-use Rattle.std.proofs.lemmas.Bool.Decides.{nat_tests}
+use Rattle.std.proofs.lemmas.List.{take_more, map_more, flat_map_more}
 use Rattle.cool_base.specs.declared.ids.ViewId.{ViewId}
 use Rattle.cool_frame.specs.declared.frame.Frame.{Frame}
 use Rattle.kit_trait.specs.Rules.{Rules, doc, shown}
@@ -18,6 +18,7 @@ use Rattle.document_machine.specs.State.{Document, Job, View, find_job, without_
 use Rattle.document_machine.specs.Step as step
 use Rattle.document_machine.specs.Step.{Paints, views_offered, tiles_for}
 use Rattle.document_machine.specs.declared.outs.Outs.{Outs}
+use Rattle.document_machine.proofs.Lists.{all_push}
 use Rattle.document_machine.proofs.Present.{untouched}
 use Rattle.view_session.specs.Keeps.{IsViewing}
 use Rattle.view_session.specs.Viewing.{Viewing, Entry, with_entry, without_entry, screen_after, sent}
@@ -205,3 +206,25 @@ paints_by {C} {B} {S} rules paints IsSound contents file base journal applied se
 pub refuses_by : {C B S : Type 0} (rules : Rules C B) (d : Document S) (ticket : ℕ) (scene : S) (outs : Outs S) (found : Option (Job S)) → Ignores scene found → outs ≡ nothing → Paints rules d ticket scene outs d found
 refuses_by rules d ticket scene outs None other is = (is, refl)
 refuses_by rules d ticket scene outs (Some job) other is = inl (other, is, refl)
+
+-- the item at the place is still as it was
+item_same : {X : Type 0} (f : X → X) (xs : List X) (i : ℕ) (x : X) → i < length xs → get_or (map f (take i xs) ++ drop i xs) i x ≡ get_or xs i x
+item_same f [] i x lt = absurd (omega arith)
+item_same f (y ∷ ys) zero x lt = refl
+item_same f (y ∷ ys) (suc i) x lt = item_same f ys i x (omega arith)
+
+-- one more seat was offered the tile
+pub frames_more : (key : Place) (version : ℕ) (rgba : List ℕ) (xs ys : List Seat) (i : ℕ) (x : Seat) (frames now : List (ViewId × Frame)) → i < length xs → ys ≡ map (offered key version) (take i xs) ++ drop i xs → x ≡ get_or ys i x → frames ≡ flat_map (frames_for key version rgba) (take i xs) → now ≡ frames ++ frames_for key version rgba x → now ≡ flat_map (frames_for key version rgba) (take (i + 1) xs)
+frames_more key version rgba xs ys i x frames now lt ys_are x_is before more =
+    let g : Seat → List (ViewId × Frame) = frames_for key version rgba in
+    let at : x ≡ get_or xs i x = x_is ∙ ap (λ zs. get_or zs i x) ys_are ∙ item_same (offered key version) xs i x lt in
+    more ∙ ap (λ fs. fs ++ g x) before ∙ flat_map_more g [] (take i xs) x
+    ∙ ap (λ (z : Seat). flat_map g (take i xs ++ z ∷ [])) at ∙ ap (λ (zs : List Seat). flat_map g zs) (sym (take_more xs i x lt))
+
+pub keeps_more : (key : Place) (version : ℕ) (xs ys : List Seat) (i : ℕ) (x now : Seat) → i < length xs → ys ≡ map (offered key version) (take i xs) ++ drop i xs → x ≡ get_or ys i x → AllByRecursion (λ (s : Seat). IsViewing s.view) (map (offered key version) (take i xs)) → now ≡ offered key version x → IsViewing now.view → AllByRecursion (λ (s : Seat). IsViewing s.view) (map (offered key version) (take (i + 1) xs))
+keeps_more key version xs ys i x now lt ys_are x_is before now_is keeps =
+    let f : Seat → Seat = offered key version in
+    let at : x ≡ get_or xs i x = x_is ∙ ap (λ zs. get_or zs i x) ys_are ∙ item_same f xs i x lt in
+    let last : IsViewing (f (get_or xs i x)).view = subst (λ (s : Seat). IsViewing s.view) (now_is ∙ ap f at) keeps in
+    subst (λ (zs : List Seat). AllByRecursion (λ (s : Seat). IsViewing s.view) zs) (sym (map_more f xs i x lt))
+    (all_push (λ (s : Seat). IsViewing s.view) (map f (take i xs)) (f (get_or xs i x)) before last)

@@ -1,18 +1,22 @@
 -- When nothing is left to do.
 use Rattle.std.proofs.Common.{◌≡◌, ℕ, zero, suc, ◌+◌, ◌<◌, ◌≤◌, Bool, true, false, not, ◌&&◌, ◌||◌, cond, List, [], ◌∷◌, ◌++◌, length, find, Option, Some, None, refl, sym, ap, subst, ◌∙◌, arith, rules, nat_eq}
 use Rattle.std.specs.List.{list_any, list_all, AllByRecursion}
-use Rattle.std.specs.Option.{is_none}
+use Rattle.std.specs.Option.{is_none, is_some}
+use Rattle.std.specs.Prelude.{option_to_list}
 use Rattle.std.specs.Ordering.{is_lt}
 use Rattle.std.proofs.lemmas.Bool.Decides.{nat_tests}
 use Rattle.kit_trait.specs.Rules.{Rules}
+use Rattle.kit_trait.specs.declared.values.Input.{Input}
+use Rattle.kit_trait.specs.declared.values.Pixels.{Pixels}
 use Rattle.tile_key.specs.Places.{Place, key_order, same_place}
 use Rattle.document_machine.specs.Keys.{is_among, ordered, inserted}
 use Rattle.document_machine.specs.Quiet.{is_quiet, is_still}
 use Rattle.document_machine.specs.State.{Document, Job}
 use Rattle.document_machine.proofs.Lists.{same_self}
 use Rattle.view_session.specs.Viewing.{Viewing, is_due, keys, entry_of, is_lacking}
-use Rattle.broker_core.specs.Held.{Seat, views_of, IsSeated}
+use Rattle.broker_core.specs.Held.{Seat, views_of, IsSeated, Holds}
 use Rattle.broker_core.specs.Serving as serving
+use Rattle.broker_core.proofs.HeardBy.{document_of}
 use Rattle.broker_core.proofs.SeatWords.{same_is, stills_same}
 
 or_true : (b : Bool) → (b || true) ≡ true
@@ -86,3 +90,15 @@ quiet_by rules d seats views all level none =
     ∙ ap (λ b. b && list_all (is_still rules d) d.views) free
     ∙ ap (λ vs. list_all (is_still rules d) vs) views
     ∙ stills_same rules d seats all)
+
+-- no job is out where there is none
+pub none_there : {X : Type 0} (o : Option X) → is_some o ≡ false → option_to_list o ≡ []
+none_there None is = refl
+none_there (Some x) is = absurd (cc)
+
+pub quiet_of : {C B S : Type 0} (rules : Rules C B) (paints : S → Pixels) (IsSound : C → Type 0) (contents : C) (file base : List ℕ) (journal : List Input) (applied : ℕ) (seats : List Seat) (next_view : ℕ) (jobs : List (Job S)) (next_ticket : ℕ) (old : Document S)
+    → Holds rules paints IsSound contents base journal applied seats next_view jobs → document_of file base journal applied seats next_view jobs next_ticket ≡ old → applied ≡ length journal → jobs ≡ []
+    → list_all (λ (seat : Seat). serving.is_still seat.view) seats ≡ is_quiet rules old
+quiet_of {C} {B} {S} rules paints IsSound contents file base journal applied seats next_view jobs next_ticket old h is level none =
+    let d : Document S = document_of file base journal applied seats next_view jobs next_ticket in
+    quiet_by rules d seats refl h.seated level none ∙ ap (λ (o : Document S). is_quiet rules o) is

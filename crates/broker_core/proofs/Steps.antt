@@ -1,11 +1,12 @@
 -- What the parts of a turn and of a painted result give is a step of the machine, and keeps what holds of them.
-use Rattle.std.proofs.Common.{◌≡◌, ◌≢◌, ℕ, zero, suc, ◌+◌, ◌<◌, ◌≤◌, Bool, true, false, not, ◌&&◌, ◌||◌, cond, List, [], ◌∷◌, ◌++◌, length, map, filter, get_or, Option, Some, None, refl, sym, ap, subst, ◌∙◌, inl, inr, arith, rules, nat_eq, append-nil}
+use Rattle.std.proofs.Common.{◌≡◌, ◌≢◌, ℕ, zero, suc, ◌+◌, ◌<◌, ◌≤◌, Bool, true, false, not, ◌&&◌, ◌||◌, cond, List, [], ◌∷◌, ◌++◌, length, map, filter, drop, get_or, Option, Some, None, refl, sym, ap, subst, ◌∙◌, inl, inr, arith, rules, nat_eq, append-nil, append_assoc}
 use Rattle.std.specs.Prelude.{nat_lt, slice_get, ◌⊎◌}
 use Rattle.std.specs.List.{list_any, list_all, flat_map, sum_by, AllByRecursion}
 use Rattle.std.proofs.lemmas.Bool.Decides.{nat_tests}
+use Rattle.std.proofs.lemmas.List.{drop_more}
 use Rattle.cool_base.specs.declared.ids.ViewId.{ViewId}
 use Rattle.cool_frame.specs.declared.frame.Frame.{Frame}
-use Rattle.cool_frame.specs.declared.frame.Frame.TheVariants.{Tile}
+use Rattle.cool_frame.specs.declared.frame.Frame.TheVariants.{Invalidate}
 use Rattle.kit_trait.specs.Rules.{Rules, doc, shown}
 use Rattle.kit_trait.specs.declared.values.Damage.{Damage}
 use Rattle.kit_trait.specs.declared.values.Input.{Input}
@@ -14,17 +15,17 @@ use Rattle.tile_key.specs.Places.{Place, IsGroup, place_of_keys}
 use Rattle.document_machine.specs.Due.{parts_of, size_of, touched, damage_of, is_out}
 use Rattle.document_machine.specs.Keys.{Pairwise}
 use Rattle.document_machine.specs.Next.{next_pair, none_kept}
-use Rattle.document_machine.specs.Outputs.{nothing, frames_only}
+use Rattle.document_machine.specs.Outputs.{named, frames_only}
 use Rattle.document_machine.specs.State.{Document, Job, View, find_job, without_job}
 use Rattle.document_machine.specs.Step.{Applies, Cuts, Paints, told, given, is_wanted}
 use Rattle.document_machine.specs.declared.outs.Outs.{Outs}
 use Rattle.document_machine.proofs.Journal.{doc_more}
 use Rattle.document_machine.proofs.Lists.{nat_eq_self, all_at}
 use Rattle.broker_core.specs.Held.{Seat, view_of, views_of, Holds, IsSeated, IsOut}
-use Rattle.broker_core.specs.Serving.{struck_seat, job_of}
+use Rattle.broker_core.specs.Serving.{struck_seat, job_of, next_seated}
 use Rattle.broker_core.proofs.HeardBy.{document_of}
 use Rattle.broker_core.proofs.Marks.{damage_is, views_struck, all_struck, ids_all, ids_struck, count_struck}
-use Rattle.broker_core.proofs.Search.{next_wanted, next_owed, next_part}
+use Rattle.broker_core.proofs.Search.{next_wanted, next_owed, next_part, pair_same}
 
 -- the element at a place
 got : {X : Type 0} (xs : List X) (i : ℕ) (x : X) → i < length xs → get_or xs i x ≡ x → slice_get xs i ≡ Some x
@@ -159,3 +160,28 @@ cuts_by {C} {B} {S} rules paints IsSound contents file base journal applied seat
           ∙ ap (λ js. document_of file base journal applied seats next_view (js ++ job ∷ []) (ticket + 1)) (sym none_out);
     } in
     subst (λ (o : Document S). Cuts rules paints o outs (document_of file base journal applied seats next_view (job ∷ []) next_ticket)) is cuts
+
+-- the next pair is what the search finds
+pub next_by : {C B S : Type 0} (rules : Rules C B) (paints : S → Pixels) (IsSound : C → Type 0) (contents : C) (file base : List ℕ) (journal : List Input) (applied : ℕ) (seats : List Seat) (next_view : ℕ) (jobs : List (Job S)) (next_ticket : ℕ) (old : Document S)
+    → Holds rules paints IsSound contents base journal applied seats next_view jobs → document_of file base journal applied seats next_view jobs next_ticket ≡ old → old.jobs ≡ []
+    → next_seated seats ≡ next_pair rules none_kept old
+next_by {C} {B} {S} rules paints IsSound contents file base journal applied seats next_view jobs next_ticket old h is none =
+    let d : Document S = document_of file base journal applied seats next_view jobs next_ticket in
+    sym (pair_same rules d seats (none_out_of file base journal applied seats next_view jobs next_ticket old is none) refl h.seated)
+    ∙ ap (λ (o : Document S). next_pair rules none_kept o) is
+
+-- a number that isn't below another, and not above it, is that one
+pub level_by : (applied count : ℕ) → nat_lt applied count ≡ false → applied ≤ count → applied ≡ count
+level_by applied count past level = grind (arith, nat_tests)
+
+-- one more view is told
+pub told_more : (seats : List Seat) (i : ℕ) (seat : Seat) (id : ℕ) (hurt : List Damage) (frames now whole : List (ViewId × Frame)) → i < length seats → seat ≡ get_or seats i seat → id ≡ seat.id
+    → now ≡ frames ++ map (λ (d : Damage). (named id, Invalidate d.part d.rect)) hurt → frames ++ told (views_of (drop i seats)) hurt ≡ whole
+    → now ++ told (views_of (drop (i + 1) seats)) hurt ≡ whole
+told_more seats i seat id hurt frames now whole lt is id_is more before =
+    let piece : List (ViewId × Frame) = map (λ (d : Damage). (named id, Invalidate d.part d.rect)) hurt in
+    let rest : List (ViewId × Frame) = told (views_of (drop (i + 1) seats)) hurt in
+    let e : drop i seats ≡ seat ∷ drop (i + 1) seats = drop_more seats i seat lt ∙ ap (λ (s : Seat). s ∷ drop (i + 1) seats) (sym is) in
+    ap (λ fs. fs ++ rest) more ∙ append_assoc frames piece rest
+    ∙ ap (λ (n : ℕ). frames ++ (map (λ (d : Damage). (named n, Invalidate d.part d.rect)) hurt ++ rest)) id_is
+    ∙ ap (λ (ss : List Seat). frames ++ told (views_of ss) hurt) (sym e) ∙ before
