@@ -15,14 +15,17 @@ use Rattle.tile_key.specs.Places.{Place, IsGroup, place_of_keys}
 use Rattle.document_machine.specs.Due.{parts_of, size_of, touched, damage_of, is_out}
 use Rattle.document_machine.specs.Keys.{Pairwise}
 use Rattle.document_machine.specs.Next.{next_pair, none_kept}
-use Rattle.document_machine.specs.Outputs.{named, frames_only}
+use Rattle.document_machine.specs.Outputs.{named, frames_only, outs_of}
 use Rattle.document_machine.specs.State.{Document, Job, View, find_job, without_job}
-use Rattle.document_machine.specs.Step.{Applies, Cuts, Paints, told, given, is_wanted}
+use Rattle.document_machine.specs.Step.{Applies, Cuts, TurnsTo, Step, Goes, told, given, is_wanted}
+use Rattle.document_machine.specs.Event.{Turned}
 use Rattle.document_machine.specs.declared.outs.Outs.{Outs}
+use Rattle.document_machine.specs.declared.outs.Turned.{Turned as TurnAnswer}
+use Rattle.document_machine.specs.declared.outs.Turned.TheVariants.{Worked, Idle}
 use Rattle.document_machine.proofs.Journal.{doc_more}
 use Rattle.document_machine.proofs.Lists.{nat_eq_self, all_at}
 use Rattle.broker_core.specs.Held.{Seat, view_of, views_of, Holds, IsSeated, IsOut}
-use Rattle.broker_core.specs.Serving.{struck_seat, job_of, next_seated}
+use Rattle.broker_core.specs.Serving.{struck_seat, job_of, next_seated, GoesTo}
 use Rattle.broker_core.proofs.HeardBy.{document_of}
 use Rattle.broker_core.proofs.Marks.{damage_is, views_struck, all_struck, ids_all, ids_struck, count_struck}
 use Rattle.broker_core.proofs.Search.{next_wanted, next_owed, next_part, pair_same}
@@ -185,3 +188,13 @@ told_more seats i seat id hurt frames now whole lt is id_is more before =
     ap (λ fs. fs ++ rest) more ∙ append_assoc frames piece rest
     ∙ ap (λ (n : ℕ). frames ++ (map (λ (d : Damage). (named n, Invalidate d.part d.rect)) hurt ++ rest)) id_is
     ∙ ap (λ (ss : List Seat). frames ++ told (views_of ss) hurt) (sym e) ∙ before
+
+-- a turn, as a step that gives out what it did
+pub turn_steps : {C B S : Type 0} (rules : Rules C B) (paints : S → Pixels) (old : Document S) (turned : TurnAnswer S) (new : Document S) → TurnsTo rules paints old turned new → Step rules paints old Turned (outs_of turned) new
+turn_steps rules paints old (Worked outs) new works = inl works
+turn_steps rules paints old Idle new (rests, same) = inr (rests, refl, same)
+
+pub turn_goes : {C B S : Type 0} (rules : Rules C B) (paints : S → Pixels) (old : Option (Document S)) (turned : TurnAnswer S) (new : Option (Document S)) → GoesTo rules paints old turned new → Goes rules paints old Turned (outs_of turned) new
+turn_goes rules paints (Some old) turned (Some new) goes = turn_steps rules paints old turned new goes
+turn_goes rules paints (Some old) turned None goes = absurd goes
+turn_goes rules paints None turned new goes = absurd goes
