@@ -7,3 +7,8 @@ pub mod Effects
 pub mod HeardBy
 pub mod Comings
 pub mod KeptBy
+pub mod Marks
+pub mod SeatWords
+pub mod Search
+pub mod Steps
+pub mod Offers

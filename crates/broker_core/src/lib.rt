@@ -6,15 +6,20 @@
 //! and no time. After `Memory` from one of its calls a broker is spent: it answers `Memory` from then on.
 #![tactic(auto)]
 
+mod applying;
 mod broker;
 mod core_of;
+mod cutting;
 mod faults;
 mod joining;
 mod message;
+mod painting;
+mod resting;
 mod saying;
 mod seats;
 #[cfg(test)]
 mod tests;
+mod turning;
 
 pub use broker::Broker;
 pub use faults::JoinFault;
