@@ -12,3 +12,4 @@ pub mod SeatWords
 pub mod Search
 pub mod Steps
 pub mod Offers
+pub mod Windows

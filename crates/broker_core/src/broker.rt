@@ -1,5 +1,5 @@
 //! `Broker`: the calls of a document, each a step of the document machine.
-ghost use Rattle.std.specs.Prelude.{◌≡◌, ℕ, ◌<◌, ◌≤◌, length, None, Some, Err, IsSome, IfOk, OnOk, OnErr};
+ghost use Rattle.std.specs.Prelude.{◌≡◌, ℕ, ◌<◌, ◌≤◌, length, true, false, None, Some, Err, IsSome, IfOk, OnOk, OnErr};
 ghost use Rattle.std.specs.Option.{ForSome, is_some, option_map_or};
 ghost use Rattle.document_machine.specs.Event.{Joined, Left, Said};
 ghost use Rattle.document_machine.specs.Kept.{IsKept};
@@ -7,8 +7,7 @@ ghost use Rattle.document_machine.specs.Outputs.{nothing};
 ghost use Rattle.document_machine.specs.State.{opening, find_view};
 ghost use Rattle.document_machine.specs.Step.{Goes};
 
-use crate::applying::frames_only;
-use crate::core_of::Core;
+use crate::core_of::{Core, frames_only};
 use crate::faults::JoinFault;
 use bytes::Bytes;
 use cool_base::{FileId, Memory, ViewId};

@@ -5,8 +5,7 @@ ghost use Rattle.document_machine.specs.Outputs.{named, nothing};
 ghost use Rattle.document_machine.specs.State.{find_view};
 ghost use Rattle.document_machine.specs.Step.{Joins, Leaves};
 
-use crate::applying::frames_only;
-use crate::core_of::{Core, Frames};
+use crate::core_of::{Core, Frames, frames_only};
 use crate::faults::JoinFault;
 use crate::seats::{Seat, seat_at};
 use cool_base::{ListOf, Memory, ViewId};

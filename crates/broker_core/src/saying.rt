@@ -1,12 +1,12 @@
 //! A view says a text.
 ghost use Rattle.std.specs.Prelude.{◌≡◌, ◌≢◌, ◌<◌, ℕ, IsSome, IfOk, OnOk, Some, Err, codes};
-ghost use Rattle.document_machine.specs.Message.{Looks, Zooms, seeing_effect, zooming_effect, going_effect, asking_effect};
+ghost use Rattle.document_machine.specs.Message.{Looks, Refuses, frames_of, Zooms, seeing_effect, zooming_effect, going_effect, asking_effect};
 ghost use Rattle.document_machine.specs.Outputs.{frames_only};
 ghost use Rattle.document_machine.specs.State.{find_view};
 ghost use Rattle.document_machine.specs.Step.{Says};
 ghost use Rattle.cool_base.specs.Points.{Extent};
 ghost use Rattle.view_session.specs.declared.views.ViewFault.TheVariants.{Memory as NoMemory};
-ghost use Rattle.broker_core.specs.Heard.{entered, heard};
+ghost use Rattle.broker_core.specs.Heard.{acknowledged, entered};
 ghost use Rattle.broker_core.specs.Hearing.{Hears, frames_of_change};
 ghost use Rattle.broker_core.specs.Held.{view_of};
 ghost use Rattle.broker_core.specs.Verdicts.{verdict};
@@ -58,7 +58,7 @@ fn frames_of_change(
 
 /// The tiles with these numbers leave the window; other numbers change nothing.
 fn acknowledge(view: &mut View, wids: &[u64])
-    ensures { view.new ≡ heard (λ _. record { w = 0; h = 0 }) view.old (Acknowledges wids.now) }
+    ensures { view.new ≡ acknowledged wids.now view.old }
 {
     for wid in wids {
         view.processed(Wid(*wid));
@@ -100,5 +100,98 @@ impl Seat {
         let size = kit.size(part);
         let change = self.view.set_part(part, &size);
         frames_of_change(alloc, self.id, "setclientpart", change)
+    }
+}
+
+/// Does what was judged, with the accepted inputs and the view: the frames of it.
+fn obey<K: Kit>(
+    alloc: Global,
+    kit: &K,
+    said: Said,
+    journal: &mut Vec<Input>,
+    seat: &mut Seat,
+) -> Result<Frames, Memory>
+    requires { seat.old.view.part < K.rules.parts (K.rules.body (K.contents kit.now)) }
+    ensures seat { IfOk result (λ frames. Hears (K.rules.size (K.rules.body (K.contents kit.now))) seat.old (verdict (K.rules.parts (K.rules.body (K.contents kit.now))) (K.rules.size (K.rules.body (K.contents kit.now))) (view_of seat.old) said) frames seat.new) }
+    ensures journal { OnOk result (journal.new.items ≡ entered journal.old.items (verdict (K.rules.parts (K.rules.body (K.contents kit.now))) (K.rules.size (K.rules.body (K.contents kit.now))) (view_of seat.old) said)) }
+{
+    match said {
+        Said::Refused { command, kind } => {
+            let frame = Frame::Error {
+                cmd: command,
+                kind,
+                code: None,
+            };
+            one_frame(alloc, seat.id, frame)
+        }
+        Said::Greeted => one_frame(alloc, seat.id, Frame::Server),
+        Said::Typed(input) => {
+            journal.push(input)?;
+            Ok(ListOf::new(alloc))
+        }
+        Said::Asked(keys) => seat.ask(alloc, "tile", keys.as_slice()),
+        Said::Combined(keys) => seat.ask(alloc, "tilecombine", keys.as_slice()),
+        Said::Cancelled => {
+            seat.view.cancel();
+            Ok(ListOf::new(alloc))
+        }
+        Said::Looked(area) => {
+            let size = kit.size(seat.view.part());
+            seat.look(alloc, &area, &size)
+        }
+        Said::Zoomed(zoom) => {
+            let size = kit.size(seat.view.part());
+            seat.scale(alloc, &zoom, &size)
+        }
+        Said::Gone(part) => seat.go(alloc, kit, part),
+        Said::Acknowledged(wids) => {
+            acknowledge(&mut seat.view, wids.get());
+            Ok(ListOf::new(alloc))
+        }
+        Said::Passed => Ok(ListOf::new(alloc)),
+    }
+}
+
+impl<K: Kit> Core<K> {
+    /// The one effect of the text, and its frames.
+    pub(crate) fn message(
+        self,
+        alloc: Global,
+        id: u32,
+        text: &[u8],
+    ) -> Result<(Core<K>, Frames), Memory>
+        requires { IsSome (find_view self.views id) }
+        ensures { IfOk result (λ r. Says K.rules self id text.now (frames_only r.1) r.0) }
+    {
+        let Core {
+            kit,
+            file,
+            base,
+            mut journal,
+            applied,
+            mut seats,
+            next_view,
+            job,
+            next_ticket,
+        } = self;
+        let Some(i) = seat_at(&seats, id) else {
+            unreachable!()
+        };
+        let seat = &mut seats[i];
+        let said = judge(alloc, journal.len() as u64, kit.parts(), seat, text)?;
+        let frames = obey(alloc, &kit, said, &mut journal, seat)?;
+        seat.view.kept();
+        let core = Core {
+            kit,
+            file,
+            base,
+            journal,
+            applied,
+            seats,
+            next_view,
+            job,
+            next_ticket,
+        };
+        Ok((core, frames))
     }
 }
