@@ -1,10 +1,11 @@
 pub mod SeatPlaces
-pub mod Commute
 pub mod SeatLists
+pub mod Commute
 pub mod Pushed
 pub mod Within
 pub mod Effects
 pub mod HeardBy
+pub mod Windows
 pub mod Comings
 pub mod KeptBy
 pub mod Marks
@@ -12,4 +13,4 @@ pub mod SeatWords
 pub mod Search
 pub mod Steps
 pub mod Offers
-pub mod Windows
+pub mod Rest

@@ -1,9 +1,9 @@
 -- A painted tile, offered to every view.
-use Rattle.std.proofs.Common.{◌≡◌, ◌≢◌, ℕ, zero, suc, ◌+◌, ◌<◌, ◌≤◌, Bool, true, false, not, ◌&&◌, ◌||◌, cond, List, [], ◌∷◌, ◌++◌, length, map, filter, Option, Some, None, refl, sym, ap, subst, ◌∙◌, inl, inr, arith, rules, nat_eq, append-nil}
+use Rattle.std.proofs.Common.{◌≡◌, ◌≢◌, ℕ, zero, suc, ◌+◌, ◌<◌, ◌≤◌, Bool, true, false, not, ◌&&◌, ◌||◌, cond, List, [], ◌∷◌, ◌++◌, length, map, filter, take, drop, get_or, Option, Some, None, refl, sym, ap, subst, ◌∙◌, inl, inr, arith, rules, nat_eq, append-nil}
 use Rattle.std.specs.Prelude.{nat_lt, ◌⊎◌}
 use Rattle.std.specs.List.{list_any, flat_map, AllByRecursion}
 use Rattle.std.specs.Ordering.{is_lt}
-use Rattle.std.proofs.lemmas.Bool.Decides.{nat_tests}
+use Rattle.std.proofs.lemmas.List.{take_more, map_more, flat_map_more}
 use Rattle.cool_base.specs.declared.ids.ViewId.{ViewId}
 use Rattle.cool_frame.specs.declared.frame.Frame.{Frame}
 use Rattle.kit_trait.specs.Rules.{Rules, doc, shown}
@@ -18,13 +18,14 @@ use Rattle.document_machine.specs.State.{Document, Job, View, find_job, without_
 use Rattle.document_machine.specs.Step as step
 use Rattle.document_machine.specs.Step.{Paints, views_offered, tiles_for}
 use Rattle.document_machine.specs.declared.outs.Outs.{Outs}
+use Rattle.document_machine.proofs.Lists.{all_push}
 use Rattle.document_machine.proofs.Present.{untouched}
 use Rattle.view_session.specs.Keeps.{IsViewing}
 use Rattle.view_session.specs.Viewing.{Viewing, Entry, with_entry, without_entry, screen_after, sent}
 use Rattle.broker_core.specs.Held.{Seat, view_of, views_of, Holds, IsSeated, IsOut}
 use Rattle.broker_core.specs.Serving.{takes, offered, frames_for, job_of, Awaits, Ignores}
 use Rattle.broker_core.proofs.SeatWords.{takes_same, sent_same, same_is}
-use Rattle.broker_core.proofs.Steps.{document}
+use Rattle.broker_core.proofs.HeardBy.{document_of}
 
 -- a tile of the present number is the present one
 current_now : {C B S : Type 0} (rules : Rules C B) (d : Document S) (number : ℕ) (key : Place) → number ≡ d.applied → is_current rules d number key ≡ true
@@ -177,21 +178,21 @@ the_job job ticket scene some =
 
 -- a painted result that is taken
 pub paints_by : {C B S : Type 0} (rules : Rules C B) (paints : S → Pixels) (IsSound : C → Type 0) (contents : C) (file base : List ℕ) (journal : List Input) (applied : ℕ) (seats after : List Seat) (next_view : ℕ) (jobs : List (Job S)) (next_ticket : ℕ) (ticket number : ℕ) (key : Place) (scene : S) (done_ticket : ℕ) (done_scene : S) (pixels : Pixels) (frames : List (ViewId × Frame)) (old : Document S)
-    → Holds rules paints IsSound contents base journal applied seats next_view jobs → document file base journal applied seats next_view jobs next_ticket ≡ old → jobs ≡ job_of ticket number key scene ∷ []
+    → Holds rules paints IsSound contents base journal applied seats next_view jobs → document_of file base journal applied seats next_view jobs next_ticket ≡ old → jobs ≡ job_of ticket number key scene ∷ []
     → Awaits done_scene (find_job old.jobs done_ticket) → pixels ≡ paints done_scene
     → after ≡ map (offered key number) seats → frames ≡ flat_map (frames_for key number pixels.rgba) seats
-    → Paints rules old done_ticket done_scene (frames_only frames) (document file base journal applied after next_view [] next_ticket) (find_job old.jobs done_ticket)
+    → Paints rules old done_ticket done_scene (frames_only frames) (document_of file base journal applied after next_view [] next_ticket) (find_job old.jobs done_ticket)
 paints_by {C} {B} {S} rules paints IsSound contents file base journal applied seats after next_view jobs next_ticket ticket number key scene done_ticket done_scene pixels frames old h is jobs_are some painted after_is frames_are =
     let job : Job S = job_of ticket number key scene in
-    let d : Document S = document file base journal applied seats next_view (job ∷ []) next_ticket in
-    let there : d ≡ old = ap (λ js. document file base journal applied seats next_view js next_ticket) (sym jobs_are) ∙ is in
+    let d : Document S = document_of file base journal applied seats next_view (job ∷ []) next_ticket in
+    let there : d ≡ old = ap (λ js. document_of file base journal applied seats next_view js next_ticket) (sym jobs_are) ∙ is in
     let some2 : Awaits done_scene (find_job (job ∷ []) done_ticket) = subst (λ (o : Document S). Awaits done_scene (find_job o.jobs done_ticket)) (sym there) some in
     let it : (nat_eq ticket done_ticket ≡ true) × (done_scene ≡ scene) = the_job job done_ticket done_scene some2 in
     let out : AllByRecursion (IsOut rules paints base journal applied) (job ∷ []) = subst (λ (js : List (Job S)). AllByRecursion (IsOut rules paints base journal applied) js) jobs_are h.out in
     let number_is : number ≡ applied = out.0.number in
     let rgba_is : pixels.rgba ≡ (shown rules (doc rules base journal number) key).rgba =
     ap (λ (p : Pixels). p.rgba) (painted ∙ ap paints it.1 ∙ out.0.shows ∙ ap (λ n. shown rules (doc rules base journal n) key) (sym number_is)) in
-    let new : Document S = document file base journal applied after next_view [] next_ticket in
+    let new : Document S = document_of file base journal applied after next_view [] next_ticket in
     let outs_are : frames_only {S = S} frames ≡ frames_only (tiles_for rules d number (key ∷ []) d.views) =
     ap frames_only (frames_are ∙ all_frames rules d number key pixels.rgba seats rgba_is h.seated ∙ sym (append-nil (flat_map (step.tile_for rules d number key) (views_of seats)))) in
     let new_is : new ≡ record d { jobs = without_job (job ∷ []) done_ticket; views = views_offered rules d number (key ∷ []) d.views } =
@@ -205,3 +206,25 @@ paints_by {C} {B} {S} rules paints IsSound contents file base journal applied se
 pub refuses_by : {C B S : Type 0} (rules : Rules C B) (d : Document S) (ticket : ℕ) (scene : S) (outs : Outs S) (found : Option (Job S)) → Ignores scene found → outs ≡ nothing → Paints rules d ticket scene outs d found
 refuses_by rules d ticket scene outs None other is = (is, refl)
 refuses_by rules d ticket scene outs (Some job) other is = inl (other, is, refl)
+
+-- the item at the place is still as it was
+item_same : {X : Type 0} (f : X → X) (xs : List X) (i : ℕ) (x : X) → i < length xs → get_or (map f (take i xs) ++ drop i xs) i x ≡ get_or xs i x
+item_same f [] i x lt = absurd (omega arith)
+item_same f (y ∷ ys) zero x lt = refl
+item_same f (y ∷ ys) (suc i) x lt = item_same f ys i x (omega arith)
+
+-- one more seat was offered the tile
+pub frames_more : (key : Place) (version : ℕ) (rgba : List ℕ) (xs ys : List Seat) (i : ℕ) (x : Seat) (frames now : List (ViewId × Frame)) → i < length xs → ys ≡ map (offered key version) (take i xs) ++ drop i xs → x ≡ get_or ys i x → frames ≡ flat_map (frames_for key version rgba) (take i xs) → now ≡ frames ++ frames_for key version rgba x → now ≡ flat_map (frames_for key version rgba) (take (i + 1) xs)
+frames_more key version rgba xs ys i x frames now lt ys_are x_is before more =
+    let g : Seat → List (ViewId × Frame) = frames_for key version rgba in
+    let at : x ≡ get_or xs i x = x_is ∙ ap (λ zs. get_or zs i x) ys_are ∙ item_same (offered key version) xs i x lt in
+    more ∙ ap (λ fs. fs ++ g x) before ∙ flat_map_more g [] (take i xs) x
+    ∙ ap (λ (z : Seat). flat_map g (take i xs ++ z ∷ [])) at ∙ ap (λ (zs : List Seat). flat_map g zs) (sym (take_more xs i x lt))
+
+pub keeps_more : (key : Place) (version : ℕ) (xs ys : List Seat) (i : ℕ) (x now : Seat) → i < length xs → ys ≡ map (offered key version) (take i xs) ++ drop i xs → x ≡ get_or ys i x → AllByRecursion (λ (s : Seat). IsViewing s.view) (map (offered key version) (take i xs)) → now ≡ offered key version x → IsViewing now.view → AllByRecursion (λ (s : Seat). IsViewing s.view) (map (offered key version) (take (i + 1) xs))
+keeps_more key version xs ys i x now lt ys_are x_is before now_is keeps =
+    let f : Seat → Seat = offered key version in
+    let at : x ≡ get_or xs i x = x_is ∙ ap (λ zs. get_or zs i x) ys_are ∙ item_same f xs i x lt in
+    let last : IsViewing (f (get_or xs i x)).view = subst (λ (s : Seat). IsViewing s.view) (now_is ∙ ap f at) keeps in
+    subst (λ (zs : List Seat). AllByRecursion (λ (s : Seat). IsViewing s.view) zs) (sym (map_more f xs i x lt))
+    (all_push (λ (s : Seat). IsViewing s.view) (map f (take i xs)) (f (get_or xs i x)) before last)

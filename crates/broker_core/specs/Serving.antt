@@ -5,12 +5,16 @@ use Rattle.cool_base.specs.declared.ids.ViewId.{ViewId}
 use Rattle.cool_frame.specs.declared.frame.Frame.{Frame}
 use Rattle.cool_frame.specs.declared.frame.Frame.TheVariants.{Tile}
 use Rattle.kit_trait.specs.declared.values.Damage.{Damage}
+use Rattle.kit_trait.specs.declared.values.Pixels.{Pixels}
+use Rattle.kit_trait.specs.Rules.{Rules}
 use Rattle.tile_key.specs.Places.{Place}
 use Rattle.document_machine.specs.Due.{is_newer}
 use Rattle.document_machine.specs.Keys.{is_among}
 use Rattle.document_machine.specs.Next.{or_later}
 use Rattle.document_machine.specs.Outputs.{named}
-use Rattle.document_machine.specs.State.{Job}
+use Rattle.document_machine.specs.State.{Job, Document}
+use Rattle.document_machine.specs.Step.{TurnsTo}
+use Rattle.document_machine.specs.declared.outs.Turned.{Turned}
 use Rattle.view_session.specs.Viewing.{Viewing, damaged, keys, is_due, version_on, sent}
 use Rattle.broker_core.specs.Held.{Seat}
 
@@ -67,3 +71,9 @@ Awaits scene (Some job) = scene ≡ job.scene
 abbrev pub Ignores : {S : Type 0} → S → Option (Job S) → Type 0
 Ignores scene None = ⊤
 Ignores scene (Some job) = scene ≢ job.scene
+
+-- the turn of a broker that can be spent: only a broker that isn't makes one, and it isn't spent after it
+abbrev pub GoesTo : {C B S : Type 0} → Rules C B → (S → Pixels) → Option (Document S) → Turned S → Option (Document S) → Type 0
+GoesTo rules paints (Some old) turned (Some new) = TurnsTo rules paints old turned new
+GoesTo rules paints (Some old) turned None = ⊥
+GoesTo rules paints None turned new = ⊥

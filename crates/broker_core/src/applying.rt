@@ -1,12 +1,12 @@
 //! The next input is applied.
 ghost use Rattle.std.specs.Prelude.{◌≡◌, ◌<◌, ◌++◌, [], length, map, IfOk, OnOk};
 ghost use Rattle.cool_frame.specs.declared.frame.Frame.TheVariants.{Invalidate as InvalidateFrame};
-ghost use Rattle.document_machine.specs.Outputs.{named, frames_only};
+ghost use Rattle.document_machine.specs.Outputs.{named};
 ghost use Rattle.document_machine.specs.Step.{Applies, told};
 ghost use Rattle.broker_core.specs.Held.{views_of};
 ghost use Rattle.broker_core.specs.Serving.{struck_seat};
 
-use crate::core_of::{Core, Frames};
+use crate::core_of::{Core, Frames, frames_only};
 use crate::seats::Seat;
 use cool_base::{ListOf, Memory, ViewId};
 use cool_frame::Frame;
@@ -58,16 +58,6 @@ impl Seat {
         for damage in hurt {
             self.view.damage(damage.part, &damage.rect);
         }
-    }
-}
-
-/// These frames and no job.
-pub(crate) fn frames_only<S>(alloc: Global, frames: Frames) -> Outs<S>
-    ensures { result ≡ frames_only frames }
-{
-    Outs {
-        frames,
-        jobs: ListOf::new(alloc),
     }
 }
 

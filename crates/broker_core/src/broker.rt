@@ -20,7 +20,7 @@ use std::marker::Model;
 /// that can answers `Memory`, and the others change nothing.
 #[derive(Drop)]
 pub struct Broker<K: Kit> {
-    core: Option<Core<K>>,
+    pub(crate) core: Option<Core<K>>,
 }
 
 impl<K: Kit> Model for Broker<K> {

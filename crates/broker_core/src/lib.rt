@@ -6,6 +6,7 @@
 //! and no time. After `Memory` from one of its calls a broker is spent: it answers `Memory` from then on.
 #![tactic(auto)]
 
+mod answering;
 mod applying;
 mod broker;
 mod core_of;

@@ -6,8 +6,7 @@ ghost use Rattle.document_machine.specs.Step.{Paints};
 ghost use Rattle.view_session.specs.Keeps.{IsViewing};
 ghost use Rattle.broker_core.specs.Serving.{takes, offered, frames_for, Awaits, Ignores};
 
-use crate::applying::frames_only;
-use crate::core_of::{Core, Frames};
+use crate::core_of::{Core, Frames, frames_only};
 use crate::seats::Seat;
 use bytes::Bytes;
 use cool_base::{ListOf, Memory, ViewId};

@@ -16,7 +16,7 @@ impl Seat {
     fn is_still(&self) -> bool
         ensures { result ≡ is_still self.now.view }
     {
-        self.view.room() == 64 && self.view.first_due().is_none()
+        self.view.is_acknowledged() && self.view.is_still()
     }
 }
 
@@ -49,7 +49,7 @@ impl<K: Kit> Core<K> {
     /// The numbers of the tiles that the view has not acknowledged, in order.
     pub(crate) fn unprocessed(&self, id: u32) -> Wids
         requires { IsSome (find_view self.now.views id) }
-        ensures { ForSome (find_view self.now.views id) (λ view. result.items ≡ map (λ tile. record { 0 = tile.wid }) view.window) }
+        ensures { ForSome (find_view self.now.views id) (λ view. map (λ wid. wid.0) result.items ≡ map (λ tile. tile.wid) view.window) }
     {
         match seat_at(&self.seats, id) {
             None => unreachable!(),
