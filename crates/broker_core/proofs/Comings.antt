@@ -25,23 +25,9 @@ use Rattle.broker_core.proofs.HeardBy.{document_of}
 use Rattle.broker_core.proofs.SeatLists.{all_weaker, all_remove, pairs_push, pairs_remove, length-remove_one}
 use Rattle.broker_core.proofs.SeatPlaces.{place_leaves}
 
--- a document as it is loaded
-pub holds_opened : {C B S : Type 0} (rules : Rules C B) (paints : S → Pixels) (IsSound : C → Type 0) (contents : C) (base : List ℕ) → rules.accepts base ≡ true → contents ≡ rules.start base → IsSound (rules.start base) → 1 ≤ rules.parts (rules.body (rules.start base)) → Holds {S = S} rules paints IsSound contents base [] 0 [] 0 []
-holds_opened rules paints IsSound contents base accepted is sound some = record {
-  accepted = accepted;
-  level = omega arith;
-  contents_are = is;
-  sound = subst IsSound (sym is) sound;
-  parts_are = ap (λ c. rules.parts (rules.body c)) is;
-  sizes_are = λ part. ap (λ c. rules.size (rules.body c) part) is;
-  some_part = some;
-  typed = tt;
-  few = omega arith;
-  ids = tt;
-  ids_below = tt;
-  seated = tt;
-  out = tt;
-}
+-- fewer than 64 views sit on fewer than 64 seats
+pub few_seats : (seats : List Seat) → length (views_of seats) < 64 → length seats < 64
+few_seats seats few = simp length-map at few
 
 -- what a broker keeps, with a view that joined
 pub holds_joined : {C B S : Type 0} (rules : Rules C B) (paints : S → Pixels) (IsSound : C → Type 0) (contents : C) (base : List ℕ) (journal : List Input) (applied : ℕ) (seats : List Seat) (next_view : ℕ) (jobs : List (Job S)) (now : Seat) (rights : Rights) (size : Extent)

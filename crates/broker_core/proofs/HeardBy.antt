@@ -2,6 +2,7 @@
 use Rattle.std.proofs.Common.{◌≡◌, ◌∙◌, ℕ, ◌<◌, ◌≤◌, ◌+◌, true, false, List, [], ◌∷◌, ◌++◌, length, length-append, length-set, filter, map, set, get_or, Option, Some, refl, sym, ap, subst, arith, nat_eq}
 use mathlib.Core.Path.{fun_ext}
 use Rattle.std.specs.List.{AllByRecursion}
+use Rattle.std.proofs.lemmas.Bool.Decides.{nat_tests}
 use Rattle.std.proofs.lemmas.List.{set-get_or}
 use Rattle.cool_base.specs.Points.{Extent}
 use Rattle.cool_base.specs.declared.ids.ViewId.{ViewId}
@@ -236,15 +237,20 @@ took_is {C} {B} {S} rules file base journal applied seats next_view jobs next_ti
 took_is rules file base journal applied seats next_view jobs next_ticket id i seat Passes place is s =
     ap (λ xs. document_of file base journal applied xs next_view jobs next_ticket) (same_seats seats i seat is)
 
+nat_is : (m n : ℕ) → nat_eq m n ≡ true → m ≡ n
+nat_is m n e = grind (arith, nat_tests)
+
 -- one of the views said a text
 pub says_by : {C B S : Type 0} (rules : Rules C B) (paints : S → Pixels) (IsSound : C → Type 0) (contents : C) (file base : List ℕ) (journal entries : List Input) (applied count : ℕ) (seats : List Seat) (next_view : ℕ) (jobs : List (Job S)) (next_ticket id i : ℕ) (seat now : Seat) (text : List ℕ) (e : Effect) (frames : List (ViewId × Frame))
     → Holds rules paints IsSound contents base journal applied seats next_view jobs → IsPlace seats id i → get_or seats i seat ≡ seat → count ≡ length journal
-    → e ≡ effect_of count (rules.parts (rules.body contents)) (rules.size (rules.body contents)) (view_of seat) text → frames ≡ frames_of id e → entries ≡ entered journal e
+    → e ≡ effect_of count (rules.parts (rules.body contents)) (rules.size (rules.body contents)) (view_of seat) text → frames ≡ frames_of seat.id e → entries ≡ entered journal e
     → now ≡ with_viewing seat (heard (rules.size (rules.body contents)) seat.view e)
     → Says rules (document_of file base journal applied seats next_view jobs next_ticket) id text (frames_only frames) (document_of file base entries applied (set seats i now) next_view jobs next_ticket)
 says_by {C} {B} {S} rules paints IsSound contents file base journal entries applied count seats next_view jobs next_ticket id i seat now text e frames h place is count_is told frames_are entries_are now_is =
     let d : Document S = document_of file base journal applied seats next_view jobs next_ticket in
     let s : IsSeated rules base journal applied seat = all_at (IsSeated rules base journal applied) seats i seat h.seated place.within is in
+    let same : nat_eq seat.id id ≡ true = subst (λ (x : Seat). nat_eq x.id id ≡ true) is (place.here seat) in
+    let id_is : seat.id ≡ id = nat_is seat.id id same in
     let e_is : e ≡ effect_of (length journal) (parts_of rules base) (size_of rules base) (view_of seat) text =
     told ∙ effect_same count (view_of seat) text h ∙ ap (λ n. effect_of n (parts_of rules base) (size_of rules base) (view_of seat) text) count_is in
     let v : Viewing = heard (size_of rules base) seat.view e in
@@ -256,6 +262,6 @@ says_by {C} {B} {S} rules paints IsSound contents file base journal entries appl
     record {
       view = view_of seat;
       live = place_finds seats id i seat place is;
-      outs_are = ap (λ (fs : List (ViewId × Frame)). frames_only fs) (frames_are ∙ ap (frames_of id) e_is);
+      outs_are = ap (λ (fs : List (ViewId × Frame)). frames_only fs) (frames_are ∙ ap (λ n. frames_of n e) id_is ∙ ap (frames_of id) e_is);
       new_is = new_is ∙ ap (took rules d id) e_is;
     }

@@ -1,6 +1,6 @@
 -- The place of a view, and the machine's list of views with that one changed or gone.
 use Rattle.std.proofs.Common.{◌≡◌, ℕ, zero, suc, ◌+◌, ◌<◌, ◌≤◌, Bool, true, false, cond, List, [], ◌∷◌, ◌++◌, length, take, drop, map, set, get_or, Option, None, Some, refl, sym, ap, ◌∙◌, subst, arith, nat_eq}
-use Rattle.std.specs.Prelude.{remove}
+use Rattle.std.specs.Prelude.{remove, is_some, IfSome}
 use Rattle.std.specs.List.{AllByRecursion}
 use Rattle.std.proofs.lemmas.List.{map-set}
 use Rattle.document_machine.specs.State.{View, find_view, with_view, without_view}
@@ -58,3 +58,16 @@ pub place_leaves : (seats : List Seat) (id i : ℕ) (seat : Seat) → IsPlace se
 place_leaves seats id i seat place is =
     let same : nat_eq seat.id id ≡ true = subst (λ (x : Seat). nat_eq x.id id ≡ true) is (place.here seat) in
     sym (without_at id seats i seat place.within is same place.before)
+
+-- where a view sits it is there
+live_at : (id : ℕ) (seats : List Seat) (i : ℕ) → i < length seats → ((d : Seat) → nat_eq (get_or seats i d).id id ≡ true) → LacksView id (take i seats) → is_some (find_view (views_of seats) id) ≡ true
+live_at id [] i lt here lacks = absurd (omega arith)
+live_at id (s ∷ seats) zero lt here lacks =
+    let t : nat_eq s.id id ≡ true = here s in
+    rw t refl
+live_at id (s ∷ seats) (suc i) lt here lacks = rw (lacks.0) (live_at id seats i (omega arith) here lacks.1)
+
+-- a view is there where it has a place
+pub live_by : (seats : List Seat) (id : ℕ) (place : Option ℕ) → IfSome place (IsPlace seats id) → (place ≡ None → find_view (views_of seats) id ≡ None) → is_some place ≡ is_some (find_view (views_of seats) id)
+live_by seats id None sits none = ap is_some (sym (none refl))
+live_by seats id (Some i) sits none = sym (live_at id seats i sits.within sits.here sits.before)

@@ -19,6 +19,10 @@ entered journal (GoesTo part) = journal
 entered journal (Acknowledges wids) = journal
 entered journal Passes = journal
 
+-- a view once these numbers were acknowledged: the tiles so numbered leave its window, others change nothing
+abbrev pub acknowledged : List ℕ → Viewing → Viewing
+acknowledged wids v = record v { window = filter (λ tile. not (list_any (λ wid. nat_eq wid tile.wid) wids)) v.window }
+
 -- a view after an effect of its message, in a document with parts of these sizes
 abbrev pub heard : (sizes : ℕ → Extent) → Viewing → Effect → Viewing
 heard sizes v (Refuses command kind) = v
@@ -29,5 +33,5 @@ heard sizes v Cancels = cancels v
 heard sizes v (Looks area) = looks area (sizes v.part) v
 heard sizes v (Zooms zoom) = zooms zoom (sizes v.part) v
 heard sizes v (GoesTo part) = goes_to part (sizes part) v
-heard sizes v (Acknowledges wids) = record v { window = filter (λ tile. not (list_any (λ wid. nat_eq wid tile.wid) wids)) v.window }
+heard sizes v (Acknowledges wids) = acknowledged wids v
 heard sizes v Passes = v

@@ -1,12 +1,15 @@
 //! `Core`: what a broker keeps until it is spent.
 ghost use Rattle.std.specs.Prelude.{◌≡◌, length, true, false, IfOk, OnOk};
 ghost use Rattle.std.specs.Option.{is_some};
+ghost use Rattle.document_machine.specs.Kept.{IsKept};
+ghost use Rattle.document_machine.specs.Outputs.{frames_only};
 ghost use Rattle.document_machine.specs.State.{opening, find_view};
 
 use crate::seats::{Seat, seat_at};
 use bytes::Bytes;
 use cool_base::{FileId, ListOf, Memory, ViewId};
 use cool_frame::Frame;
+use document_machine::Outs;
 use kit_trait::{Input, Kit, LoadFault};
 use std::alloc::Global;
 use std::marker::Model;
@@ -14,6 +17,16 @@ use tile_key::TileKey;
 
 /// Frames in the order in which they are given, each with the view that it goes to.
 pub(crate) type Frames = ListOf<(ViewId, Frame)>;
+
+/// These frames and no job.
+pub(crate) fn frames_only<S>(alloc: Global, frames: Frames) -> Outs<S>
+    ensures { result ≡ frames_only frames }
+{
+    Outs {
+        frames,
+        jobs: ListOf::new(alloc),
+    }
+}
 
 /// The job that is out, of one key: its ticket, the number of inputs that its picture shows, its key and
 /// its scene.
@@ -80,6 +93,13 @@ impl<K: Kit> Core<K> {
             job: None,
             next_ticket: 1,
         })
+    }
+
+    /// What a broker keeps holds of its document.
+    pub(crate) fn kept(&self)
+        ensures { IsKept K.rules self.now }
+    {
+        let _applied = self.applied;
     }
 
     /// Whether the document has this view.

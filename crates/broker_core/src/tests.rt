@@ -1,0 +1,1 @@
+//! Several views on the patch document, with ample memory.
