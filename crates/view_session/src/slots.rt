@@ -1,13 +1,14 @@
 //! `Slot`: a key that a view sees or asks for, and what of it is on the screen. Lists of slots are in
 //! key order.
-ghost use Rattle.std.specs.Prelude.{◌≡◌, ◌+◌, ◌<◌, ◌≤◌, ◌&&◌, ◌||◌, true, [], not, length, map, filter, IfOk, IfErr, OnOk, OnErr, slice_index_or, take, drop, option_map};
+ghost use Rattle.std.specs.Prelude.{◌≡◌, ◌≢◌, ◌+◌, ◌<◌, ◌≤◌, ◌&&◌, ◌||◌, true, [], not, length, map, filter, IfOk, IfErr, OnOk, OnErr, find, option_map};
 ghost use Rattle.std.specs.List.{list_any, AllByRecursion};
-ghost use Rattle.tile_key.specs.Places.{same_place};
+ghost use Rattle.tile_key.specs.Places.{IsKey, same_place};
 ghost use Rattle.tile_key.specs.Visible.{IsBefore};
 ghost use Rattle.document_machine.specs.Keys.{is_among, Pairwise};
-ghost use Rattle.document_machine.specs.Message.{asked_with, asked_with_all};
+ghost use Rattle.document_machine.specs.Message.{asked_with_all};
+ghost use Rattle.document_machine.specs.Due.{asked_after};
 ghost use Rattle.view_session.specs.Slots.{keys_in, seen_in, screen_in, slot_due, IsSlotted};
-ghost use Rattle.view_session.specs.Moves.{IsAt, IsGap, seen_slot, marked, shown_in, hit_slot};
+ghost use Rattle.view_session.specs.Moves.{IsAt, IsGap, IsAsked, seen_slot, shown_in, shown_again, hit_slot};
 
 use cool_base::{Memory, Rect, meets};
 use std::alloc::Global;
@@ -30,7 +31,7 @@ pub(crate) struct Slot {
 }
 
 impl Slot {
-    ghost use Rattle.std.specs.Prelude.{◌≡◌, option_map};
+    ghost use Rattle.std.specs.Prelude.{◌≡◌, ◌&&◌, ◌||◌, true, not, option_map, Some};
     ghost use Rattle.view_session.specs.Slots.{slot_due};
     ghost use Rattle.view_session.specs.Moves.{hit_slot};
 
@@ -57,6 +58,37 @@ impl Slot {
         match self.shown {
             Some(shown) => shown.stale,
             None => true,
+        }
+    }
+
+    // Whether the view sees or asks for the key.
+    fn is_needed(&self) -> bool
+        ensures { result ≡ (self.now.visible || self.now.asked) }
+    {
+        self.visible || self.asked
+    }
+
+    // The slot with this on the screen; where `ends`, the asking for it has ended.
+    fn showing(&self, shown: Shown, ends: bool) -> Slot
+        ensures { result ≡ record self.now { asked = self.now.asked && not ends; shown = Some shown } }
+    {
+        Slot {
+            key: self.key,
+            visible: self.visible,
+            asked: self.asked && !ends,
+            shown: Some(shown),
+        }
+    }
+
+    // The slot, marked as asked for.
+    fn asking(&self) -> Slot
+        ensures { result ≡ record self.now { asked = true } }
+    {
+        Slot {
+            key: self.key,
+            visible: self.visible,
+            asked: true,
+            shown: self.shown,
         }
     }
 
@@ -105,48 +137,37 @@ pub(crate) fn see(alloc: Global, keys: &[TileKey]) -> Result<Vec<Slot>, Memory>
     Ok(slots)
 }
 
-/// Marks the key as asked for, with a slot of its own where it has none.
-fn mark(slots: &mut Vec<Slot>, key: &TileKey) -> Result<(), Memory>
-    requires { Pairwise (λ a b. IsBefore a.key b.key) slots.old.items }
-    ensures { OnOk result (slots.new.items ≡ marked slots.old.items key.now) }
-{
-    match find(slots.as_slice(), key) {
-        Ok(i) => slots[i].asked = true,
-        Err(i) => slots.insert(
-            i,
-            Slot {
-                key: *key,
-                visible: false,
-                asked: true,
-                shown: None,
-            },
-        )?,
-    }
-    Ok(())
-}
-
-/// Marks these keys as asked for, one after the other.
-fn mark_all(slots: &mut Vec<Slot>, keys: &[TileKey]) -> Result<(), Memory>
-{
-    for key in keys {
-        mark(slots, key)?;
-    }
-    Ok(())
-}
-
 /// Asks for the key, where it isn't asked for yet.
 fn ask_one(slots: &mut Vec<Slot>, asked: &mut Vec<TileKey>, key: &TileKey) -> Result<(), Memory>
     requires { IsSlotted slots.old.items asked.old.items }
-    ensures asked { OnOk result (asked.new.items ≡ asked_with asked.old.items key.now) }
+    ensures asked { OnOk result (IsAsked slots.old.items asked.old.items key.now slots.new.items asked.new.items) }
+    ensures key { IsKey key.now }
 {
-    if let Ok(i) = find(slots.as_slice(), key) {
-        if slots[i].asked {
-            return Ok(());
+    let _part = key.part();
+    match find(slots.as_slice(), key) {
+        Ok(i) => {
+            let slot = slots[i];
+            if slot.asked {
+                return Ok(());
+            }
+            asked.push(*key)?;
+            slots[i] = slot.asking();
+            Ok(())
+        }
+        Err(i) => {
+            asked.push(*key)?;
+            slots.insert(
+                i,
+                Slot {
+                    key: *key,
+                    visible: false,
+                    asked: true,
+                    shown: None,
+                },
+            )?;
+            Ok(())
         }
     }
-    mark(slots, key)?;
-    asked.push(*key)?;
-    Ok(())
 }
 
 /// Asks for these keys in the order given, each once.
@@ -160,6 +181,7 @@ pub(crate) fn ask_all(
     ensures slotted { OnOk result (IsSlotted slots.new.items asked.new.items) }
     ensures seen { OnOk result (seen_in slots.new.items ≡ seen_in slots.old.items) }
     ensures screen { OnOk result (screen_in slots.new.items ≡ screen_in slots.old.items) }
+    ensures keys { OnOk result (AllByRecursion IsKey asked.old.items → AllByRecursion IsKey asked.new.items) }
 {
     for key in keys {
         ask_one(slots, asked, key)?;
@@ -176,15 +198,9 @@ pub(crate) fn show(slots: &mut Vec<Slot>, key: &TileKey, shown: Shown, ends: boo
     let Ok(i) = find(slots.as_slice(), key) else {
         return;
     };
-    let slot = slots[i];
-    let asked = slot.asked && !ends;
-    if slot.visible || asked {
-        slots[i] = Slot {
-            key: slot.key,
-            visible: slot.visible,
-            asked,
-            shown: Some(shown),
-        };
+    let slot = slots[i].showing(shown, ends);
+    if slot.is_needed() {
+        slots[i] = slot;
     } else {
         slots.remove(i);
     }
@@ -199,24 +215,38 @@ pub(crate) fn seeing(
 ) -> Result<Vec<Slot>, Memory>
     requires order { Pairwise IsBefore keys.now }
     requires old { IsSlotted old.now asked.now }
+    requires once { Pairwise (λ p q. p ≢ q) asked.now }
     ensures slotted { IfOk result (λ slots. IsSlotted slots.items asked.now) }
     ensures seen { IfOk result (λ slots. seen_in slots.items ≡ keys.now) }
     ensures screen { IfOk result (λ slots. screen_in slots.items ≡ filter (λ entry. is_among keys.now entry.key || is_among asked.now entry.key) (screen_in old.now)) }
 {
     let mut slots = see(alloc, keys)?;
-    mark_all(&mut slots, asked)?;
+    let mut again = Vec::new(alloc);
+    ask_all(&mut slots, &mut again, asked)?;
     for slot in old {
-        if let Some(shown) = slot.shown {
-            show(&mut slots, &slot.key, shown, false);
-        }
+        show_again(&mut slots, slot);
     }
     Ok(slots)
 }
 
-/// Takes the key out of the asked ones.
-pub(crate) fn end_asking(asked: &mut Vec<TileKey>, key: &TileKey)
-    ensures { asked.new.items ≡ filter (λ other. not (same_place other key.now)) asked.old.items }
+/// What was on the screen of the slot's key is there again, where the key has a slot.
+fn show_again(slots: &mut Vec<Slot>, slot: &Slot)
+    requires { Pairwise (λ a b. IsBefore a.key b.key) slots.old.items }
+    ensures { slots.new.items ≡ shown_again slots.old.items slot.now.key slot.now.shown }
 {
+    let Some(shown) = slot.shown else {
+        return;
+    };
+    show(slots, &slot.key, shown, false);
+}
+
+/// Where `ends`, the asking for the key ends.
+pub(crate) fn end_asking(asked: &mut Vec<TileKey>, key: &TileKey, ends: bool)
+    ensures { asked.new.items ≡ asked_after asked.old.items key.now ends }
+{
+    if !ends {
+        return;
+    }
     asked.retain(|other| !other.is_same(key));
 }
 
@@ -267,6 +297,18 @@ pub(crate) fn due_keys(alloc: Global, slots: &[Slot]) -> Result<Vec<TileKey>, Me
         }
     }
     Ok(keys)
+}
+
+/// The key of the first slot that is due.
+pub(crate) fn first_due(slots: &[Slot]) -> Option<TileKey>
+    ensures { result ≡ option_map (λ slot. slot.key) (find slot_due slots.now) }
+{
+    for slot in slots {
+        if slot.is_due() {
+            return Some(slot.key);
+        }
+    }
+    None
 }
 
 /// Whether one of the keys that the view sees is due.

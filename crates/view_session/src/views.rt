@@ -8,7 +8,7 @@ ghost use Rattle.view_session.specs.Viewing.{opening, looks, zooms, goes_to, ask
 ghost use Rattle.view_session.specs.Keeps.{IsViewing};
 
 use crate::slots::{
-    Shown, Slot, ask_all, damage, due_keys, end_asking, find, keep_seen, keys, see, seeing, sees_due, show,
+    Shown, Slot, ask_all, damage, due_keys, end_asking, find, first_due, keep_seen, keys, see, seeing, sees_due, show,
 };
 use cool_base::{Memory, Rect, Size, Wid, Wids};
 use document_machine::Rights;
@@ -131,9 +131,9 @@ impl View {
     pub fn kept(&self)
         ensures { IsViewing self.now }
     {
-        let _ = self.next_wid;
-        let _ = self.zoom.pixel_w();
-        let _ = self.window.room();
+        let _next = self.next_wid;
+        let _width = self.zoom.pixel_w();
+        let _room = self.window.room();
     }
 
     /// What the view may do.
@@ -293,9 +293,7 @@ impl View {
             version: ver,
             stale: !current,
         };
-        if current {
-            end_asking(&mut self.asked, key);
-        }
+        end_asking(&mut self.asked, key, current);
         show(&mut self.slots, key, shown, current);
         self.window.put(Wid(wid), key);
         self.next_wid = wid + 1;
@@ -334,7 +332,10 @@ impl View {
     pub fn wants(&self, key: &TileKey) -> bool
         ensures { result ≡ wants self.now key.now }
     {
-        find(self.slots.as_slice(), key).is_ok()
+        match find(self.slots.as_slice(), key) {
+            Ok(_) => true,
+            Err(_) => false,
+        }
     }
 
     /// Whether the key is due: the view sees it and its screen lacks it or has it stale, or it asked for
@@ -350,14 +351,9 @@ impl View {
 
     /// The first due key in key order. It takes no memory.
     pub fn first_due(&self) -> Option<TileKey>
-        ensures first { result ≡ find (is_due self.now) (keys self.now) }
+        ensures { result ≡ find (is_due self.now) (keys self.now) }
     {
-        for slot in self.slots.as_slice() {
-            if slot.is_due() {
-                return Some(slot.key);
-            }
-        }
-        None
+        first_due(self.slots.as_slice())
     }
 
     /// Whether it asks for nothing and no key that it sees is due. It takes no memory.
