@@ -1,11 +1,14 @@
 //! Several views of a patch document, with ample memory: who joins and leaves, and what each is sent for
 //! what it says.
+ghost use Rattle.std.specs.Prelude.{◌≡◌, [], true};
+ghost use Rattle.std.specs.Option.{ForSome};
+
 use crate::{Broker, JoinFault};
 use bytes::Bytes;
 use cool_base::{FileId, Token, ViewId};
 use cool_frame::write_frame;
-use document_machine::{Outs, Rights};
-use kit_trait::{LoadFault, PatchKit, PatchScene};
+use document_machine::{Outs, Rights, Turned};
+use kit_trait::{LoadFault, PatchKit, PatchScene, paint};
 use std::alloc::Global;
 use std::test::Fail;
 
@@ -43,7 +46,7 @@ fn written(alloc: Global, outs: &Outs<PatchScene>) -> Result<Vec<u8>, Fail> {
 }
 
 fn started(alloc: Global, file: &[u8]) -> Result<Broker<PatchKit>, LoadFault> {
-    let Some(id) = FileId::read("first.patch") else {
+    let Some(id) = FileId::read("first") else {
         return Err(LoadFault::Memory);
     };
     let Ok(base) = Bytes::copy_from_slice(alloc, file) else {
@@ -53,7 +56,7 @@ fn started(alloc: Global, file: &[u8]) -> Result<Broker<PatchKit>, LoadFault> {
 }
 
 fn joined(alloc: Global, broker: &mut Broker<PatchKit>, can_write: bool) -> Result<Vec<u8>, Fail> {
-    let token = Token::read("t1").ok_or("a token")?;
+    let token = Token::read(alloc, "t1")?.ok_or("a token")?;
     match broker.join(alloc, Rights { can_write, token }) {
         Ok((view, outs)) => {
             let id = view.0;
@@ -319,5 +322,98 @@ fn files(rt: HostRuntime) -> Result<(), Fail> {
     assert_eq!(rt; started(rt.alloc(), b"7").err(), Some(LoadFault::BadFile));
     let broker = started(rt.alloc(), &[7; 256])?;
     assert_eq!(rt; (broker.applied(), broker.accepted(), broker.is_live(ViewId(0))), (0, 0, false));
+    Ok(())
+}
+
+/// Whether no job is out.
+fn is_free(broker: &Broker<PatchKit>) -> bool
+    ensures { result ≡ true → ForSome broker.now (λ d. d.jobs ≡ []) }
+{
+    match &broker.core {
+        Some(core) => core.job.is_none(),
+        None => false,
+    }
+}
+
+/// One turn, and the job that it cuts painted and brought back: how many frames the turn and the result
+/// gave.
+fn served(alloc: Global, broker: &mut Broker<PatchKit>) -> Result<usize, Fail> {
+    if !is_free(broker) {
+        return Err(Fail::from("a job is out"));
+    }
+    let Turned::Worked(outs) = broker.turn(alloc)? else {
+        return Ok(0);
+    };
+    let mut count = outs.frames.get().len();
+    let Outs { frames: _, jobs } = outs;
+    for job in jobs.into_inner() {
+        let done = paint(alloc, job)?;
+        let outs = broker.painted(alloc, &done)?;
+        count = count.wrapping_add(outs.frames.get().len());
+    }
+    Ok(count)
+}
+
+/// The numbers of the tiles that the view has not acknowledged, each behind a blank.
+fn window(alloc: Global, broker: &Broker<PatchKit>, id: u32) -> Result<String, Fail> {
+    let mut text = String::new(alloc);
+    if !broker.is_live(ViewId(id)) {
+        return Ok(text);
+    }
+    for wid in broker.unprocessed(ViewId(id)).as_slice() {
+        let number = wid.0;
+        text.push_str(format!(in alloc; " {number}")?.as_str())?;
+    }
+    Ok(text)
+}
+
+#[test]
+fn tiles_are_acknowledged(rt: HostRuntime) -> Result<(), Fail> {
+    let alloc = rt.alloc();
+    let mut broker = started(alloc, b"")?;
+    joined(alloc, &mut broker, true)?;
+    joined(alloc, &mut broker, false)?;
+    let table = [
+        (0, TILE, 1, " 1", ""),
+        (0, TILE, 1, " 1 2", ""),
+        (1, TILE, 1, " 1 2", " 1"),
+        (0, "tileprocessed wids=99", 0, " 1 2", " 1"),
+        (0, "tileprocessed wids=99,1,1", 0, " 2", " 1"),
+        (1, "tileprocessed wids=2", 0, " 2", " 1"),
+        (1, "tileprocessed wids=1", 0, " 2", ""),
+        (0, "tileprocessed wids=2,1", 0, "", ""),
+    ];
+    for (id, text, count, first, second) in table {
+        let lines = said(alloc, &mut broker, id, text)?;
+        assert_eq!(rt; lines.len(), 0);
+        assert_eq!(rt; served(alloc, &mut broker)?, count, "{text}");
+        assert_eq!(rt; window(alloc, &broker, 0)?.as_str(), first, "{text}");
+        assert_eq!(rt; window(alloc, &broker, 1)?.as_str(), second, "{text}");
+    }
+    Ok(())
+}
+
+#[test]
+fn an_area_is_forgotten_with_its_view(rt: HostRuntime) -> Result<(), Fail> {
+    let alloc = rt.alloc();
+    let mut broker = started(alloc, b"")?;
+    let acts = [
+        Act::Joins(true),
+        Act::Joins(true),
+        Act::Says(0, "clientvisiblearea x=0 y=0 width=10 height=10"),
+        Act::Says(1, "clientvisiblearea x=0 y=0 width=10 height=10"),
+        Act::Leaves(0),
+    ];
+    for act in acts {
+        done(alloc, &mut broker, act)?;
+    }
+    assert_eq!(rt; served(alloc, &mut broker)?, 1);
+    assert_eq!(rt; window(alloc, &broker, 1)?.as_str(), " 1");
+    assert_eq!(rt; served(alloc, &mut broker)?, 0);
+    let lines = done(alloc, &mut broker, Act::Says(1, CLICK))?;
+    assert_eq!(rt; lines.len(), 0);
+    assert_eq!(rt; served(alloc, &mut broker)?, 1);
+    assert_eq!(rt; served(alloc, &mut broker)?, 1);
+    assert_eq!(rt; window(alloc, &broker, 1)?.as_str(), " 1 2");
     Ok(())
 }
