@@ -147,7 +147,9 @@ fn a_65th_view(rt: HostRuntime) -> Result<(), Fail> {
     for id in 0..64u32 {
         let lines = joined(alloc, &mut broker, id % 2 == 0)?;
         let readonly = id % 2;
-        let wanted = format!(in alloc; "view {id}\n{id} status: type=patch parts=1 current=0 width=3840 height=3840 viewid={id} readonly={readonly}\n")?;
+        let wanted = format!(in alloc;
+            "view {id}\n{id} status: type=patch parts=1 current=0 width=3840 height=3840 viewid={id} readonly={readonly}\n"
+        )?;
         assert_eq!(rt; lines.as_slice(), wanted.as_bytes());
     }
     let acts = [
@@ -246,11 +248,7 @@ fn what_is_refused(rt: HostRuntime) -> Result<(), Fail> {
             "",
         ),
         (0, "setclientpart part=0", ""),
-        (
-            0,
-            "clientvisiblearea x=0 y=0 width=1 height=1",
-            "",
-        ),
+        (0, "clientvisiblearea x=0 y=0 width=1 height=1", ""),
         (
             0,
             "clientzoom tilepixelwidth=1 tilepixelheight=1 tiletwipwidth=15 tiletwipheight=15",
@@ -263,7 +261,11 @@ fn what_is_refused(rt: HostRuntime) -> Result<(), Fail> {
         ),
         (0, "canceltiles", ""),
         (0, "tileprocessed wids=99,1,1", ""),
-        (0, "coolclient", "0 coolserver {\"Version\":\"profile-1\",\"Protocol\":\"0.1\"}\n"),
+        (
+            0,
+            "coolclient",
+            "0 coolserver {\"Version\":\"profile-1\",\"Protocol\":\"0.1\"}\n",
+        ),
     ];
     for (id, text, wanted) in table {
         let lines = said(alloc, &mut broker, id, text)?;
@@ -284,9 +286,9 @@ fn asking(alloc: Global, row: u32, count: u32) -> Result<String, Fail> {
         xs.push_str(format!(in alloc; "{comma}{x}")?.as_str())?;
         ys.push_str(format!(in alloc; "{comma}{y}")?.as_str())?;
     }
-    Ok(
-        format!(in alloc; "tilecombine part=0 width=1 height=1 tileposx={xs} tileposy={ys} tilewidth=15 tileheight=15")?,
-    )
+    Ok(format!(in alloc;
+        "tilecombine part=0 width=1 height=1 tileposx={xs} tileposy={ys} tilewidth=15 tileheight=15"
+    )?)
 }
 
 #[test]
@@ -310,7 +312,10 @@ fn more_than_1024_keys(rt: HostRuntime) -> Result<(), Fail> {
         assert_eq!(rt; lines.as_slice(), wanted.as_bytes());
     }
     let lines = said(alloc, &mut broker, 0, TILE)?;
-    assert_eq!(rt; lines.as_slice(), "0 error: cmd=tile kind=askedfull\n".as_bytes());
+    assert_eq!(rt;
+        lines.as_slice(),
+        "0 error: cmd=tile kind=askedfull\n".as_bytes()
+    );
     said(alloc, &mut broker, 0, "canceltiles")?;
     let lines = said(alloc, &mut broker, 0, TILE)?;
     assert_eq!(rt; lines.as_slice(), "".as_bytes());
@@ -321,7 +326,14 @@ fn more_than_1024_keys(rt: HostRuntime) -> Result<(), Fail> {
 fn files(rt: HostRuntime) -> Result<(), Fail> {
     assert_eq!(rt; started(rt.alloc(), b"7").err(), Some(LoadFault::BadFile));
     let broker = started(rt.alloc(), &[7; 256])?;
-    assert_eq!(rt; (broker.applied(), broker.accepted(), broker.is_live(ViewId(0))), (0, 0, false));
+    assert_eq!(rt;
+        (
+            broker.applied(),
+            broker.accepted(),
+            broker.is_live(ViewId(0))
+        ),
+        (0, 0, false)
+    );
     Ok(())
 }
 
