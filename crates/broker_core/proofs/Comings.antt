@@ -5,13 +5,14 @@ use Rattle.std.specs.List.{AllByRecursion}
 use Rattle.std.proofs.lemmas.List.{length-map, map-append}
 use Rattle.std.proofs.lemmas.Bool.Decides.{nat_tests}
 use Rattle.cool_base.specs.Points.{Extent}
+use Rattle.cool_base.specs.declared.ids.ViewId.{ViewId}
 use Rattle.cool_frame.specs.declared.frame.Frame.{Frame}
 use Rattle.cool_frame.specs.declared.frame.Frame.TheVariants.{Status}
 use Rattle.kit_trait.specs.Rules.{Rules, doc, shown}
 use Rattle.kit_trait.specs.declared.values.Input.{Input}
 use Rattle.kit_trait.specs.declared.values.Pixels.{Pixels}
 use Rattle.document_machine.specs.Due.{parts_of, size_of, touched}
-use Rattle.document_machine.specs.Outputs.{named, nothing, one_frame}
+use Rattle.document_machine.specs.Outputs.{named, nothing, frames_only, one_frame}
 use Rattle.document_machine.specs.State.{View, Job, Document, opening_view, without_view}
 use Rattle.document_machine.specs.Step.{Joins, JoinsWhere, Leaves, status}
 use Rattle.document_machine.specs.declared.outs.Outs.{Outs}
@@ -28,6 +29,11 @@ use Rattle.broker_core.proofs.SeatPlaces.{place_leaves}
 -- fewer than 64 views sit on fewer than 64 seats
 pub few_seats : (seats : List Seat) → length (views_of seats) < 64 → length seats < 64
 few_seats seats few = simp length-map at few
+
+-- one frame alone
+pub outs_by : {S : Type 0} (outs : Outs S) (frames : List (ViewId × Frame)) (id : ℕ) (frame told : Frame) → outs ≡ frames_only frames → frames ≡ (named id, frame) ∷ [] → frame ≡ told → outs ≡ one_frame id told
+outs_by outs frames id frame told outs_are frames_are frame_is =
+    outs_are ∙ ap (λ (fs : List (ViewId × Frame)). frames_only fs) (frames_are ∙ ap (λ (f : Frame). (named id, f) ∷ []) frame_is)
 
 -- what a broker keeps, with a view that joined
 pub holds_joined : {C B S : Type 0} (rules : Rules C B) (paints : S → Pixels) (IsSound : C → Type 0) (contents : C) (base : List ℕ) (journal : List Input) (applied : ℕ) (seats : List Seat) (next_view : ℕ) (jobs : List (Job S)) (now : Seat) (rights : Rights) (size : Extent)

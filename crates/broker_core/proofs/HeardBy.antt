@@ -67,7 +67,12 @@ seated_heard rules base journal applied seat (Refuses command kind) level s with
 seated_heard rules base journal applied seat Greets level s within keeps = s
 seated_heard rules base journal applied seat (Inputs input) level s within keeps = seated_pushed rules base journal applied input seat level s
 seated_heard rules base journal applied seat (Asks asked) level s within keeps = record {
-  keeps = keeps; part = s.part; asked = within; seen = s.seen; versions = s.versions; marks = s.marks;
+  keeps = keeps;
+  part = s.part;
+  asked = within;
+  seen = s.seen;
+  versions = s.versions;
+  marks = s.marks;
 }
 seated_heard rules base journal applied seat Cancels level s within keeps = record {
   keeps = keeps;
@@ -102,7 +107,12 @@ seated_heard rules base journal applied seat (GoesTo part) level s within keeps 
   marks = all_filter (λ (entry : Entry). entry.stale ≡ touched rules base journal entry.version entry.key applied) _ seat.view.screen s.marks;
 }
 seated_heard rules base journal applied seat (Acknowledges wids) level s within keeps = record {
-  keeps = keeps; part = s.part; asked = s.asked; seen = s.seen; versions = s.versions; marks = s.marks;
+  keeps = keeps;
+  part = s.part;
+  asked = s.asked;
+  seen = s.seen;
+  versions = s.versions;
+  marks = s.marks;
 }
 seated_heard rules base journal applied seat Passes level s within keeps = s
 

@@ -31,9 +31,9 @@ view_kept rules d seat s =
       screen = pairs_map (λ (p q : Shown). IsBefore p.key q.key) shown_of v.screen s.keeps.screen;
       versions = all_map (λ (shown : Shown). shown.version ≤ d.applied) shown_of v.screen s.versions;
       wanted = all_map (λ (shown : Shown). sees_or_asks rules d (view_of seat) shown.key ≡ true) shown_of v.screen
-      (all_weaker (λ (entry : Entry). wants v entry.key ≡ true) (λ entry. sees_or_asks rules d (view_of seat) entry.key ≡ true) v.screen
-        (λ entry is. ap (λ (ks : List Place). is_among ks entry.key || is_among v.asked entry.key) (sym seen) ∙ is)
-        s.keeps.wanted);
+          (all_weaker (λ (entry : Entry). wants v entry.key ≡ true) (λ entry. sees_or_asks rules d (view_of seat) entry.key ≡ true) v.screen
+          (λ entry is. ap (λ (ks : List Place). is_among ks entry.key || is_among v.asked entry.key) (sym seen) ∙ is)
+          s.keeps.wanted);
       window_few = s.keeps.window_few;
       wids = s.keeps.wids;
       wids_below = s.keeps.wids_below;

@@ -1,9 +1,9 @@
 -- What holds of all of a list, and of each pair, as the list changes at a place.
-use Rattle.std.proofs.Common.{◌≡◌, ℕ, zero, suc, ◌+◌, ◌<◌, ◌≤◌, Bool, true, false, cond, List, [], ◌∷◌, ◌++◌, length, take, drop, map, filter, set, get_or, All, AllPairs, refl, sym, ap, ◌∙◌, subst, arith}
+use Rattle.std.proofs.Common.{◌≡◌, ℕ, zero, suc, ◌+◌, ◌<◌, ◌≤◌, List, [], ◌∷◌, ◌++◌, length, take, drop, map, set, get_or, refl, sym, ap, ◌∙◌, subst, arith}
 use Rattle.std.specs.Prelude.{remove}
 use Rattle.std.specs.List.{AllByRecursion}
 use Rattle.document_machine.specs.Keys.{Pairwise}
-use Rattle.document_machine.proofs.Lists.{all_push, all_filter, all_at}
+use Rattle.document_machine.proofs.Lists.{all_push, all_at}
 use Rattle.broker_core.specs.Held.{Seat}
 
 -- what follows from what holds of all holds of all
@@ -24,14 +24,6 @@ all_remove P [] (suc i) all = tt
 all_remove P (y ∷ ys) zero all = all.1
 all_remove P (y ∷ ys) (suc i) all = (all.0, all_remove P ys i all.1)
 
-pub pairs_filter : {X : Type 0} (R : X → X → Type 0) (p : X → Bool) (xs : List X) → Pairwise R xs → Pairwise R (filter p xs)
-pairs_filter R p [] pairs = tt
-pairs_filter R p (x ∷ xs) pairs =
-    elim (p x) as (λ b. Pairwise R (cond b (x ∷ filter p xs) (filter p xs))) [
-      | true ↦ (all_filter (R x) p xs pairs.0, pairs_filter R p xs pairs.1)
-      | false ↦ pairs_filter R p xs pairs.1
-    ]
-
 pub pairs_push : {X : Type 0} (R : X → X → Type 0) (xs : List X) (x : X) → Pairwise R xs → AllByRecursion (λ y. R y x) xs → Pairwise R (xs ++ x ∷ [])
 pairs_push R [] x pairs last = (tt, tt)
 pairs_push R (y ∷ ys) x pairs last = (all_push (R y) ys x pairs.0 last.0, pairs_push R ys x pairs.1 last.1)
@@ -51,17 +43,6 @@ ids_set (s ∷ seats) zero seat now is same lt pairs =
 ids_set (s ∷ seats) (suc i) seat now is same lt pairs =
     let below : s.id < seat.id = all_at (λ (b : Seat). s.id < b.id) seats i seat pairs.0 (omega arith) is in
     (all_set (λ b. s.id < b.id) seats i now pairs.0 (omega arith), ids_set seats i seat now is same (omega arith) pairs.1)
-
--- what holds of each element, by places, holds of all
-pub all_by : {X : Type 0} (P : X → Type 0) (xs : List X) → ((k : ℕ) (d : X) → k < length xs → P (get_or xs k d)) → AllByRecursion P xs
-all_by P [] f = tt
-all_by P (x ∷ xs) f = (f 0 x (omega arith), all_by P xs (λ k d lt. f (suc k) d (omega arith)))
-
--- each pair, by places
-pub pairs_by : {X : Type 0} (R : X → X → Type 0) (xs : List X) → AllPairs R xs → Pairwise R xs
-pairs_by R [] pairs = tt
-pairs_by R (x ∷ xs) pairs =
-    (all_by (R x) xs (λ k d lt. pairs 0 (suc k) d (omega arith) (omega arith)), pairs_by R xs (λ i j d less lt. pairs (suc i) (suc j) d (omega arith) (omega arith)))
 
 -- what holds of the pieces of a map
 pub all_map : {X Y : Type 0} (P : Y → Type 0) (f : X → Y) (xs : List X) → AllByRecursion (λ x. P (f x)) xs → AllByRecursion P (map f xs)

@@ -128,13 +128,7 @@ fn refused(alloc: Global, command: &str, kind: ErrorKind) -> Result<Said, Memory
 }
 
 /// An input of this command, in the part where the view stands.
-fn input(
-    alloc: Global,
-    count: u64,
-    seat: &Seat,
-    command: &str,
-    what: What,
-) -> Result<Said, Memory>
+fn input(alloc: Global, count: u64, seat: &Seat, command: &str, what: What) -> Result<Said, Memory>
     ensures { IfOk result (λ said. (parts : ℕ) (sizes : ℕ → Extent) → verdict parts sizes (view_of seat.now) said ≡ input_effect count (view_of seat.now) command.now what) }
 {
     if !seat.view.rights().can_write {
