@@ -4,9 +4,7 @@ use Rattle.std.specs.Prelude.{nat_lt, slice_get, ◌⊎◌}
 use Rattle.std.specs.List.{list_any, list_all, flat_map, sum_by, AllByRecursion}
 use Rattle.std.proofs.lemmas.Bool.Decides.{nat_tests}
 use Rattle.std.proofs.lemmas.List.{drop_more}
-use Rattle.std.specs.Option.{ForSome}
 use Rattle.cool_base.specs.declared.ids.ViewId.{ViewId}
-use Rattle.cool_base.specs.declared.ids.Wid.{Wid}
 use Rattle.cool_frame.specs.declared.frame.Frame.{Frame}
 use Rattle.cool_frame.specs.declared.frame.Frame.TheVariants.{Invalidate}
 use Rattle.kit_trait.specs.Rules.{Rules, doc, shown}
@@ -18,7 +16,7 @@ use Rattle.document_machine.specs.Due.{parts_of, size_of, touched, damage_of, is
 use Rattle.document_machine.specs.Keys.{Pairwise}
 use Rattle.document_machine.specs.Next.{next_pair, none_kept}
 use Rattle.document_machine.specs.Outputs.{named, frames_only, outs_of}
-use Rattle.document_machine.specs.State.{Document, Job, View, Sent, find_view}
+use Rattle.document_machine.specs.State.{Document, Job, View, find_job, without_job}
 use Rattle.document_machine.specs.Step.{Applies, Cuts, TurnsTo, Step, Goes, told, given, is_wanted}
 use Rattle.document_machine.specs.Event.{Turned}
 use Rattle.document_machine.specs.declared.outs.Outs.{Outs}
@@ -27,11 +25,9 @@ use Rattle.document_machine.specs.declared.outs.Turned.TheVariants.{Worked, Idle
 use Rattle.document_machine.proofs.Journal.{doc_more}
 use Rattle.document_machine.proofs.Lists.{nat_eq_self, all_at}
 use Rattle.broker_core.specs.Held.{Seat, view_of, views_of, Holds, IsSeated, IsOut}
-use Rattle.broker_core.specs.Places.{IsPlace}
 use Rattle.broker_core.specs.Serving.{struck_seat, job_of, next_seated, GoesTo}
 use Rattle.broker_core.proofs.HeardBy.{document_of}
 use Rattle.broker_core.proofs.Marks.{damage_is, views_struck, all_struck, ids_all, ids_struck, count_struck}
-use Rattle.broker_core.proofs.SeatPlaces.{place_finds}
 use Rattle.broker_core.proofs.Search.{next_wanted, next_owed, next_part, pair_same}
 
 -- the element at a place
@@ -202,13 +198,3 @@ pub turn_goes : {C B S : Type 0} (rules : Rules C B) (paints : S → Pixels) (ol
 turn_goes rules paints (Some old) turned (Some new) goes = turn_steps rules paints old turned new goes
 turn_goes rules paints (Some old) turned None goes = absurd goes
 turn_goes rules paints None turned new goes = absurd goes
-
--- the numbers of the view at the place
-pub wids_by : {S : Type 0} (file base : List ℕ) (journal : List Input) (applied : ℕ) (seats : List Seat) (next_view : ℕ) (jobs : List (Job S)) (next_ticket : ℕ) (old : Document S) (id i : ℕ) (seat : Seat) (wids : List Wid)
-    → document_of file base journal applied seats next_view jobs next_ticket ≡ old → IsPlace seats id i → get_or seats i seat ≡ seat → map (λ (wid : Wid). wid.0) wids ≡ map (λ (tile : Sent). tile.wid) seat.view.window
-    → ForSome (find_view old.views id) (λ (view : View). map (λ (wid : Wid). wid.0) wids ≡ map (λ (tile : Sent). tile.wid) view.window)
-wids_by {S} file base journal applied seats next_view jobs next_ticket old id i seat wids is place at numbers = λ view found.
-    let there : find_view (views_of seats) id ≡ Some view = subst (λ (o : Document S). find_view o.views id ≡ Some view) (sym is) found in
-    let here : Some (view_of seat) ≡ Some view = sym (place_finds seats id i seat place at) ∙ there in
-    let same : view_of seat ≡ view = cc in
-    subst (λ (v : View). map (λ (wid : Wid). wid.0) wids ≡ map (λ (tile : Sent). tile.wid) v.window) same numbers

@@ -51,9 +51,9 @@ impl<K: Kit> Core<K> {
         requires { IsSome (find_view self.now.views id) }
         ensures { ForSome (find_view self.now.views id) (λ view. map (λ wid. wid.0) result.items ≡ map (λ tile. tile.wid) view.window) }
     {
-        let Some(i) = seat_at(&self.seats, id) else {
-            unreachable!()
-        };
-        self.seats[i].view.wids()
+        match seat_at(&self.seats, id) {
+            None => unreachable!(),
+            Some(i) => self.seats[i].view.wids(),
+        }
     }
 }
