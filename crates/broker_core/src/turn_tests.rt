@@ -105,7 +105,9 @@ impl Stage {
                     let wide = key.width();
                     let number = wid.0;
                     let shade = pixels.as_slice().first().copied().unwrap_or(0);
-                    format!(in alloc; "{to}: {wide} at {x},{y} ver={ver} wid={number} shade={shade}\n")?
+                    format!(in alloc;
+                        "{to}: {wide} at {x},{y} ver={ver} wid={number} shade={shade}\n"
+                    )?
                 }
                 _ => {
                     let text = String::from_utf8(write_frame(alloc, frame)?)?;
@@ -366,7 +368,9 @@ fn rows_of_ten(alloc: Global, count: u32) -> Result<Vec<u8>, Fail> {
         let x = i % 10 * 240;
         let y = i / 10 * 240;
         let number = i + 1;
-        let line = format!(in alloc; "job {number} at {x},{y} number=0\n0: 8 at {x},{y} ver=0 wid={number} shade=0\n")?;
+        let line = format!(in alloc;
+            "job {number} at {x},{y} number=0\n0: 8 at {x},{y} ver=0 wid={number} shade=0\n"
+        )?;
         lines.extend_from_slice(line.as_bytes())?;
     }
     Ok(lines)
