@@ -1,0 +1,12 @@
+//! What an input does to a sheet document, as plain functions on what the document holds: where the
+//! views' cursors stand, which text a key writes, which rectangles are damaged, and the colour of each
+//! point. The definitions stand in `specs`, with the laws that a kit of sheet documents owes; the code
+//! here is the types that they speak of.
+//!
+//! - `Cursor` (`cursors`): where a view stands.
+//! - `Act` (`cursors`): what an input means at a cursor.
+#![tactic(auto)]
+
+mod cursors;
+
+pub use cursors::{Act, Cursor};
