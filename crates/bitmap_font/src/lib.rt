@@ -1,0 +1,11 @@
+//! The font that painters letter with: for each character a glyph of 6 by 8 dots. The characters 32 to
+//! 126 have glyphs of their own, every other one has a box. The last column is empty, so that letters
+//! stand apart.
+#![tactic(auto)]
+
+mod dots;
+mod glyphs;
+#[cfg(test)]
+mod tests;
+
+pub use dots::{dot, other_characters_are_boxes, the_last_column_is_empty};

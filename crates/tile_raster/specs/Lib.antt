@@ -1,0 +1,4 @@
+pub mod Bytes
+pub mod Lettering
+pub mod Painting
+pub mod Strokes

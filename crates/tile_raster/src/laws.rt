@@ -1,0 +1,17 @@
+//! Laws of canvases over whole runs of calls. Each is a function with an empty body whose contract is the
+//! law.
+ghost use Rattle.std.specs.Prelude.{◌≡◌, ℕ, List, [], ◌∷◌, ◌++◌, if◌then◌else◌};
+ghost use Rattle.tile_key.specs.Places.{Place};
+ghost use Rattle.tile_raster.specs.Painting.{Painting, IsBlank, Shows};
+ghost use Rattle.tile_raster.specs.Strokes.{Stroke, has, ink, stroked, Follows};
+
+/// A canvas that was blank and then was filled and written on shows its strokes in order: each pixel has
+/// the colour that they leave at the point that it samples.
+pub fn strokes_come_in_order()
+    ensures { (area : Place) (strokes : List Stroke) (blank new : Painting) → IsBlank area.width area.height blank → Follows area blank strokes new → Shows (λ part. stroked strokes) area new }
+{}
+
+/// The last stroke that has a point gives it its colour.
+pub fn the_last_stroke_is_seen()
+    ensures { (strokes : List Stroke) (last : Stroke) (px py : ℕ) → stroked (strokes ++ last ∷ []) px py ≡ (if has last px py then ink last else stroked strokes px py) }
+{}
