@@ -1,19 +1,19 @@
 -- What an input damages: the cells whose shown text it changed, as rectangles.
-use Rattle.std.specs.Prelude.{ℕ, ◌+◌, ◌-◌, ◌*◌, min, max, Bool, ◌&&◌, nat_le, nat_eq, List, [], ◌∷◌, map, length, if◌then◌else◌}
+use Rattle.std.specs.Prelude.{ℕ, ◌+◌, ◌-◌, ◌*◌, ◌<◌, min, max, Bool, ◌&&◌, nat_le, nat_eq, List, [], ◌∷◌, map, length, if◌then◌else◌}
 use Rattle.cool_base.specs.Points.{Rectangle}
 use Rattle.formula_base.specs.Ranges.{Place}
 use Rattle.part_calc.specs.Shown.{changed_cells}
 use Rattle.sheet_calc.specs.Books.{Parts, part_at}
 use Rattle.kit_trait.specs.declared.values.Input.{Input}
 use Rattle.kit_trait.specs.declared.values.Damage.{Damage}
+use Rattle.sheet_rules.specs.declared.runs.Stretch.{Stretch}
 use Rattle.sheet_rules.specs.Typing.{Sheet, stepped}
 
--- cells of one row without a gap: the row, the first column, and how many cells they are
-pub record Stretch : Type 0 where
-  pub row : ℕ
-  pub col : ℕ
-  pub count : ℕ
+-- a cell of a part
+abbrev pub IsPlace : Place → Type 0
+IsPlace p = (p.0 < 4096) × (p.1 < 256)
 
+-- one cell as a stretch of cells in its row
 abbrev pub one_cell : Place → Stretch
 one_cell p = record { row = p.0; col = p.1; count = 1 }
 
@@ -55,9 +55,12 @@ abbrev pub at_most_256 : List Rectangle → List Rectangle
 at_most_256 [] = []
 at_most_256 (r ∷ rs) = if nat_le (length (r ∷ rs)) 256 then r ∷ rs else rect_over_all r rs ∷ []
 
+abbrev pub damaged : ℕ → Rectangle → Damage
+damaged part r = record { part = part; rect = r }
+
 -- the damage of a part in which these cells changed
 unfoldable pub damage_of : ℕ → List Place → List Damage
-damage_of part cells = map (λ r. record { part = part; rect = r }) (at_most_256 (map rect_of (stretches cells)))
+damage_of part cells = map (damaged part) (at_most_256 (map rect_of (stretches cells)))
 
 -- the damage between two states of the parts, in one of them
 abbrev pub damage_between : Parts → Parts → ℕ → List Damage

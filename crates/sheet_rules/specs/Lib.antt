@@ -1,2 +1,4 @@
+pub mod Colours
+pub mod Cuts
 pub mod Damage
 pub mod Typing

@@ -5,8 +5,14 @@
 //!
 //! - `Cursor` (`cursors`): where a view stands.
 //! - `Act` (`cursors`): what an input means at a cursor.
+//! - `ShownText` (`cuts`): what a scene holds of a cell.
+//! - `Stretch` (`runs`): cells side by side.
 #![tactic(auto)]
 
 mod cursors;
+mod cuts;
+mod runs;
 
 pub use cursors::{Act, Cursor};
+pub use cuts::ShownText;
+pub use runs::Stretch;
