@@ -5,9 +5,11 @@ use Rattle.std.specs.List.{AllByRecursion, Contains}
 use Rattle.std.specs.List.Sorted.{IsStrictlySortedBy}
 use Rattle.std.specs.Map.{keys_of, remove_entry}
 use Rattle.std.specs.Ordering.{match_ordering}
+use Rattle.std.specs.Str.{IsUtf8}
 use Rattle.std.specs.declared.cmp.Ordering.{Ordering}
 use Rattle.std.specs.declared.cmp.Ordering.TheVariants.{Less, Equal, Greater}
 use Rattle.std.proofs.lemmas.Bool.{both_ways}
+use Rattle.std.proofs.lemmas.Str.{is_utf8-from_IsUtf8}
 use Rattle.sheet_cells.specs.Cells.{IsRaw}
 use Rattle.formula_base.specs.Ranges.{Place, place_cmp}
 use Rattle.part_calc.specs.Contents.{is_formula}
@@ -22,6 +24,11 @@ use Rattle.part_calc.proofs.ChangeLaws.{changed_iff, changed_ordered}
 empty_kept : (shown : List (Place × List ℕ)) → IsPart [] × IsShown [] shown
 unfolding text_at IsStrictlySortedBy
 empty_kept shown = (record { ordered = tt; entries = tt }, λ p is. absurd (both_ways false refl (ap is_formula (sym empty_content) ∙ is)))
+
+-- a part without cells is one
+pub none_is_part : (part : Part) → part ≡ [] → IsPart part
+unfolding IsStrictlySortedBy
+none_is_part part none = subst IsPart (sym none) (record { ordered = tt; entries = tt })
 
 pub none_kept : (part : Part) (shown : List (Place × List ℕ)) → part ≡ [] → IsPart part × IsShown part shown
 none_kept part shown none = subst (λ (s : Part). IsPart s × IsShown s shown) (sym none) (empty_kept shown)
@@ -44,20 +51,24 @@ insert_keeps P (e ∷ part) k raw all here = by (place_cmp k e.0) refl (insert_k
     by Equal h ih = (subst (λ (q : Place). P (q, raw)) (exact_places k e.0 h) here, all.1)
     by Greater h ih = (all.0, ih)
 
-entries_kept : (part : Part) (at : Place) (raw : List ℕ) → AllByRecursion IsEntry part → at.0 < 4096 → at.1 < 256 → IsRaw raw → AllByRecursion IsEntry (with_text part at raw)
+entries_kept : (part : Part) (at : Place) (raw : List ℕ) → AllByRecursion IsEntry part → at.0 < 4096 → at.1 < 256 → IsRaw raw → IsUtf8 raw → AllByRecursion IsEntry (with_text part at raw)
 unfolding with_text
-entries_kept part at [] all row column valid = remove_keeps IsEntry (is_at (place_cmp at)) part all
-entries_kept part at (c ∷ raw) all row column valid =
-    insert_keeps IsEntry part at (c ∷ raw) all (record { row = row; column = column; some = omega arith; raw = valid })
+entries_kept part at [] all row column valid utf8 = remove_keeps IsEntry (is_at (place_cmp at)) part all
+entries_kept part at (c ∷ raw) all row column valid utf8 =
+    insert_keeps IsEntry part at (c ∷ raw) all (record { row = row; column = column; some = omega arith; raw = valid; utf8 = is_utf8-from_IsUtf8 (c ∷ raw) utf8 })
+
+-- a text that was put
+pub put_kept : (inside after : Part) (at : Place) (cell raw : List ℕ) → IsPart inside → at.0 < 4096 → at.1 < 256 → IsRaw raw → IsUtf8 raw → cell ≡ raw → after ≡ with_text inside at cell → IsStrictlySortedBy place_cmp (keys_of after) → IsPart after
+put_kept inside after at cell raw part row column valid utf8 is put sorted = record {
+  ordered = sorted;
+  entries = subst (AllByRecursion IsEntry) (sym put) (subst (λ (r : List ℕ). AllByRecursion IsEntry (with_text inside at r)) (sym is) (entries_kept inside at raw part.entries row column valid utf8));
+}
 
 -- an edit
-pub set_kept : (inside after : Part) (at : Place) (cell raw : List ℕ) (shown : List (Place × List ℕ)) → IsPart inside → at.0 < 4096 → at.1 < 256 → IsRaw raw → cell ≡ raw → after ≡ with_text inside at cell → IsStrictlySortedBy place_cmp (keys_of after)
+pub set_kept : (inside after : Part) (at : Place) (cell raw : List ℕ) (shown : List (Place × List ℕ)) → IsPart inside → at.0 < 4096 → at.1 < 256 → IsRaw raw → IsUtf8 raw → cell ≡ raw → after ≡ with_text inside at cell → IsStrictlySortedBy place_cmp (keys_of after)
     → IsShown (with_text inside at cell) shown → IsPart after × IsShown after shown
-set_kept inside after at cell raw shown part row column valid is put sorted kept = (
-  record {
-    ordered = sorted;
-    entries = subst (AllByRecursion IsEntry) (sym put) (subst (λ (r : List ℕ). AllByRecursion IsEntry (with_text inside at r)) (sym is) (entries_kept inside at raw part.entries row column valid));
-  },
+set_kept inside after at cell raw shown part row column valid utf8 is put sorted kept = (
+  put_kept inside after at cell raw part row column valid utf8 is put sorted,
   subst (λ (s : Part). IsShown s shown) (sym put) kept,
 )
 

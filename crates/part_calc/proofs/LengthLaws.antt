@@ -64,7 +64,7 @@ lines_end part total s all told none =
 
 -- ---- how long they can be
 
-short_raw : (raw : List ℕ) → IsRaw raw → length raw ≤ 1024
+pub short_raw : (raw : List ℕ) → IsRaw raw → length raw ≤ 1024
 short_raw raw valid = leb-true (length raw) 1024 (and_parts (leb (length raw) 1024) (list_all is_raw_byte raw) valid).0
 
 two : (b : Bool) → cond b 1 2 ≤ 2

@@ -8,3 +8,4 @@ pub mod ListLaws
 pub mod ChangeLaws
 pub mod KeptLaws
 pub mod LengthLaws
+pub mod EditLengths

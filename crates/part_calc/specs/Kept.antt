@@ -1,9 +1,10 @@
 -- What is kept of a part.
-use Rattle.std.specs.Prelude.{◌≡◌, ℕ, ◌<◌, ◌≤◌, true, List, [], length, Option, Some, unwrap_or, if◌then◌else◌}
+use Rattle.std.specs.Prelude.{◌≡◌, ℕ, ◌<◌, ◌≤◌, true, List, [], length, Option, Some, unwrap_or, IsTrue, if◌then◌else◌}
 use Rattle.std.specs.List.{AllByRecursion}
 use Rattle.std.specs.List.Sorted.{IsStrictlySortedBy}
 use Rattle.std.specs.Map.{lookup, keys_of}
 use Rattle.std.specs.BTreeMap.{is_at}
+use Rattle.std.specs.Str.{is_utf8}
 use Rattle.sheet_cells.specs.Cells.{IsRaw}
 use Rattle.formula_base.specs.Ranges.{Place, place_cmp}
 use Rattle.part_calc.specs.Contents.{content_of, is_formula}
@@ -18,12 +19,13 @@ IsShown part shown = (p : Place) → is_formula (content_at part p) ≡ true →
 abbrev pub text_shown : List ℕ → Option (List ℕ) → List ℕ
 text_shown raw found = if is_formula (content_of raw) then unwrap_or found [] else raw
 
--- a cell of a part with its raw text
+-- a cell of a part with its raw text: some characters, none of them a control character
 pub record IsEntry (e : Place × List ℕ) : Type 0 where
   pub row : e.0.0 < 4096
   pub column : e.0.1 < 256
   pub some : 1 ≤ length e.1
   pub raw : IsRaw e.1
+  pub utf8 : IsTrue (is_utf8 e.1)
 
 -- the cells of a part come by rows and then columns, each once, with raw texts that a cell may have
 pub record IsPart (part : Part) : Type 0 where

@@ -17,6 +17,11 @@ reference_text p = column_letters p.1 ++ decimal (p.0 + 1)
 unfoldable pub cell_line : ℕ → Place × List ℕ → List ℕ
 cell_line part e = decimal part ++ (codes " " ++ (reference_text e.0 ++ (codes " " ++ (e.1 ++ codes "\n"))))
 
+-- the line of a cell with this raw text, and none where the text is empty
+abbrev pub line_at : ℕ → Place → List ℕ → List ℕ
+line_at part p [] = []
+line_at part p (c ∷ raw) = cell_line part (p, c ∷ raw)
+
 -- the lines of a part, a line for each cell that has a raw text
 unfoldable pub part_lines : ℕ → Part → List ℕ
 part_lines part cells = flat_map (cell_line part) cells

@@ -1,7 +1,7 @@
 //! How long the lines of a part are in the text of a file.
-ghost use Rattle.std.specs.Prelude.{◌≡◌, ◌^◌, ◌<◌, ◌≤◌, length, nat_lt, if◌then◌else◌};
+ghost use Rattle.std.specs.Prelude.{◌≡◌, ◌+◌, ◌^◌, ◌<◌, ◌≤◌, length, nat_lt, if◌then◌else◌};
 ghost use Rattle.std.specs.Fmt.{decimal};
-ghost use Rattle.part_calc.specs.Text.{cell_line, part_lines};
+ghost use Rattle.part_calc.specs.Text.{cell_line, line_at, part_lines};
 
 use crate::contents::Cell;
 use std::collections::BTreeMap;
@@ -18,9 +18,23 @@ pub fn lines_len(cells: &BTreeMap<(u32, u32), Cell>, number: u32) -> u64
     total
 }
 
+/// How many bytes the line of a cell with this raw text has, as one of the part of this number: none
+/// where the text is empty.
+pub fn line_len_at(number: u32, place: (u32, u32), raw: &str) -> u64
+    ensures length { result ≡ length (line_at number place raw.now) }
+    ensures small { result ≤ length raw.now + 45 }
+{
+    if raw.is_empty() {
+        0
+    } else {
+        line_len(number, place, raw)
+    }
+}
+
 // How many bytes a cell's line has.
 fn line_len(number: u32, place: (u32, u32), raw: &str) -> u64
-    ensures { result ≡ length (cell_line number (place, raw.now)) }
+    ensures length { result ≡ length (cell_line number (place, raw.now)) }
+    ensures small { result ≤ length raw.now + 45 }
 {
     let part = digits(u64::from(number));
     let column = letters(place.1);
@@ -30,7 +44,8 @@ fn line_len(number: u32, place: (u32, u32), raw: &str) -> u64
 
 // How many letters name the column.
 fn letters(column: u32) -> u64
-    ensures { result ≡ (if nat_lt column 26 then 1 else 2) }
+    ensures letters { result ≡ (if nat_lt column 26 then 1 else 2) }
+    ensures few { result ≤ 2 }
 {
     if column < 26 { 1 } else { 2 }
 }

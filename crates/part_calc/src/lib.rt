@@ -22,7 +22,7 @@ mod shown;
 pub use contents::{Cell, Content};
 pub use edited::Edited;
 pub use laws::{circular_cells_never_end, values_are_determined, values_follow};
-pub use lengths::digits;
+pub use lengths::{digits, line_len_at};
 pub use part::Part;
 pub use recalculation::{Recalculated, recalculate};
 pub use settling::settle;

@@ -5,6 +5,7 @@ ghost use Rattle.std.specs.List.Sorted.{IsStrictlySortedBy};
 ghost use Rattle.std.specs.Map.{keys_of};
 ghost use Rattle.sheet_cells.specs.Cells.{IsRaw};
 ghost use Rattle.formula_base.specs.Ranges.{Place, place_cmp};
+ghost use Rattle.part_calc.specs.Kept.{IsPart};
 ghost use Rattle.part_calc.specs.Parts.{text_at, with_text};
 ghost use Rattle.part_calc.specs.Shown.{shown_at, changed_cells};
 ghost use Rattle.part_calc.specs.Text.{part_lines};
@@ -45,7 +46,8 @@ impl Model for Part {
 impl Part {
     /// A part whose cells are all empty.
     pub fn new(alloc: Global) -> Part
-        ensures { result ≡ [] }
+        ensures none { result ≡ [] }
+        ensures kept { IsPart result }
     {
         Part {
             cells: BTreeMap::new(alloc),
@@ -70,6 +72,7 @@ impl Part {
         ensures changed { IfOk result (λ changed. changed ≡ changed_cells self.old (with_text self.old at raw.now)) }
         ensures exactly { IfOk result (λ changed. (p : Place) → Contains changed p ↔ (shown_at self.old p ≢ shown_at self.new p)) }
         ensures in_order { IfOk result (λ changed. IsStrictlySortedBy place_cmp changed) }
+        ensures kept { OnOk result (IsPart self.new) }
         ensures err { OnErr result (self.new ≡ self.old) }
     {
         let cell = Cell::of(alloc, raw)?;

@@ -1,16 +1,18 @@
 -- An edit of a book is an edit of one of its parts.
-use Rattle.std.proofs.Common.{◌≡◌, ◌≢◌, ◌↔◌, ℕ, suc, ◌+◌, ◌<◌, ◌≤◌, List, [], length, get_or, drop, refl, ap, sym, ◌∙◌, subst, ⊎_elim, arith, length-append, drop-cons, add-one, get_or-set_same, get_or-set_other, drop_of_length-le}
-use Rattle.std.proofs.Math.ListN.{set}
+use Rattle.std.proofs.Common.{◌≡◌, ◌≢◌, ◌↔◌, ℕ, zero, suc, ◌+◌, ◌<◌, ◌≤◌, List, [], ◌∷◌, length, get_or, drop, refl, ap, sym, ◌∙◌, subst, ⊎_elim, arith, length-append, drop-cons, add-one, get_or-set_same, get_or-set_other, drop_of_length-le}
+use Rattle.std.proofs.Math.ListN.{set, length-set}
 use Rattle.std.proofs.lemmas.Bool.{cases_eq}
 use Rattle.std.proofs.lemmas.List.{get_or_default}
 use Rattle.std.specs.Fmt.{decimal}
-use Rattle.std.specs.List.{Contains}
+use Rattle.std.specs.List.{Contains, AllByRecursion}
 use Rattle.sheet_cells.specs.declared.cells.CellRef.{CellRef}
 use Rattle.formula_base.specs.Ranges.{Place}
 use Rattle.part_calc.specs.Parts.{Part, text_at, with_text}
 use Rattle.part_calc.specs.Shown.{shown_at, changed_cells}
-use Rattle.part_calc.specs.Text.{part_lines}
-use Rattle.sheet_calc.specs.Books.{Parts, place_of, part_at, text_of, shown_of, with_cell, changed_in, IsAmong}
+use Rattle.part_calc.specs.Kept.{IsPart}
+use Rattle.part_calc.specs.Text.{line_at, part_lines}
+use Rattle.part_calc.proofs.EditLengths.{edited_length}
+use Rattle.sheet_calc.specs.Books.{Parts, IsBook, place_of, part_at, text_of, shown_of, with_cell, changed_in, IsAmong}
 use Rattle.sheet_calc.specs.FileText.{all_lines, file_text}
 
 -- the part of a cell once it was put back
@@ -83,6 +85,47 @@ lines_end parts n total h told =
 pub text_is : (parts : Parts) (a b : ℕ) → a ≡ length (decimal (length parts)) → b ≡ length (all_lines 0 parts) → a + 19 + b ≡ length (file_text parts)
 unfolding file_text
 text_is parts a b x y = simp length-append (omega (arith, x, y))
+
+-- ---- the length of the file after an edit
+
+part_kept : (parts : Parts) (k : ℕ) → k < length parts → AllByRecursion IsPart parts → IsPart (part_at parts k)
+part_kept [] k h all = absurd (omega arith)
+part_kept (part ∷ parts) zero h all = all.0
+part_kept (part ∷ parts) (suc k) h all = part_kept parts k (omega arith) all.1
+
+lines_set : (parts : Parts) (n k m : ℕ) (part : Part) → m ≡ n + k → k < length parts → length (all_lines n (set parts k part)) + length (part_lines m (part_at parts k)) ≡ length (all_lines n parts) + length (part_lines m part)
+lines_set [] n k m part at h = absurd (omega arith)
+lines_set (old ∷ parts) n zero m part at h =
+    let same : m ≡ n = omega (arith, at) in
+    let after = length-append (part_lines n part) (all_lines (n + 1) parts) in
+    let before = length-append (part_lines n old) (all_lines (n + 1) parts) in
+    let one : length (part_lines m old) ≡ length (part_lines n old) = ap (λ (j : ℕ). length (part_lines j old)) same in
+    let two : length (part_lines m part) ≡ length (part_lines n part) = ap (λ (j : ℕ). length (part_lines j part)) same in
+    omega (arith, after, before, one, two)
+lines_set (old ∷ parts) n (suc k) m part at h =
+    let behind = lines_set parts (n + 1) k m part (omega (arith, at)) (omega (arith, h)) in
+    let after = length-append (part_lines n old) (all_lines (n + 1) (set parts k part)) in
+    let before = length-append (part_lines n old) (all_lines (n + 1) parts) in
+    omega (arith, behind, after, before)
+
+length_text : (parts : Parts) → length (file_text parts) ≡ length (decimal (length parts)) + 19 + length (all_lines 0 parts)
+length_text parts = sym (text_is parts (length (decimal (length parts))) (length (all_lines 0 parts)) refl refl)
+
+length_set : (parts : Parts) (k : ℕ) (part : Part) → length (set parts k part) ≡ length parts
+length_set parts k part = length-set parts k part
+
+pub edited_text : (parts : Parts) (at : CellRef) (raw : List ℕ) → IsBook parts → at.part < length parts
+    → length (file_text (with_cell parts at raw)) + length (line_at at.part (place_of at) (text_of parts at)) ≡ length (file_text parts) + length (line_at at.part (place_of at) raw)
+unfolding with_cell text_of
+edited_text parts at raw book h =
+    let old = part_at parts at.part in
+    let new = with_text old (place_of at) raw in
+    let after = length_text (set parts at.part new) in
+    let before = length_text parts in
+    let digits : length (decimal (length (set parts at.part new))) ≡ length (decimal (length parts)) = ap (λ (n : ℕ). length (decimal n)) (length_set parts at.part new) in
+    let swap = lines_set parts 0 at.part at.part new (omega arith) h in
+    let part = edited_length at.part old (place_of at) raw (part_kept parts at.part h book.each) in
+    omega (arith, after, before, digits, swap, part)
 
 -- ---- for the code: the part that is lent, and what is put back
 

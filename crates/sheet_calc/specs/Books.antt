@@ -1,15 +1,22 @@
 -- The parts of a sheet document.
-use Rattle.std.specs.Prelude.{◌≡◌, ℕ, List, [], slice_index_or, slice_set}
-use Rattle.std.specs.List.{Contains}
+use Rattle.std.specs.Prelude.{◌≡◌, ℕ, ◌≤◌, List, [], length, slice_index_or, slice_set}
+use Rattle.std.specs.List.{Contains, AllByRecursion}
 use Rattle.sheet_cells.specs.declared.cells.CellRef.{CellRef}
 use Rattle.formula_base.specs.Ranges.{Place}
 use Rattle.part_calc.specs.Parts.{Part, text_at, with_text}
+use Rattle.part_calc.specs.Kept.{IsPart}
 use Rattle.part_calc.specs.Shown.{shown_at, changed_cells}
 use Rattle.sheet_calc.specs.declared.changed.Changed.{Changed}
 
 -- the parts in order: of each, the cells that have a raw text
 abbrev pub Parts : Type 0
 Parts = List Part
+
+-- parts that a book can have: 1 to 16, and in each the cells by rows and then columns, each once, with raw texts that a cell may have
+pub record IsBook (parts : Parts) : Type 0 where
+  pub some : 1 ≤ length parts
+  pub few : length parts ≤ 16
+  pub each : AllByRecursion IsPart parts
 
 -- a cell's place in its part
 abbrev pub place_of : CellRef → Place

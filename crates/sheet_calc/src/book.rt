@@ -4,12 +4,12 @@ ghost use Rattle.std.specs.List.Sorted.{IsStrictlySortedBy};
 ghost use Rattle.sheet_cells.specs.Cells.{IsCell, IsRaw};
 ghost use Rattle.sheet_cells.specs.declared.cells.CellRef.{CellRef};
 ghost use Rattle.formula_base.specs.Ranges.{place_cmp};
-ghost use Rattle.sheet_calc.specs.Books.{text_of, shown_of, with_cell, changed_in, IsAmong};
+ghost use Rattle.sheet_calc.specs.Books.{IsBook, text_of, shown_of, with_cell, changed_in, IsAmong};
 ghost use Rattle.sheet_calc.specs.FileText.{all_lines, file_text};
 
 use crate::changed::Changed;
 use cool_base::Memory;
-use part_calc::{Part, digits};
+use part_calc::{Part, digits, line_len_at};
 use sheet_cells::CellRef;
 use std::alloc::Global;
 use std::marker::Model;
@@ -23,9 +23,10 @@ pub struct Book {
 }
 
 impl Model for Book {
-    ghost use Rattle.std.specs.Prelude.{ℕ, ◌≤◌, List, length};
+    ghost use Rattle.std.specs.Prelude.{ℕ, List};
     ghost use Rattle.std.specs.Coded.{coded×, coded_list, coded_ℕ};
     ghost use Rattle.formula_base.specs.Ranges.{Place};
+    ghost use Rattle.sheet_calc.specs.Books.{IsBook};
 
     ghost Value = { List (List (Place × List ℕ)) };
 
@@ -33,7 +34,7 @@ impl Model for Book {
 
     ghost view = { λ book. book.parts.items };
 
-    ghost invariant = { λ book. length book.parts.items ≤ 16 };
+    ghost invariant = { λ book. IsBook book.parts.items };
 }
 
 impl Book {
@@ -50,10 +51,12 @@ impl Book {
         Ok(Book { parts: list })
     }
 
-    /// How many parts there are.
+    /// How many parts there are: 1 to 16. Its cells are in order, and their raw texts are such as a cell
+    /// may have.
     pub fn parts(&self) -> u32
         ensures count { result ≡ length self.now }
         ensures few { result ≤ 16 }
+        ensures kept { IsBook self.now }
     {
         self.parts.len() as u32
     }
@@ -97,12 +100,28 @@ impl Book {
         self.parts[at.part as usize].raw((at.row, at.col))
     }
 
-    /// How many bytes the text of the book's file has.
+    /// How many bytes the text of the book's file has: below 2^37. It takes time linear in the book's
+    /// cells.
     pub fn text_len(&self) -> u64
-        ensures { result ≡ length (file_text self.now) }
+        ensures length { result ≡ length (file_text self.now) }
+        ensures small { result < 2 ^ 37 }
     {
         let count = self.parts.len() as u64;
         digits(count) + 19 + lines_len(self.parts.as_slice())
+    }
+
+    /// How many bytes the text of the book's file would have, if the cell had this raw text. It takes
+    /// time linear in the book's cells.
+    pub fn text_len_with(&self, at: &CellRef, raw: &str) -> u64
+        requires cell { IsCell (length self.now) at.now }
+        requires valid { IsRaw raw.now }
+        ensures { result ≡ length (file_text (with_cell self.now at.now raw.now)) }
+    {
+        let _count = self.parts();
+        let place = (at.row, at.col);
+        let old = line_len_at(at.part, place, self.raw(at));
+        let new = line_len_at(at.part, place, raw);
+        self.text_len() + new - old
     }
 }
 

@@ -1,10 +1,10 @@
-use Rattle.part_calc.proofs.KeptLaws.{set_kept, set_exactly, set_in_order, set_there, set_elsewhere}
+use Rattle.part_calc.proofs.KeptLaws.{put_kept, set_kept, set_exactly, set_in_order, set_there, set_elsewhere}
 use Rattle.part_calc.proofs.part.Part.set.Goals as goal
 
 pub invariant_of-self-2 : goal.invariant_of-self-2
 invariant_of-self-2 c =
     set_kept c.self.inside.cells.entries c.put.new.cells.entries c.args.at c.in_ok-cell.cell c.args.raw.now c.in_ok-found.found.shown.entries
-    c.self.invariant.0 c.requires.row c.requires.column c.requires.valid c.in_ok-cell.ensures c.in_ok-put.ensures.ok c.in_ok-put.ensures.ordered c.in_ok-found.ensures.shown
+    c.self.invariant.0 c.requires.row c.requires.column c.requires.valid c.utf8.raw c.in_ok-cell.ensures c.in_ok-put.ensures.ok c.in_ok-put.ensures.ordered c.in_ok-found.ensures.shown
 
 pub returns-clause-exactly : goal.returns-clause-exactly
 returns-clause-exactly c =
@@ -21,3 +21,8 @@ returns-clause-there c =
 pub returns-clause-elsewhere : goal.returns-clause-elsewhere
 returns-clause-elsewhere c =
     set_elsewhere c.self.inside.cells.entries c.args.self.now c.put.new.cells.entries c.args.at c.in_ok-cell.cell c.self.invariant.0 c.self.view_is c.in_ok-put.ensures.ok
+
+pub returns-clause-kept : goal.returns-clause-kept
+returns-clause-kept c =
+    put_kept c.self.inside.cells.entries c.put.new.cells.entries c.args.at c.in_ok-cell.cell c.args.raw.now
+    c.self.invariant.0 c.requires.row c.requires.column c.requires.valid c.utf8.raw c.in_ok-cell.ensures c.in_ok-put.ensures.ok c.in_ok-put.ensures.ordered

@@ -5,8 +5,8 @@ use Rattle.sheet_calc.specs.FileText.{all_lines, file_text}
 use Rattle.sheet_calc.proofs.BookLaws.{text_is}
 use Rattle.sheet_calc.proofs.book.Book.text_len.Goals as goal
 
-pub returns : goal.returns
-returns c =
+pub returns-clause-length : goal.returns-clause-length
+returns-clause-length c =
     let parts = c.self.inside.parts.items in
     let count : c.len-count.result ≡ length parts = omega (arith, c.len-count.ensures) in
     text_is parts c.digits.result c.lines_len.result
