@@ -3,13 +3,16 @@
 //!
 //! - `cursor_of` (`cursors`): where a view stands in a part.
 //! - `act_of` (`acts`): what a key or a mouse input means there.
+//! - `take_act` (`steps`): what it leaves, with the damage.
 //! - `damage_of` (`damages`): changed cells as rectangles.
 #![tactic(auto)]
 
 mod acts;
 mod cursors;
 mod damages;
+mod steps;
 
 pub use acts::act_of;
 pub use cursors::cursor_of;
 pub use damages::damage_of;
+pub use steps::take_act;

@@ -1,1 +1,4 @@
+pub mod ChangedCells
+pub mod CursorLaws
 pub mod Stretches
+pub mod Typings

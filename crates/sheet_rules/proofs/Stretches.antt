@@ -41,23 +41,22 @@ put_apart s p [] apart = rw apart refl
 put_apart s p (t ∷ ts) apart = put_alone s p t ts (is_next (one_cell p) t) apart
 
 -- the stretches from a cell on
-stretches_at : (cells : List Place) (i : ℕ) (p : Place) → i < length cells → p ≡ get_or cells i p → stretches (drop i cells) ≡ put_before (one_cell p) (stretches (drop (i + 1) cells))
-stretches_at cells i p h at =
-    ap stretches (drop-cons cells i p h)
-    ∙ ap (λ (q : Place). put_before (one_cell q) (stretches (drop (suc i) cells))) (sym at)
-    ∙ ap (λ (n : ℕ). put_before (one_cell p) (stretches (drop n cells))) (sym (add-one i))
+stretches_at : (cells : List Place) (i : ℕ) (d : Place) → i < length cells → stretches (drop i cells) ≡ put_before (one_cell (get_or cells i d)) (stretches (drop (i + 1) cells))
+stretches_at cells i d h =
+    ap stretches (drop-cons cells i d h)
+    ∙ ap (λ (n : ℕ). put_before (one_cell (get_or cells i d)) (stretches (drop n cells))) (sym (add-one i))
 
 -- one more cell of the stretch that the cells begin with
-pub first_more : (cells : List Place) (s : Stretch) (p : Place) (i : ℕ) → i < length cells → p ≡ get_or cells i p → is_next s (one_cell p) ≡ true → stretches cells ≡ put_before s (stretches (drop i cells)) → stretches cells ≡ put_before (longer s 1) (stretches (drop (i + 1) cells))
-first_more cells s p i h at next so =
-    so ∙ ap (put_before s) (stretches_at cells i p h at) ∙ put_next s p (stretches (drop (i + 1) cells)) next
+pub first_more : (cells : List Place) (s : Stretch) (i : ℕ) (d : Place) → i < length cells → is_next s (one_cell (get_or cells i d)) ≡ true → stretches cells ≡ put_before s (stretches (drop i cells)) → stretches cells ≡ put_before (longer s 1) (stretches (drop (i + 1) cells))
+first_more cells s i d h next so =
+    so ∙ ap (put_before s) (stretches_at cells i d h) ∙ put_next s (get_or cells i d) (stretches (drop (i + 1) cells)) next
 
--- its end, before a cell that doesn't continue it
-pub first_end : (cells : List Place) (s : Stretch) (p : Place) (i : ℕ) → i < length cells → p ≡ get_or cells i p → is_next s (one_cell p) ≡ false → stretches cells ≡ put_before s (stretches (drop i cells)) → stretches cells ≡ s ∷ stretches (drop i cells)
-first_end cells s p i h at apart so =
-    so ∙ ap (put_before s) (stretches_at cells i p h at) ∙ put_apart s p (stretches (drop (i + 1) cells)) apart ∙ ap (λ (ts : List Stretch). s ∷ ts) (sym (stretches_at cells i p h at))
+-- it ends before a cell that doesn't continue it
+pub first_end : (cells : List Place) (s : Stretch) (i : ℕ) (d : Place) → i < length cells → is_next s (one_cell (get_or cells i d)) ≡ false → stretches cells ≡ put_before s (stretches (drop i cells)) → stretches cells ≡ s ∷ stretches (drop i cells)
+first_end cells s i d h apart so =
+    so ∙ ap (put_before s) (stretches_at cells i d h) ∙ put_apart s (get_or cells i d) (stretches (drop (i + 1) cells)) apart ∙ ap (λ (ts : List Stretch). s ∷ ts) (sym (stretches_at cells i d h))
 
--- and its end where no cell follows
+-- and where no cell follows
 pub first_whole : (cells : List Place) (s : Stretch) (i : ℕ) → length cells ≤ i → stretches cells ≡ put_before s (stretches (drop i cells)) → stretches cells ≡ s ∷ stretches (drop i cells)
 first_whole cells s i h so =
     let none = drop_of_length-le cells h in
@@ -82,7 +81,14 @@ places_drop zero cells all = all
 places_drop (suc n) [] all = tt
 places_drop (suc n) (p ∷ ps) all = places_drop n ps all.1
 
-pub place_at : (cells : List Place) (i : ℕ) (p : Place) → AllByRecursion IsPlace cells → i < length cells → p ≡ get_or cells i p → IsPlace p
-place_at [] i p all h at = absurd (omega arith)
-place_at (q ∷ qs) zero p all h at = subst IsPlace (sym at) all.0
-place_at (q ∷ qs) (suc i) p all h at = place_at qs i p all.1 (omega arith) at
+pub place_at : (cells : List Place) (i : ℕ) (d : Place) → AllByRecursion IsPlace cells → i < length cells → IsPlace (get_or cells i d)
+place_at [] i d all h = absurd (omega arith)
+place_at (q ∷ qs) zero d all h = all.0
+place_at (q ∷ qs) (suc i) d all h = place_at qs i d all.1 (omega arith)
+
+-- a stretch that a cell continues ends at the last column or before
+pub first_right : (cells : List Place) (s : Stretch) (i : ℕ) (d : Place) → AllByRecursion IsPlace cells → i < length cells → is_next s (one_cell (get_or cells i d)) ≡ true → s.col + (s.count + 1) ≤ 256
+first_right cells s i d all h next =
+    let place = place_at cells i d all h in
+    let parts = and_parts (nat_eq s.row (get_or cells i d).0) (nat_eq (s.col + s.count) (get_or cells i d).1) next in
+    omega (arith, place.1, eqb-true (s.col + s.count) (get_or cells i d).1 parts.1)

@@ -1,10 +1,12 @@
 -- What an input does to a sheet document: it moves the cursor of its view, or changes the raw text under it.
 use Rattle.std.specs.Prelude.{ℕ, zero, suc, ◌+◌, ◌-◌, ◌/◌, min, Bool, true, false, not, ◌&&◌, ◌||◌, ◌==◌, nat_lt, nat_le, nat_eq, List, [], ◌∷◌, ◌++◌, length, take, Option, Some, None, if◌then◌else◌, encode_utf8, encode_utf8_all}
 use Rattle.std.specs.Str.{chars}
+use Rattle.std.specs.List.{list_all}
 use Rattle.std.specs.Ordering.{nat_cmp}
 use Rattle.std.specs.Map.{lookup}
 use Rattle.std.specs.BTreeMap.{is_at, insert_entry}
 use Rattle.sheet_cells.specs.declared.cells.CellRef.{CellRef}
+use Rattle.sheet_cells.specs.Cells.{is_raw_byte}
 use Rattle.sheet_calc.specs.Books.{Parts, text_of, with_cell}
 use Rattle.sheet_calc.specs.FileText.{file_text}
 use Rattle.kit_trait.specs.declared.values.Input.{Input}
@@ -123,15 +125,24 @@ act_of parts cursor part (Mouse x y count buttons modifier) = mouse_act part x y
 unfoldable pub fits : Parts → CellRef → List ℕ → Bool
 fits parts at raw = nat_le (length raw) 1024 && nat_le (length (file_text (with_cell parts at raw))) 2097152
 
--- what an act at a cell leaves; a text that doesn't fit changes nothing, the cursor included
+-- whether every byte of the text that an act writes may stand in a raw text
+abbrev pub writes_raw : Act → Bool
+writes_raw Stays = true
+writes_raw (Goes to) = true
+writes_raw (Writes raw fresh) = list_all is_raw_byte raw
+
+-- what is left where a raw text was written at a cursor; a text that doesn't fit changes nothing, the cursor included
+abbrev pub written : Sheet → ℕ → Cursor → List ℕ → Sheet
+written c view cursor raw =
+    if fits c.parts cursor.at raw
+    then record { parts = with_cell c.parts cursor.at raw; cursors = insert_entry nat_cmp c.cursors view cursor }
+    else c
+
+-- what an act at a cell leaves
 abbrev pub acted : Sheet → ℕ → CellRef → Act → Sheet
 acted c view at Stays = c
 acted c view at (Goes to) = record c { cursors = insert_entry nat_cmp c.cursors view (record { at = to; fresh = true }) }
-acted c view at (Writes raw fresh) =
-    if fits c.parts at raw then record {
-      parts = with_cell c.parts at raw;
-      cursors = insert_entry nat_cmp c.cursors view (record { at = at; fresh = fresh });
-    } else c
+acted c view at (Writes raw fresh) = written c view (record { at = at; fresh = fresh }) raw
 
 -- an input acts at its view's cursor in its part; one that names no part of the document changes nothing
 abbrev pub stepped : Sheet → Input → Sheet
