@@ -35,7 +35,7 @@ pub record IsPainted (area : Place) (points : ℕ → ℕ → Bool) (colour : Co
   pub width : new.width ≡ old.width
   pub height : new.height ≡ old.height
   pub pixels : (i j : ℕ) → i < old.width → j < old.height →
-    pixel new i j ≡ (if points (x_at area i) (y_at area j) then colour else pixel old i j)
+      pixel new i j ≡ (if points (x_at area i) (y_at area j) then colour else pixel old i j)
 
 -- the painting has the size of the place, and each pixel the colour of the point that it samples
 pub record Shows (colour : ℕ → ℕ → ℕ → Colour) (p : Place) (painting : Painting) : Type 0 where

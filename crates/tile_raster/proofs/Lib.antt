@@ -1,0 +1,5 @@
+pub mod BlockFacts
+pub mod FrontFacts
+pub mod LetterFacts
+pub mod SpanFacts
+pub mod StrokeFacts
