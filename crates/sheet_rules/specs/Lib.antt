@@ -1,4 +1,5 @@
 pub mod Colours
 pub mod Cuts
 pub mod Damage
+pub mod ShownTexts
 pub mod Typing
