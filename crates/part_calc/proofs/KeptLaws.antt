@@ -1,5 +1,6 @@
 -- What is kept of a part stays right.
 use Rattle.std.proofs.Common.{◌≡◌, ◌≢◌, ◌↔◌, ℕ, ◌<◌, Bool, true, false, cond, List, [], ◌∷◌, refl, ap, sym, ◌∙◌, subst, arith}
+use Rattle.std.specs.Prelude.{Result, Ok, Err, IfOk, OnOk, OnErr}
 use Rattle.std.specs.BTreeMap.{is_at, insert_entry}
 use Rattle.std.specs.List.{AllByRecursion, Contains}
 use Rattle.std.specs.List.Sorted.{IsStrictlySortedBy}
@@ -8,7 +9,7 @@ use Rattle.std.specs.Ordering.{match_ordering}
 use Rattle.std.specs.Str.{IsUtf8}
 use Rattle.std.specs.declared.cmp.Ordering.{Ordering}
 use Rattle.std.specs.declared.cmp.Ordering.TheVariants.{Less, Equal, Greater}
-use Rattle.std.proofs.lemmas.Bool.{both_ways}
+use Rattle.std.proofs.lemmas.Bool.{both_ways, cond-false}
 use Rattle.std.proofs.lemmas.Str.{is_utf8-from_IsUtf8}
 use Rattle.sheet_cells.specs.Cells.{IsRaw}
 use Rattle.formula_base.specs.Ranges.{Place, place_cmp}
@@ -16,7 +17,7 @@ use Rattle.part_calc.specs.Contents.{is_formula}
 use Rattle.part_calc.specs.Parts.{Part, text_at, with_text}
 use Rattle.part_calc.specs.Shown.{shown_at, changed_cells}
 use Rattle.part_calc.specs.Kept.{IsShown, IsEntry, IsPart}
-use Rattle.part_calc.proofs.PlaceLaws.{exact_places}
+use Rattle.part_calc.proofs.PlaceLaws.{exact_places, at_other}
 use Rattle.part_calc.proofs.TextLaws.{empty_content, text_same, text_other}
 use Rattle.part_calc.proofs.ChangeLaws.{changed_iff, changed_ordered}
 
@@ -87,3 +88,30 @@ set_there inside after at cell raw part is put = ap (λ (s : Part). text_at s at
 pub set_elsewhere : (inside before after : Part) (at : Place) (cell : List ℕ) → IsPart inside → inside ≡ before → after ≡ with_text inside at cell → (other : Place) → other ≢ at → text_at after other ≡ text_at before other
 set_elsewhere inside before after at cell part view put other apart =
     ap (λ (s : Part). text_at s other) put ∙ text_other inside at cell other part.ordered apart ∙ ap (λ (s : Part). text_at s other) view
+
+-- ---- a cell outside a part
+
+outside_differs : (e : Place × List ℕ) → IsEntry e → is_at (place_cmp (4096, 0)) e.0 ≡ false
+outside_differs e entry = at_other (4096, 0) e.0 (λ same. let row : e.0.0 ≡ 4096 = sym (ap (λ (p : Place). p.0) same) in let low = entry.row in absurd (omega (arith, row, low)))
+
+outside_removed : (part : Part) → AllByRecursion IsEntry part → remove_entry (is_at (place_cmp (4096, 0))) part ≡ part
+outside_removed [] all = refl
+outside_removed (e ∷ part) all =
+    cond-false (is_at (place_cmp (4096, 0)) e.0) part (e ∷ remove_entry (is_at (place_cmp (4096, 0))) part) (outside_differs e all.0)
+    ∙ ap (λ (s : Part). e ∷ s) (outside_removed part all.1)
+
+outside_same : (part : Part) (raw : List ℕ) → IsPart part → raw ≡ [] → with_text part (4096, 0) raw ≡ part
+unfolding with_text
+outside_same part raw kept none = ap (with_text part (4096, 0)) none ∙ outside_removed part kept.entries
+
+-- what a part shows where a cell outside it is emptied
+pub shown_outside : {T E : Type 0} (cells edited : Part) (raw : List ℕ) (shown : Result T E) (entries : T → List (Place × List ℕ)) → IsPart cells → raw ≡ [] → edited ≡ with_text cells (4096, 0) raw
+    → IfOk shown (λ s. IsShown edited (entries s)) → IfOk shown (λ s. IsShown cells (entries s))
+shown_outside cells edited raw (Ok s) entries kept none is told = subst (λ (part : Part). IsShown part (entries s)) (is ∙ outside_same cells raw kept none) told
+shown_outside cells edited raw (Err e) entries kept none is told = tt
+
+-- a text that was put, or not
+pub added_kept : {E : Type 0} (inside after : Part) (at : Place) (cell raw : List ℕ) (r : Result (Unit {0}) E) → IsPart inside → at.0 < 4096 → at.1 < 256 → IsRaw raw → IsUtf8 raw → cell ≡ raw
+    → OnOk r (after ≡ with_text inside at cell) → OnOk r (IsStrictlySortedBy place_cmp (keys_of after)) → OnErr r (after ≡ inside) → IsPart after
+added_kept inside after at cell raw (Ok x) part row column valid utf8 is put sorted same = put_kept inside after at cell raw part row column valid utf8 is put sorted
+added_kept inside after at cell raw (Err e) part row column valid utf8 is put sorted same = subst IsPart (sym same) part

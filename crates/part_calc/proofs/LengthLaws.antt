@@ -1,5 +1,5 @@
 -- How long the lines of a part are.
-use Rattle.std.proofs.Common.{◌≡◌, ℕ, suc, ◌+◌, ◌*◌, ◌/◌, ◌%◌, ◌^◌, ◌<◌, ◌≤◌, Bool, true, false, cond, List, [], ◌∷◌, length, map, leb, refl, ap, sym, ◌∙◌, arith, length-append}
+use Rattle.std.proofs.Common.{◌≡◌, ℕ, suc, ◌+◌, ◌*◌, ◌/◌, ◌%◌, ◌^◌, ◌<◌, ◌≤◌, Bool, true, false, cond, List, [], ◌∷◌, ◌++◌, length, map, leb, refl, ap, sym, ◌∙◌, subst, arith, append_assoc, append-nil, length-append}
 use Rattle.std.specs.Prelude.{nat_lt}
 use Rattle.std.specs.Fmt.{decimal}
 use Rattle.std.specs.List.{flat_map, list_all, AllByRecursion}
@@ -61,6 +61,22 @@ pub lines_end : (part : ℕ) (total : ℕ) (s all : Part) → total + length (pa
 unfolding part_lines
 lines_end part total s all told none =
     let e : length (flat_map (cell_line part) s) ≡ 0 = ap (λ (u : Part). length (flat_map (cell_line part) u)) none in omega (arith, told, e)
+
+-- ---- lines that are written
+
+pub written_turn : (part : ℕ) (e : Place × List ℕ) (s t : Part) (out more all : List ℕ) → out ++ part_lines part s ≡ all → s ≡ e ∷ t → more ≡ out ++ cell_line part e → more ++ part_lines part t ≡ all
+unfolding part_lines
+written_turn part e s t out more all told is line =
+    ap (λ (bytes : List ℕ). bytes ++ flat_map (cell_line part) t) line
+    ∙ append_assoc out (cell_line part e) (flat_map (cell_line part) t)
+    ∙ ap (λ (u : Part). out ++ flat_map (cell_line part) u) (sym is) ∙ told
+
+pub written_end : (part : ℕ) (s : Part) (out all : List ℕ) → out ++ part_lines part s ≡ all → s ≡ [] → out ≡ all
+unfolding part_lines
+written_end part s out all told none = sym (append-nil out) ∙ ap (λ (u : Part). out ++ flat_map (cell_line part) u) (sym none) ∙ told
+
+pub written_left : (e : Place × List ℕ) (s t : Part) → AllByRecursion IsEntry s → s ≡ e ∷ t → IsEntry e × AllByRecursion IsEntry t
+written_left e s t all is = subst (AllByRecursion IsEntry) is all
 
 -- ---- how long they can be
 

@@ -1,6 +1,7 @@
 //! The values of the cells of one part, and what they show.
 //!
 //! - `Part` (`part`): the cells of a part; an edit, and which cells show another text after it.
+//! - `PartDraft` (`draft`): a part that is put together before anything is computed.
 //! - `recalculate` (`recalculation`): what an edit leaves, found before anything is changed.
 //! - `settle` (`settling`): the values of all formulas, by sweeps in the order of `order`.
 //! - `Edited` (`edited`): a part as it is once a cell has another text.
@@ -9,9 +10,11 @@
 #![tactic(auto)]
 
 mod contents;
+mod draft;
 mod edited;
 mod laws;
 mod lengths;
+mod lines;
 mod order;
 mod part;
 mod places;
@@ -20,6 +23,7 @@ mod settling;
 mod shown;
 
 pub use contents::{Cell, Content};
+pub use draft::PartDraft;
 pub use edited::Edited;
 pub use laws::{circular_cells_never_end, values_are_determined, values_follow};
 pub use lengths::{digits, line_len_at};

@@ -1,17 +1,18 @@
 //! `Part`: the cells of one part, with what they show.
-ghost use Rattle.std.specs.Prelude.{◌≡◌, ◌≢◌, ◌<◌, ◌^◌, ◌↔◌, [], length, IfOk, OnOk, OnErr};
+ghost use Rattle.std.specs.Prelude.{◌≡◌, ◌≢◌, ◌<◌, ◌^◌, ◌↔◌, ◌++◌, [], length, IfOk, OnOk, OnErr};
 ghost use Rattle.std.specs.List.{Contains};
 ghost use Rattle.std.specs.List.Sorted.{IsStrictlySortedBy};
 ghost use Rattle.std.specs.Map.{keys_of};
 ghost use Rattle.sheet_cells.specs.Cells.{IsRaw};
 ghost use Rattle.formula_base.specs.Ranges.{Place, place_cmp};
-ghost use Rattle.part_calc.specs.Kept.{IsPart};
+ghost use Rattle.part_calc.specs.Kept.{IsPart, IsShown};
 ghost use Rattle.part_calc.specs.Parts.{text_at, with_text};
 ghost use Rattle.part_calc.specs.Shown.{shown_at, changed_cells};
 ghost use Rattle.part_calc.specs.Text.{part_lines};
 
 use crate::contents::Cell;
 use crate::lengths::lines_len;
+use crate::lines::write_lines;
 use crate::recalculation::{old_text, recalculate};
 use crate::shown::Shown;
 use cool_base::{ListOf, Memory};
@@ -53,6 +54,15 @@ impl Part {
             cells: BTreeMap::new(alloc),
             shown: BTreeMap::new(alloc),
         }
+    }
+
+    // The part of these cells, where `shown` is what their formulas show.
+    pub(crate) fn of(cells: BTreeMap<(u32, u32), Cell>, shown: Shown) -> Part
+        requires cells { IsPart cells.entries }
+        requires shown { IsShown cells.entries shown.entries }
+        ensures { result ≡ cells.entries }
+    {
+        Part { cells, shown }
     }
 
     /// Gives the cell the raw text, and answers the cells whose shown text differs from what it was.
@@ -109,11 +119,18 @@ impl Part {
     {
         lines_len(&self.cells, number)
     }
+
+    /// Adds the part's lines in the text of a file, as those of the part of this number.
+    pub fn write_lines(&self, number: u32, out: &mut Vec<u8>) -> Result<(), Memory>
+        ensures { OnOk result (out.new.items ≡ out.old.items ++ part_lines number self.now) }
+    {
+        write_lines(&self.cells, number, out)
+    }
 }
 
 // Gives the cell a text, or takes it out where the text is empty. After `Memory` all is unchanged.
 #[tactic(auto, unfolding(crate::specs::Parts::with_text))]
-fn put(cells: &mut BTreeMap<(u32, u32), Cell>, at: (u32, u32), cell: Cell) -> Result<(), Memory>
+pub(crate) fn put(cells: &mut BTreeMap<(u32, u32), Cell>, at: (u32, u32), cell: Cell) -> Result<(), Memory>
     ensures ok { OnOk result (cells.new.entries ≡ with_text cells.old.entries at cell) }
     ensures ordered { OnOk result (IsStrictlySortedBy place_cmp (keys_of cells.new.entries)) }
     ensures err { OnErr result (cells.new.entries ≡ cells.old.entries) }

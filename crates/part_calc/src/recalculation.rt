@@ -5,7 +5,7 @@ ghost use Rattle.std.specs.Option.{option_copied};
 ghost use Rattle.std.specs.Str.{bytes_eq};
 ghost use Rattle.part_calc.specs.Parts.{with_text};
 ghost use Rattle.part_calc.specs.Shown.{shown_at, differs, changed_cells};
-ghost use Rattle.part_calc.specs.Kept.{IsShown, text_shown};
+ghost use Rattle.part_calc.specs.Kept.{IsPart, IsShown, text_shown};
 
 use crate::contents::{Cell, Content};
 use crate::edited::Edited;
@@ -15,6 +15,9 @@ use crate::shown::{Shown, cell_text, shown_texts, text_or_none};
 use cool_base::{ListOf, Memory, TextOf};
 use std::alloc::Global;
 use std::collections::BTreeMap;
+
+// A place behind the last row: a part stays as it is where a cell there is emptied.
+const OUTSIDE: (u32, u32) = (4096, 0);
 
 /// What a part shows once it was edited, and where that differs from what it showed.
 #[derive(Drop)]
@@ -48,6 +51,33 @@ pub fn recalculate(
         shown: texts,
         changed,
     })
+}
+
+/// What the part of these cells shows.
+pub fn shown_now(alloc: Global, cells: &BTreeMap<(u32, u32), Cell>) -> Result<Shown, Memory>
+    requires { IsPart cells.now.entries }
+    ensures { IfOk result (λ shown. IsShown cells.now.entries shown.entries) }
+{
+    let none = Cell::of(alloc, "")?;
+    shown_with(alloc, cells, &none)
+}
+
+// What the part of these cells shows, where a cell outside it is emptied.
+fn shown_with(
+    alloc: Global,
+    cells: &BTreeMap<(u32, u32), Cell>,
+    none: &Cell,
+) -> Result<Shown, Memory>
+    requires part { IsPart cells.now.entries }
+    requires empty { none.now ≡ [] }
+    ensures { IfOk result (λ shown. IsShown cells.now.entries shown.entries) }
+{
+    let _count = cells.len();
+    let concerned = places(alloc, cells, OUTSIDE)?;
+    let edited = Edited::of(cells, OUTSIDE, none);
+    let computed = formulas(alloc, &edited, concerned.as_slice())?;
+    let known = settle(alloc, &edited, computed.as_slice())?;
+    shown_texts(alloc, &edited, computed.as_slice(), &known)
 }
 
 // Those of the cells whose shown text differs.

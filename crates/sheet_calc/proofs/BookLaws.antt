@@ -1,8 +1,9 @@
 -- An edit of a book is an edit of one of its parts.
-use Rattle.std.proofs.Common.{◌≡◌, ◌≢◌, ◌↔◌, ℕ, zero, suc, ◌+◌, ◌<◌, ◌≤◌, List, [], ◌∷◌, length, get_or, drop, refl, ap, sym, ◌∙◌, subst, ⊎_elim, arith, length-append, drop-cons, add-one, get_or-set_same, get_or-set_other, drop_of_length-le}
+use Rattle.std.proofs.Common.{◌≡◌, ◌≢◌, ◌↔◌, ℕ, zero, suc, ◌+◌, ◌<◌, ◌≤◌, List, [], ◌∷◌, ◌++◌, length, get_or, drop, refl, ap, sym, ◌∙◌, subst, ⊎_elim, arith, append_assoc, append-nil, length-append, drop-cons, add-one, get_or-set_same, get_or-set_other, drop_of_length-le}
 use Rattle.std.proofs.Math.ListN.{set, length-set}
 use Rattle.std.proofs.lemmas.Bool.{cases_eq}
 use Rattle.std.proofs.lemmas.List.{get_or_default}
+use Rattle.std.specs.Prelude.{Result, Ok, Err, OnOk}
 use Rattle.std.specs.Fmt.{decimal}
 use Rattle.std.specs.List.{Contains, AllByRecursion}
 use Rattle.sheet_cells.specs.declared.cells.CellRef.{CellRef}
@@ -86,6 +87,18 @@ pub text_is : (parts : Parts) (a b : ℕ) → a ≡ length (decimal (length part
 unfolding file_text
 text_is parts a b x y = simp length-append (omega (arith, x, y))
 
+-- ---- the lines that are written
+
+pub written_turn : (parts : Parts) (n : ℕ) (out more all : List ℕ) → n < length parts → out ++ all_lines n (drop n parts) ≡ all → more ≡ out ++ part_lines n (part_at parts n) → more ++ all_lines (n + 1) (drop (n + 1) parts) ≡ all
+written_turn parts n out more all h told line =
+    ap (λ (bytes : List ℕ). bytes ++ all_lines (n + 1) (drop (n + 1) parts)) line
+    ∙ append_assoc out (part_lines n (part_at parts n)) (all_lines (n + 1) (drop (n + 1) parts))
+    ∙ ap (λ (j : ℕ). out ++ (part_lines n (part_at parts n) ++ all_lines (n + 1) (drop j parts))) (add-one n)
+    ∙ ap (λ (s : Parts). out ++ all_lines n s) (sym (drop-cons parts n [] h)) ∙ told
+
+pub written_end : (parts : Parts) (n : ℕ) (out all : List ℕ) → length parts ≤ n → out ++ all_lines n (drop n parts) ≡ all → out ≡ all
+written_end parts n out all h told = sym (append-nil out) ∙ ap (λ (s : Parts). out ++ all_lines n s) (sym (drop_of_length-le parts h)) ∙ told
+
 -- ---- the length of the file after an edit
 
 part_kept : (parts : Parts) (k : ℕ) → k < length parts → AllByRecursion IsPart parts → IsPart (part_at parts k)
@@ -129,7 +142,7 @@ edited_text parts at raw book h =
 
 -- ---- for the code: the part that is lent, and what is put back
 
-the_part : (parts : Parts) (n : ℕ) (old : Part) → n < length parts → old ≡ get_or parts n old → old ≡ part_at parts n
+pub the_part : (parts : Parts) (n : ℕ) (old : Part) → n < length parts → old ≡ get_or parts n old → old ≡ part_at parts n
 the_part parts n old h is = is ∙ get_or_default parts n old [] h
 
 within : (inside before : Parts) (n : ℕ) → inside ≡ before → n < length before → n < length inside
@@ -140,6 +153,11 @@ unfolding with_cell
 set_ok inside before at raw old after view h lent put =
     ap (set inside at.part) (put ∙ ap (λ (s : Part). with_text s (place_of at) raw) (the_part inside at.part old (within inside before at.part view h) lent))
     ∙ ap (λ (s : Parts). set s at.part (with_text (part_at s at.part) (place_of at) raw)) view
+
+pub added_ok : {T E : Type 0} (inside before : Parts) (at : CellRef) (raw : List ℕ) (old after : Part) (r : Result T E) → inside ≡ before → at.part < length before → old ≡ get_or inside at.part old
+    → OnOk r (after ≡ with_text old (place_of at) raw) → OnOk r (set inside at.part after ≡ with_cell before at raw)
+added_ok inside before at raw old after (Ok x) view h lent put = set_ok inside before at raw old after view h lent put
+added_ok inside before at raw old after (Err e) view h lent put = tt
 
 pub set_there : (inside before : Parts) (at : CellRef) (raw : List ℕ) (after : Part) → inside ≡ before → at.part < length before → text_at after (place_of at) ≡ raw → text_of (set inside at.part after) at ≡ raw
 set_there inside before at raw after view h is = there inside after at raw (within inside before at.part view h) is

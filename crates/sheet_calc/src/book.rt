@@ -1,5 +1,5 @@
 //! `Book`: the parts of a sheet document.
-ghost use Rattle.std.specs.Prelude.{◌≡◌, ◌≢◌, ◌<◌, ◌≤◌, ◌^◌, ◌↔◌, [], length, replicate, IfOk, OnOk, OnErr};
+ghost use Rattle.std.specs.Prelude.{◌≡◌, ◌≢◌, ◌<◌, ◌≤◌, ◌^◌, ◌↔◌, ◌++◌, [], length, replicate, IfOk, OnOk, OnErr};
 ghost use Rattle.std.specs.List.Sorted.{IsStrictlySortedBy};
 ghost use Rattle.sheet_cells.specs.Cells.{IsCell, IsRaw};
 ghost use Rattle.sheet_cells.specs.declared.cells.CellRef.{CellRef};
@@ -49,6 +49,14 @@ impl Book {
             list.push(Part::new(alloc))?;
         }
         Ok(Book { parts: list })
+    }
+
+    // The book of these parts.
+    pub(crate) fn of(parts: Vec<Part>) -> Book
+        requires { IsBook parts.items }
+        ensures { result ≡ parts.items }
+    {
+        Book { parts }
     }
 
     /// How many parts there are: 1 to 16. Its cells are in order, and their raw texts are such as a cell
@@ -123,6 +131,13 @@ impl Book {
         let new = line_len_at(at.part, place, raw);
         self.text_len() + new - old
     }
+
+    /// Adds the lines of all cells in the text of the book's file.
+    pub fn write_lines(&self, out: &mut Vec<u8>) -> Result<(), Memory>
+        ensures { OnOk result (out.new.items ≡ out.old.items ++ all_lines 0 self.now) }
+    {
+        write_lines(self.parts.as_slice(), out)
+    }
 }
 
 // How many bytes the lines of all parts have.
@@ -136,4 +151,15 @@ fn lines_len(parts: &[Part]) -> u64
         total += parts[number].text_len(number as u32);
     }
     total
+}
+
+// Adds the lines of all parts.
+fn write_lines(parts: &[Part], out: &mut Vec<u8>) -> Result<(), Memory>
+    requires { length parts.now ≤ 16 }
+    ensures { OnOk result (out.new.items ≡ out.old.items ++ all_lines 0 parts.now) }
+{
+    for number in 0..parts.len() {
+        parts[number].write_lines(number as u32, out)?;
+    }
+    Ok(())
 }
