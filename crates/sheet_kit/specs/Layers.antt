@@ -20,9 +20,17 @@ on_columns count x y = is_inside x y && (nat_lt (x / 960) count && nat_le 945 (x
 abbrev pub on_rows : ℕ → ℕ → ℕ → Bool
 on_rows count x y = is_inside x y && (nat_lt (y / 240) count && nat_le 225 (y % 240))
 
+-- whether it lies on the line of any column, or of a row before `count`
+abbrev pub on_grid_to : ℕ → ℕ → ℕ → Bool
+on_grid_to count x y = on_columns 256 x y || on_rows count x y
+
 -- the colour of a point where this is painted grey, on white
 abbrev pub lined : Bool → Colour
 lined b = if b then grey else white
+
+-- the points of a cell within its lines, and where its text begins
+abbrev pub cell_within : ℕ → ℕ → Rectangle
+cell_within row col = record { x = col * 960; y = row * 240; w = 945; h = 225 }
 
 -- whether a point lies on any line
 abbrev pub on_lines : ℕ → ℕ → Bool

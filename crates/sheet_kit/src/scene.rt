@@ -24,7 +24,7 @@ impl PartialEq for SheetScene {
 
     ghost eq = { same_by ⟦<Area as PartialEq>⟧.eq };
 
-    ghost laws = { partial_equiv_from_equiv (scene_equivalence ⟦<Area as PartialEq>⟧.eq ⟦<Area as Eq>⟧.laws.refl (Prim.search rules)) };
+    ghost laws = { partial_equiv_from_equiv (scene_equivalence ⟦<Area as PartialEq>⟧.eq (Prim.search rules) (Prim.search rules)) };
 
     fn eq(&self, other: &SheetScene) -> bool {
         self.area == other.area && self.texts.get() == other.texts.get()
@@ -35,7 +35,7 @@ impl Eq for SheetScene {
     ghost use Rattle.std.proofs.Common.{rules};
     ghost use Rattle.sheet_kit.specs.Same.{scene_equivalence};
 
-    ghost laws = { scene_equivalence ⟦<Area as PartialEq>⟧.eq ⟦<Area as Eq>⟧.laws.refl (Prim.search rules) };
+    ghost laws = { scene_equivalence ⟦<Area as PartialEq>⟧.eq (Prim.search rules) (Prim.search rules) };
 }
 
 impl Scene for SheetScene {

@@ -1,4 +1,7 @@
 pub mod ChangedCells
 pub mod CursorLaws
+pub mod CutLaws
+pub mod Hurts
+pub mod Soundness
 pub mod Stretches
 pub mod Typings

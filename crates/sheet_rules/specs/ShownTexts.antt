@@ -12,7 +12,7 @@ use Rattle.sheet_rules.specs.declared.cuts.ShownText.{ShownText}
 abbrev pub same_shown : ShownText → ShownText → Bool
 same_shown s t = nat_eq s.row t.row && nat_eq s.col t.col && bytes_eq s.text t.text
 
-iff_same : (a b : Bool) → (a ≡ true → b ≡ true) → (b ≡ true → a ≡ true) → a ≡ b
+pub iff_same : (a b : Bool) → (a ≡ true → b ≡ true) → (b ≡ true → a ≡ true) → a ≡ b
 iff_same true b f g = sym (f refl)
 iff_same false true f g = g refl
 iff_same false false f g = refl
