@@ -43,12 +43,14 @@ abbrev pub parts_read : List (List ℕ) → Result Parts BookFault
 parts_read [] = Err (BadLine 2)
 parts_read (line ∷ lines) = cells_read (parts_said line) lines
 
+-- what is wrong with a first line that isn't `coolsheet 1` and a newline: the newline alone, or the line
+abbrev pub header_fault : List ℕ → BookFault
+header_fault line = if bytes_eq line (codes "coolsheet 1") then BadLine 1 else NoHeader
+
 -- a file without lines is one part without cells; else the first line is `coolsheet 1`
 abbrev pub lines_read : List (List ℕ) → Result Parts BookFault
 lines_read [] = Ok ([] ∷ [])
-lines_read (line ∷ lines) =
-    if bytes_eq line (codes "coolsheet 1\n") then parts_read lines
-    else (if bytes_eq line (codes "coolsheet 1") then Err (BadLine 1) else Err NoHeader)
+lines_read (line ∷ lines) = if bytes_eq line (codes "coolsheet 1\n") then parts_read lines else Err (header_fault line)
 
 -- what the bytes of a file say
 unfoldable pub book_of : List ℕ → Result Parts BookFault

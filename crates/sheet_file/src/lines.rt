@@ -12,7 +12,9 @@ use sheet_calc::is_raw;
 
 /// How many parts the text of a line says that there are, from 1 to 16.
 pub fn parts_of_text(text: &[u8]) -> Option<u32>
-    ensures { result ≡ parts_of_text text.now }
+    ensures parts { result ≡ parts_of_text text.now }
+    ensures some { IfSome result (λ parts. 1 ≤ parts) }
+    ensures few { IfSome result (λ parts. parts ≤ 16) }
 {
     let (word, rest) = cut(text, b' ')?;
     if word != b"parts".as_slice() {
@@ -68,8 +70,10 @@ fn place_named(word: &[u8]) -> Option<(u32, u32)>
     if !has_no_small_letter(word) {
         return None;
     }
-    let name = std::str::from_utf8(word).ok()?;
-    read_ref(name)
+    match std::str::from_utf8(word) {
+        Ok(name) => read_ref(name),
+        Err(_) => None,
+    }
 }
 
 // Whether no byte stands behind the capital letters.
@@ -83,9 +87,19 @@ fn has_no_small_letter(word: &[u8]) -> bool
 fn raw_written(raw: &[u8]) -> Option<&str>
     ensures { option_map (λ text. text.now) result ≡ raw_written raw.now }
 {
-    if raw.is_empty() {
-        return None;
+    match std::str::from_utf8(raw) {
+        Ok(text) => text_written(text),
+        Err(_) => None,
     }
-    let text = std::str::from_utf8(raw).ok()?;
-    if is_raw(text) { Some(text) } else { None }
+}
+
+// The text, where a line can have it as a raw text.
+fn text_written(text: &str) -> Option<&str>
+    ensures { option_map (λ raw. raw.now) result ≡ raw_written text.now }
+{
+    if !text.is_empty() && is_raw(text) {
+        Some(text)
+    } else {
+        None
+    }
 }

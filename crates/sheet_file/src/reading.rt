@@ -1,10 +1,11 @@
 //! `read_book`: the book that the bytes of a file say.
-ghost use Rattle.std.specs.Prelude.{◌≡◌, ◌≢◌, ◌<◌, ◌≤◌, Ok, Err, None, IfOk, IfErr, OnOk, length, map, option_map};
-ghost use Rattle.sheet_file.specs.declared.fault.BookFault.TheVariants.{Memory};
+ghost use Rattle.std.specs.Prelude.{◌≡◌, ◌≢◌, ◌<◌, ◌≤◌, Ok, Err, None, IfOk, IfErr, OnOk, length, map, option_map, codes, if◌then◌else◌};
+ghost use Rattle.std.specs.Str.{bytes_eq};
+ghost use Rattle.sheet_file.specs.declared.fault.BookFault.TheVariants.{NoHeader, Memory};
 ghost use Rattle.std.specs.Option.{IfSome};
 ghost use Rattle.sheet_cells.specs.Cells.{IsCell, IsRaw};
 ghost use Rattle.sheet_file.specs.Lines.{lines_of, cell_said, first_said};
-ghost use Rattle.sheet_file.specs.BookFile.{comes_after, with_lines, parts_read, lines_read, book_of};
+ghost use Rattle.sheet_file.specs.BookFile.{comes_after, with_lines, parts_read, header_fault, lines_read, book_of};
 
 use crate::fault::BookFault;
 use crate::lines::{cell_of_text, parts_of_text};
@@ -36,10 +37,32 @@ fn read_draft(alloc: Global, file: &[u8]) -> Result<BookDraft, BookFault>
         return Ok(BookDraft::new(alloc, 1)?);
     }
     match cut(file, b'\n') {
-        Some((header, behind)) if header == b"coolsheet 1".as_slice() => read_parts(alloc, behind),
-        Some(_) => Err(BookFault::NoHeader),
-        None if file == b"coolsheet 1".as_slice() => Err(BookFault::BadLine(1)),
-        None => Err(BookFault::NoHeader),
+        Some((line, behind)) => behind_header(alloc, line, behind),
+        None => Err(cut_off(file)),
+    }
+}
+
+// The parts that the lines behind a first line say.
+fn behind_header(alloc: Global, first: &[u8], lines: &[u8]) -> Result<BookDraft, BookFault>
+    requires { length lines.now ≤ 2097152 }
+    ensures ok { IfOk result (λ draft. (if bytes_eq first.now (codes "coolsheet 1") then parts_read (lines_of lines.now) else Err NoHeader) ≡ Ok draft) }
+    ensures refused { IfErr result (λ fault. fault ≢ Memory → (if bytes_eq first.now (codes "coolsheet 1") then parts_read (lines_of lines.now) else Err NoHeader) ≡ Err fault) }
+{
+    if first == b"coolsheet 1".as_slice() {
+        read_parts(alloc, lines)
+    } else {
+        Err(BookFault::NoHeader)
+    }
+}
+
+// What is wrong with a first line that has no newline.
+fn cut_off(first: &[u8]) -> BookFault
+    ensures { result ≡ header_fault first.now }
+{
+    if first == b"coolsheet 1".as_slice() {
+        BookFault::BadLine(1)
+    } else {
+        BookFault::NoHeader
     }
 }
 
@@ -56,8 +79,10 @@ fn read_parts(alloc: Global, lines: &[u8]) -> Result<BookDraft, BookFault>
         return Err(BookFault::BadLine(2));
     };
     let mut draft = BookDraft::new(alloc, parts)?;
-    read_cells(alloc, parts, &mut draft, behind)?;
-    Ok(draft)
+    match read_cells(alloc, parts, &mut draft, behind) {
+        Ok(()) => Ok(draft),
+        Err(fault) => Err(fault),
+    }
 }
 
 // Gives the draft, which has so many parts, the cells that the lines behind the first two say.
@@ -68,6 +93,7 @@ fn read_cells(
     lines: &[u8],
 ) -> Result<(), BookFault>
     requires parts { length draft.old ≡ parts }
+    requires some { 1 ≤ parts }
     requires short { length lines.now ≤ 2097152 }
     ensures ok { OnOk result (with_lines draft.old 3 None (map (cell_said parts) (lines_of lines.now)) ≡ Ok draft.new) }
     ensures refused { IfErr result (λ fault. fault ≢ Memory → with_lines draft.old 3 None (map (cell_said parts) (lines_of lines.now)) ≡ Err fault) }

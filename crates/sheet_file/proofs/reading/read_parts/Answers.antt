@@ -1,0 +1,25 @@
+use Rattle.std.proofs.Common.{◌≡◌, ◌<◌, ◌≤◌, ℕ, length, map, Ok, Some, None, arith, sym, ap, ◌∙◌}
+use Rattle.sheet_file.proofs.CutLaws.{cut_is, cut_shorter}
+use Rattle.sheet_file.proofs.ReadLaws.{parts_uncut, count_bad, cells_told}
+use Rattle.sheet_file.proofs.reading.read_parts.Goals as goal
+
+pub returns-in_default-clause-refused : goal.returns-in_default-clause-refused
+returns-in_default-clause-refused c = λ other. parts_uncut c.args.lines.now (sym c.in_default.ensures)
+
+pub returns-in_default-parts_of_text-clause-refused : goal.returns-in_default-parts_of_text-clause-refused
+returns-in_default-parts_of_text-clause-refused c = λ other. count_bad c.args.lines.now c.in-Some.text.now c.in-Some.behind.now c.in-Some.ensures c.in_default-parts_of_text.ensures.parts
+
+pub read_cells-requires-clause-short : goal.read_cells-requires-clause-short
+read_cells-requires-clause-short c =
+    let shorter = cut_shorter 10 c.args.lines.now c.in-Some.text.now c.in-Some.behind.now (cut_is 10 c.args.lines.now c.in-Some.text.now c.in-Some.behind.now (sym c.in-Some.ensures)) in
+    omega (arith, shorter)
+
+pub returns-in-Ok-clause-ok : goal.returns-in-Ok-clause-ok
+returns-in-Ok-clause-ok c =
+    cells_told c.args.lines.now c.in-Some.text.now c.in-Some.behind.now c.in-Some-parts_of_text.parts c.in_ok-draft.draft c.in-Some.ensures c.in-Some-parts_of_text.ensures.parts c.in_ok-draft.ensures
+    ∙ c.in-Ok.ensures.ok
+
+pub returns-in-Err-clause-refused : goal.returns-in-Err-clause-refused
+returns-in-Err-clause-refused c =
+    λ other. cells_told c.args.lines.now c.in-Some.text.now c.in-Some.behind.now c.in-Some-parts_of_text.parts c.in_ok-draft.draft c.in-Some.ensures c.in-Some-parts_of_text.ensures.parts c.in_ok-draft.ensures
+    ∙ c.in-Err.ensures.refused other
