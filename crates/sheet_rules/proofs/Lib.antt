@@ -1,4 +1,5 @@
 pub mod ChangedCells
+pub mod Covering
 pub mod CursorLaws
 pub mod CutLaws
 pub mod Hurts

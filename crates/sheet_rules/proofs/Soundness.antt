@@ -145,10 +145,14 @@ encoded_bytes c plain =
     (high_bytes (224 + c / 4096) (128 + c / 64 % 64) ((128 + c % 64) ∷ []) (omega arith) (omega arith) (both (is_raw_byte (128 + c % 64)) true (high_byte (128 + c % 64) (omega arith)) refl))
     (high_bytes (240 + c / 262144) (128 + c / 4096 % 64) ((128 + c / 64 % 64) ∷ (128 + c % 64) ∷ []) (omega arith) (omega arith) (high_bytes (128 + c / 64 % 64) (128 + c % 64) [] (omega arith) (omega arith) refl))))
 
+scalar_is : (a b : Bool) → (a || b) ≡ true → cond a true b ≡ true
+scalar_is true b e = refl
+scalar_is false b e = e
+
 typed_text : (c : ℕ) → is_typed c ≡ true → IsText (encode_utf8 c)
 typed_text c e =
     let parts = and_parts (is_scalar c) (nat_le 32 c && not (nat_eq c 127)) e in
-    record { bytes = encoded_bytes c parts.1; utf8 = IsUtf8-encode c parts.0 }
+    record { bytes = encoded_bytes c parts.1; utf8 = IsUtf8-encode c (scalar_is (nat_lt c 55296) (nat_le 57344 c && nat_lt c 1114112) parts.0) }
 
 added_text : (a b : List ℕ) → IsText a → IsText b → IsText (a ++ b)
 added_text a b s t = record {
