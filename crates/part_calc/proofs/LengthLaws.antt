@@ -108,13 +108,13 @@ lines_bound part (e ∷ cells) h all =
 
 -- ---- how many cells there can be
 
-below_from_less : (a b : ℕ) → nat_cmp a b ≡ Less → a < b
+pub below_from_less : (a b : ℕ) → nat_cmp a b ≡ Less → a < b
 below_from_less a b h =
     let le = le_from_not_gt a b (ap is_gt h) in
     let apart : a ≡ b → ⊥ = λ e. both_ways (is_eq (nat_cmp a b)) (ap is_eq h) (ap (λ (c : ℕ). is_eq (nat_cmp a c)) (sym e) ∙ (eq_by_cmp_equiv nat_cmp_total).refl a) in
     omega (arith, le, apart)
 
-less_from_below : (a b : ℕ) → a < b → nat_cmp a b ≡ Less
+pub less_from_below : (a b : ℕ) → a < b → nat_cmp a b ≡ Less
 less_from_below a b h = by (nat_cmp a b) refl
   where
     by : (o : Ordering) → nat_cmp a b ≡ o → o ≡ Less

@@ -130,7 +130,11 @@ impl Part {
 
 // Gives the cell a text, or takes it out where the text is empty. After `Memory` all is unchanged.
 #[tactic(auto, unfolding(crate::specs::Parts::with_text))]
-pub(crate) fn put(cells: &mut BTreeMap<(u32, u32), Cell>, at: (u32, u32), cell: Cell) -> Result<(), Memory>
+pub(crate) fn put(
+    cells: &mut BTreeMap<(u32, u32), Cell>,
+    at: (u32, u32),
+    cell: Cell,
+) -> Result<(), Memory>
     ensures ok { OnOk result (cells.new.entries ≡ with_text cells.old.entries at cell) }
     ensures ordered { OnOk result (IsStrictlySortedBy place_cmp (keys_of cells.new.entries)) }
     ensures err { OnErr result (cells.new.entries ≡ cells.old.entries) }

@@ -1,7 +1,7 @@
 -- A text cut at a byte, and the lines of a file.
-use Rattle.std.proofs.Common.{◌≡◌, ℕ, ◌+◌, ◌<◌, ◌≤◌, Bool, true, false, cond, eqb, List, [], ◌∷◌, ◌++◌, length, Option, Some, None, refl, ap, sym, ◌∙◌, subst, arith, length-append}
+use Rattle.std.proofs.Common.{◌≡◌, ℕ, ◌+◌, ◌<◌, Bool, true, false, cond, eqb, List, [], ◌∷◌, ◌++◌, length, Option, Some, None, refl, ap, sym, ◌∙◌, subst, arith, length-append}
 use Rattle.std.specs.Option.{option_map}
-use Rattle.std.proofs.lemmas.Bool.{eqb-true, cond-true, cond-false, both_ways}
+use Rattle.std.proofs.lemmas.Bool.{eqb-true}
 use Rattle.std.proofs.lemmas.Option.{same_Some}
 use Rattle.cool_words.specs.Words.{cut_at, with_front}
 use Rattle.sheet_file.specs.Lines.{in_front, lines_of, before_newline}
@@ -53,7 +53,7 @@ cut_join byte (c ∷ front) back clean = by (λ h. cut_join byte front back h) (
     by ih false is (Some s) cut e = cc
 
 -- the lines of a file that is cut at its first newline
-line_step : (c : ℕ) (bytes : List ℕ) (b : Bool) → eqb c 10 ≡ b → lines_of (c ∷ bytes) ≡ cond b ((10 ∷ []) ∷ lines_of bytes) (in_front c (lines_of bytes))
+pub line_step : (c : ℕ) (bytes : List ℕ) (b : Bool) → eqb c 10 ≡ b → lines_of (c ∷ bytes) ≡ cond b ((10 ∷ []) ∷ lines_of bytes) (in_front c (lines_of bytes))
 unfolding lines_of
 line_step c bytes b h = ap (λ (t : Bool). cond t ((10 ∷ []) ∷ lines_of bytes) (in_front c (lines_of bytes))) h
 

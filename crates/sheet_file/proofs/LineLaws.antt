@@ -1,5 +1,5 @@
 -- What a line says, word by word.
-use Rattle.std.proofs.Common.{◌≡◌, ℕ, zero, suc, ◌+◌, ◌-◌, ◌<◌, ◌≤◌, Bool, true, false, ◌&&◌, cond, leb, ltb, List, [], ◌∷◌, ◌++◌, length, get_or, map, Option, Some, None, IsTrue, refl, ap, sym, ◌∙◌, subst, arith}
+use Rattle.std.proofs.Common.{◌≡◌, ℕ, zero, suc, ◌-◌, ◌<◌, ◌≤◌, Bool, true, false, ◌&&◌, cond, leb, ltb, List, [], ◌∷◌, length, get_or, Option, Some, None, IsTrue, refl, ap, ◌∙◌, subst, arith}
 use Rattle.std.specs.Option.{option_map, option_and_then}
 use Rattle.std.specs.List.{list_all, prefix_len}
 use Rattle.std.specs.Prelude.{take, drop, nat_le, nat_lt, slice_index}
@@ -9,11 +9,10 @@ use Rattle.std.proofs.lemmas.Str.{is_utf8-from_IsUtf8, IsUtf8-from_is_utf8, IsUt
 use Rattle.std.proofs.lemmas.Option.{cond_some, option_and_then_some, same_Some}
 use Rattle.cool_base.specs.Numbers.{number, is_decimal, decimal_value}
 use Rattle.cool_words.specs.Words.{cut_at}
-use Rattle.sheet_cells.specs.declared.cells.CellRef.{CellRef}
 use Rattle.sheet_cells.specs.Cells.{IsCell, IsRaw, is_raw}
-use Rattle.sheet_cells.specs.References.{is_letter, column_number, column_of, row_of, cell_of, reference}
+use Rattle.sheet_cells.specs.References.{is_letter, column_number, column_of, row_of, reference}
 use Rattle.formula_base.specs.Ranges.{Place}
-use Rattle.sheet_file.specs.Lines.{has_leading_zero, plain_number, some_parts, parts_in, parts_of_text, place_named, raw_written, Cell, cell_with, cell_by, cell_in, cell_of_text}
+use Rattle.sheet_file.specs.Lines.{has_leading_zero, plain_number, place_named, raw_written, Cell, cell_with, cell_by, cell_in, cell_of_text}
 use Rattle.sheet_file.proofs.CutLaws.{IsCut, cut_is}
 
 -- a number that is read is within its limit

@@ -1,5 +1,5 @@
 -- Reading line by line says what the lines say.
-use Rattle.std.proofs.Common.{◌≡◌, ℕ, ◌+◌, ◌<◌, ◌≤◌, Bool, true, false, cond, List, [], ◌∷◌, ◌++◌, length, map, Option, Some, None, Ok, Err, Bor, refl, ap, sym, ◌∙◌, subst, arith}
+use Rattle.std.proofs.Common.{◌≡◌, ℕ, ◌+◌, ◌<◌, ◌≤◌, Bool, true, false, cond, List, [], ◌∷◌, ◌++◌, length, map, Option, Some, None, Ok, Err, refl, ap, sym, ◌∙◌, arith}
 use Rattle.std.proofs.Math.ListN.{length-set}
 use Rattle.std.specs.Prelude.{fold, replicate, codes, nat_le}
 use Rattle.std.specs.Str.{bytes_eq}
@@ -10,15 +10,13 @@ use Rattle.std.proofs.lemmas.Slice.Eq.{bytes_eq-Decides}
 use Rattle.std.proofs.lemmas.Option.{same_Some, none-some, option_and_then_some}
 use Rattle.cool_words.specs.Words.{cut_at}
 use Rattle.sheet_cells.specs.declared.cells.CellRef.{CellRef}
-use Rattle.sheet_cells.specs.Cells.{IsCell, IsRaw}
 use Rattle.part_calc.specs.Parts.{with_text}
 use Rattle.sheet_calc.specs.Books.{Parts, place_of, part_at, with_cell}
-use Rattle.sheet_file.specs.declared.fault.BookFault.{BookFault}
 use Rattle.sheet_file.specs.declared.fault.BookFault.TheVariants.{NoHeader, BadLine, OutOfOrder}
-use Rattle.sheet_file.specs.Lines.{Cell, lines_of, before_newline, plain_number, some_parts, parts_in, parts_of_text, parts_said, cell_of_text, cell_said, first_said}
+use Rattle.sheet_file.specs.Lines.{Cell, lines_of, plain_number, some_parts, parts_in, parts_of_text, parts_said, cell_of_text, cell_said, first_said}
 use Rattle.sheet_file.specs.BookFile.{comes_after, first_fault, with_said, unless_fault, with_lines, cells_read, parts_read, header_fault, lines_read}
 use Rattle.sheet_file.proofs.CutLaws.{cut_is, cut_join, no_lines, lines_cut, lines_uncut, text_cut, text_uncut}
-use Rattle.sheet_file.proofs.LineLaws.{number_small, plain_is, said_is, said_cell}
+use Rattle.sheet_file.proofs.LineLaws.{number_small, plain_is}
 
 -- ---- the first line of some lines
 

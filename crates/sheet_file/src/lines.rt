@@ -7,8 +7,8 @@ ghost use Rattle.sheet_file.specs.Lines.{has_leading_zero, plain_number, some_pa
 
 use cool_base::read_number;
 use cool_words::cut;
-use sheet_cells::{CellRef, read_ref};
 use sheet_calc::is_raw;
+use sheet_cells::{CellRef, read_ref};
 
 /// How many parts the text of a line says that there are, from 1 to 16.
 pub fn parts_of_text(text: &[u8]) -> Option<u32>

@@ -1,4 +1,4 @@
-use Rattle.std.proofs.Common.{◌≡◌, ◌<◌, ◌≤◌, ◌++◌, List, ℕ, length, ap, ◌∙◌, arith, append-nil}
+use Rattle.std.proofs.Common.{◌<◌, ◌++◌, length, ap, ◌∙◌, arith}
 use Rattle.part_calc.specs.Parts.{Part}
 use Rattle.part_calc.specs.Text.{part_lines}
 use Rattle.sheet_calc.proofs.BookLaws.{written_turn, written_end, the_part}

@@ -1,4 +1,4 @@
-use Rattle.std.proofs.Common.{◌≡◌, sym}
+use Rattle.std.proofs.Common.{sym}
 use Rattle.sheet_file.proofs.LineLaws.{capitals_are_utf8}
 use Rattle.sheet_file.proofs.lines.place_named.Goals as goal
 

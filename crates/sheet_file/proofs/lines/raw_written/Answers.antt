@@ -1,4 +1,4 @@
-use Rattle.std.proofs.Common.{◌≡◌, sym, ap, ◌∙◌}
+use Rattle.std.proofs.Common.{sym}
 use Rattle.sheet_file.proofs.LineLaws.{raw_of_none}
 use Rattle.sheet_file.proofs.lines.raw_written.Goals as goal
 

@@ -1,4 +1,4 @@
-use Rattle.std.proofs.Common.{◌≡◌, Some, None, ap, ◌∙◌, sym}
+use Rattle.std.proofs.Common.{ap, ◌∙◌, sym}
 use Rattle.std.specs.Option.{option_map}
 use Rattle.sheet_file.specs.Lines.{Cell, lines_of}
 use Rattle.sheet_file.proofs.CutLaws.{cut_is, cut_shorter}

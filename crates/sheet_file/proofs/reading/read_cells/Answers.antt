@@ -1,4 +1,4 @@
-use Rattle.std.proofs.Common.{◌≡◌, ◌+◌, ◌<◌, ◌≤◌, ℕ, true, length, map, Some, None, arith, sym, ap, ◌∙◌}
+use Rattle.std.proofs.Common.{◌≡◌, ◌+◌, ◌<◌, true, length, map, Some, arith, sym, ap, ◌∙◌}
 use Rattle.std.proofs.lemmas.Grind.{common_steps}
 use Rattle.sheet_calc.specs.Books.{Parts}
 use Rattle.sheet_file.specs.Lines.{lines_of, cell_said}
@@ -17,9 +17,9 @@ loop-rest-preserved c =
     let ordered : comes_after c.loop-rest.before c.in-Some.at ≡ true = sym c.comes_after.ensures ∙ c.if-not-comes_after.false in
     record {
       told =
-        ap (λ (draft : Parts). with_lines draft (c.loop-rest.number + 1) (Some c.in-Some.at) (map (cell_said c.args.parts) (lines_of c.in-Some.behind.now))) c.in_ok-add.ensures.ok
-        ∙ sym (lines_turn c.args.parts c.loop-rest.number c.loop-rest.draft c.loop-rest.before (lines_of c.loop-rest.rest.now) (lines_of c.in-Some.behind.now) (c.in-Some.at, c.in-Some.raw.now) c.in-Some.ensures.said ordered)
-        ∙ c.loop-rest.invariant.told;
+          ap (λ (draft : Parts). with_lines draft (c.loop-rest.number + 1) (Some c.in-Some.at) (map (cell_said c.args.parts) (lines_of c.in-Some.behind.now))) c.in_ok-add.ensures.ok
+          ∙ sym (lines_turn c.args.parts c.loop-rest.number c.loop-rest.draft c.loop-rest.before (lines_of c.loop-rest.rest.now) (lines_of c.in-Some.behind.now) (c.in-Some.at, c.in-Some.raw.now) c.in-Some.ensures.said ordered)
+          ∙ c.loop-rest.invariant.told;
       parts = ap (λ (draft : Parts). length draft) c.in_ok-add.ensures.ok ∙ same_length c.loop-rest.draft c.in-Some.at c.in-Some.raw.now ∙ c.loop-rest.invariant.parts;
       room = omega (arith, shorter);
     }

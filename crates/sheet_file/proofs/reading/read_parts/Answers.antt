@@ -1,4 +1,4 @@
-use Rattle.std.proofs.Common.{◌≡◌, ◌<◌, ◌≤◌, ℕ, length, map, Ok, Some, None, arith, sym, ap, ◌∙◌}
+use Rattle.std.proofs.Common.{arith, sym, ◌∙◌}
 use Rattle.sheet_file.proofs.CutLaws.{cut_is, cut_shorter}
 use Rattle.sheet_file.proofs.ReadLaws.{parts_uncut, count_bad, cells_told}
 use Rattle.sheet_file.proofs.reading.read_parts.Goals as goal

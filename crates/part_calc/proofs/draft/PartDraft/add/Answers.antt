@@ -1,4 +1,3 @@
-use Rattle.std.proofs.Common.{ap, ◌∙◌}
 use Rattle.part_calc.proofs.KeptLaws.{added_kept}
 use Rattle.part_calc.proofs.draft.PartDraft.add.Goals as goal
 
