@@ -1,0 +1,5 @@
+use Rattle.sheet_kit.specs.SheetLaws.{read_sound}
+use Rattle.sheet_kit.proofs.kit.SheetKitKit.load.Goals as goal
+
+pub invariant_of-result : goal.invariant_of-result
+invariant_of-result c = read_sound c.args.file.now c.in-Ok.book c.new.result.entries c.in-Ok.ensures.ok c.new.ensures.empty

@@ -1,0 +1,95 @@
+//! The lines and the texts of a sheet document on a canvas.
+ghost use Rattle.std.specs.Prelude.{◌≡◌, ◌<◌, ◌≤◌, List, [], ◌∷◌, ◌++◌};
+ghost use Rattle.kit_trait.specs.Pictures.{white};
+ghost use Rattle.tile_raster.specs.Painting.{Shows};
+ghost use Rattle.sheet_rules.specs.declared.cuts.ShownText.{ShownText};
+ghost use Rattle.sheet_rules.specs.Cuts.{cut_colour};
+ghost use Rattle.sheet_kit.specs.Layers.{column_line, row_line, on_columns, on_lines, lined};
+
+use cool_base::Rect;
+use sheet_rules::ShownText;
+use tile_key::Area;
+use tile_raster::Canvas;
+
+// The colour of lines.
+const GREY: [u8; 4] = [192, 192, 192, 255];
+
+// Draws the lines of the columns that the area meets.
+pub(crate) fn draw_columns(canvas: &mut Canvas, area: &Area)
+    requires { Shows (λ part x y. white) area.now canvas.old }
+    ensures { Shows (λ part x y. lined (on_columns 256 x y)) area.now canvas.new }
+{
+    let first = area.posx() / 960;
+    let end = (area.posx() + area.tilewidth() - 1) / 960 + 1;
+    for col in first..end.min(256) {
+        canvas.fill_rect(area, &column_line(col), GREY);
+    }
+}
+
+// Draws the lines of the rows that the area meets.
+pub(crate) fn draw_rows(canvas: &mut Canvas, area: &Area)
+    requires { Shows (λ part x y. lined (on_columns 256 x y)) area.now canvas.old }
+    ensures { Shows (λ part x y. lined (on_lines x y)) area.now canvas.new }
+{
+    let first = area.posy() / 240;
+    let end = (area.posy() + area.tileheight() - 1) / 240 + 1;
+    for row in first..end.min(4_096) {
+        canvas.fill_rect(area, &row_line(row), GREY);
+    }
+}
+
+// The line at the right edge of a column.
+fn column_line(col: u32) -> Rect
+    requires { col < 256 }
+    ensures { result ≡ column_line col }
+{
+    Rect {
+        x: col * 960 + 945,
+        y: 0,
+        w: 15,
+        h: 983_040,
+    }
+}
+
+// The line at the lower edge of a row.
+fn row_line(row: u32) -> Rect
+    requires { row < 4096 }
+    ensures { result ≡ row_line row }
+{
+    Rect {
+        x: 0,
+        y: row * 240 + 225,
+        w: 245_760,
+        h: 15,
+    }
+}
+
+// Draws the texts in their cells.
+pub(crate) fn draw_texts(canvas: &mut Canvas, area: &Area, texts: &[ShownText])
+    requires { Shows (λ part x y. lined (on_lines x y)) area.now canvas.old }
+    ensures { Shows (λ part. cut_colour texts.now) area.now canvas.new }
+{
+    for shown in texts {
+        draw_text(canvas, area, shown);
+    }
+}
+
+// Draws the text in its cell.
+fn draw_text(canvas: &mut Canvas, area: &Area, shown: &ShownText)
+    requires width { area.now.width ≡ canvas.old.width }
+    requires height { area.now.height ≡ canvas.old.height }
+    ensures { (texts : List ShownText) → Shows (λ part. cut_colour texts) area.now canvas.old → Shows (λ part. cut_colour (texts ++ shown.now ∷ [])) area.now canvas.new }
+{
+    if shown.row >= 4_096 || shown.col >= 256 {
+        return;
+    }
+    let x = shown.col * 960;
+    let y = shown.row * 240;
+    let cell = Rect {
+        x,
+        y,
+        w: 945,
+        h: 225,
+    };
+    canvas.draw_text(area, x + 30, y + 60, &cell, shown.text.get());
+}

@@ -1,0 +1,6 @@
+pub mod Colours
+pub mod Cuts
+pub mod Damage
+pub mod Sheets
+pub mod ShownTexts
+pub mod Typing

@@ -1,0 +1,152 @@
+-- What an input does to a sheet document: it moves the cursor of its view, or changes the raw text under it.
+use Rattle.std.specs.Prelude.{ℕ, zero, suc, ◌+◌, ◌-◌, ◌/◌, min, Bool, true, false, not, ◌&&◌, ◌||◌, ◌==◌, nat_lt, nat_le, nat_eq, List, [], ◌∷◌, ◌++◌, length, take, Option, Some, None, if◌then◌else◌, encode_utf8, encode_utf8_all}
+use Rattle.std.specs.Str.{chars}
+use Rattle.std.specs.List.{list_all}
+use Rattle.std.specs.Ordering.{nat_cmp}
+use Rattle.std.specs.Map.{lookup}
+use Rattle.std.specs.BTreeMap.{is_at, insert_entry}
+use Rattle.sheet_cells.specs.declared.cells.CellRef.{CellRef}
+use Rattle.sheet_cells.specs.Cells.{is_raw_byte}
+use Rattle.sheet_calc.specs.Books.{Parts, text_of, with_cell}
+use Rattle.sheet_calc.specs.FileText.{file_text}
+use Rattle.kit_trait.specs.declared.values.Input.{Input}
+use Rattle.kit_trait.specs.declared.values.What.{What}
+use Rattle.kit_trait.specs.declared.values.What.TheVariants.{Key, Mouse}
+use Rattle.sheet_rules.specs.declared.cursors.Cursor.{Cursor}
+use Rattle.sheet_rules.specs.declared.cursors.Act.{Act}
+use Rattle.sheet_rules.specs.declared.cursors.Act.TheVariants.{Stays, Goes, Writes}
+
+-- what a sheet document holds: its parts, and the cursor of each view that has one, in order of views
+pub record Sheet : Type 0 where
+  pub parts : Parts
+  pub cursors : List (ℕ × Cursor)
+
+-- ---- where a view stands
+
+-- the cursor of a view that did nothing yet in a part: at A1, fresh
+abbrev pub first_cursor : ℕ → Cursor
+first_cursor part = record { at = record { part = part; row = 0; col = 0 }; fresh = true }
+
+-- the cursor that a view has, where it stands in the part; else the first one there
+abbrev pub cursor_in : ℕ → Option Cursor → Cursor
+cursor_in part None = first_cursor part
+cursor_in part (Some cursor) = if nat_eq cursor.at.part part then cursor else first_cursor part
+
+abbrev pub cursor_of : List (ℕ × Cursor) → ℕ → ℕ → Cursor
+cursor_of cursors view part = cursor_in part (lookup (is_at (nat_cmp view)) cursors)
+
+-- the cell beside a cell, or the cell itself at an edge of its part
+abbrev pub cell_below : CellRef → CellRef
+cell_below at = record at { row = min (at.row + 1) 4095 }
+
+abbrev pub cell_above : CellRef → CellRef
+cell_above at = record at { row = at.row - 1 }
+
+abbrev pub cell_left : CellRef → CellRef
+cell_left at = record at { col = at.col - 1 }
+
+abbrev pub cell_right : CellRef → CellRef
+cell_right at = record at { col = min (at.col + 1) 255 }
+
+-- the cell in column A of the row
+abbrev pub row_start : CellRef → CellRef
+row_start at = record at { col = 0 }
+
+-- the last of the first `count` columns that has a text, the first one where none has
+unfoldable pub last_filled : (ℕ → List ℕ) → ℕ → ℕ
+last_filled text zero = 0
+last_filled text (suc n) = if length (text n) == 0 then last_filled text n else n
+
+-- the last cell of the row that has a raw text, or the one in column A
+unfoldable pub row_end : Parts → CellRef → CellRef
+row_end parts at = record at { col = last_filled (λ col. text_of parts (record at { col = col })) 256 }
+
+-- the cell at a point of a part
+abbrev pub is_inside : ℕ → ℕ → Bool
+is_inside x y = nat_lt x 245760 && nat_lt y 983040
+
+abbrev pub cell_at : ℕ → ℕ → ℕ → CellRef
+cell_at part x y = record { part = part; row = y / 240; col = x / 960 }
+
+-- ---- what a key writes
+
+-- a text without its last character
+unfoldable pub without_last : List ℕ → List ℕ
+without_last text = encode_utf8_all (take (length (chars text) - 1) (chars text))
+
+-- a Unicode scalar value
+abbrev pub is_scalar : ℕ → Bool
+is_scalar c = nat_lt c 55296 || (nat_le 57344 c && nat_lt c 1114112)
+
+-- whether a char is typed: a Unicode scalar value of at least 32 that isn't 127
+abbrev pub is_typed : ℕ → Bool
+is_typed c = is_scalar c && (nat_le 32 c && not (nat_eq c 127))
+
+-- a typed char takes the place of the text at a fresh cursor, and else is added at the text's end; another one changes nothing
+abbrev pub char_act : Parts → Cursor → ℕ → Act
+char_act parts cursor chr =
+    if is_typed chr
+    then Writes (if cursor.fresh then encode_utf8 chr else text_of parts cursor.at ++ encode_utf8 chr) false
+    else Stays
+
+-- BACKSPACE takes the last character of the text, DELETE all of it; another code leaves the key to its char
+abbrev pub edit_act : Parts → Cursor → ℕ → ℕ → Act
+edit_act parts cursor chr code =
+    if code == 1283 then Writes (without_last (text_of parts cursor.at)) false
+    else (if code == 1286 then Writes [] true else char_act parts cursor chr)
+
+-- HOME, END, RETURN and TAB
+abbrev pub jump_act : Parts → Cursor → ℕ → ℕ → Act
+jump_act parts cursor chr code =
+    if code == 1028 then Goes (row_start cursor.at)
+    else (if code == 1029 then Goes (row_end parts cursor.at)
+    else (if code == 1280 then Goes (cell_below cursor.at)
+    else (if code == 1282 then Goes (cell_right cursor.at) else edit_act parts cursor chr code)))
+
+-- a key is judged by its code first: DOWN, UP, LEFT and RIGHT
+abbrev pub key_act : Parts → Cursor → ℕ → ℕ → Act
+key_act parts cursor chr code =
+    if code == 1024 then Goes (cell_below cursor.at)
+    else (if code == 1025 then Goes (cell_above cursor.at)
+    else (if code == 1026 then Goes (cell_left cursor.at)
+    else (if code == 1027 then Goes (cell_right cursor.at) else jump_act parts cursor chr code)))
+
+-- a mouse input inside the part goes to the cell at its point; one outside changes nothing
+abbrev pub mouse_act : ℕ → ℕ → ℕ → Act
+mouse_act part x y = if is_inside x y then Goes (cell_at part x y) else Stays
+
+abbrev pub act_of : Parts → Cursor → ℕ → What → Act
+act_of parts cursor part (Key chr code) = key_act parts cursor chr code
+act_of parts cursor part (Mouse x y count buttons modifier) = mouse_act part x y
+
+-- ---- what it leaves
+
+-- whether a cell may get the raw text: it has at most 1,024 bytes, and the file's text then at most 2,097,152
+unfoldable pub fits : Parts → CellRef → List ℕ → Bool
+fits parts at raw = nat_le (length raw) 1024 && nat_le (length (file_text (with_cell parts at raw))) 2097152
+
+-- whether every byte of the text that an act writes may stand in a raw text
+abbrev pub writes_raw : Act → Bool
+writes_raw Stays = true
+writes_raw (Goes to) = true
+writes_raw (Writes raw fresh) = list_all is_raw_byte raw
+
+-- what is left where a raw text was written at a cursor; a text that doesn't fit changes nothing, the cursor included
+abbrev pub written : Sheet → ℕ → Cursor → List ℕ → Sheet
+written c view cursor raw =
+    if fits c.parts cursor.at raw
+    then record { parts = with_cell c.parts cursor.at raw; cursors = insert_entry nat_cmp c.cursors view cursor }
+    else c
+
+-- what an act at a cell leaves
+abbrev pub acted : Sheet → ℕ → CellRef → Act → Sheet
+acted c view at Stays = c
+acted c view at (Goes to) = record c { cursors = insert_entry nat_cmp c.cursors view (record { at = to; fresh = true }) }
+acted c view at (Writes raw fresh) = written c view (record { at = at; fresh = fresh }) raw
+
+-- an input acts at its view's cursor in its part; one that names no part of the document changes nothing
+abbrev pub stepped : Sheet → Input → Sheet
+stepped c input =
+    if nat_lt input.part (length c.parts)
+    then acted c input.view.0 (cursor_of c.cursors input.view.0 input.part).at (act_of c.parts (cursor_of c.cursors input.view.0 input.part) input.part input.what)
+    else c
