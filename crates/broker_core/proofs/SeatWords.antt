@@ -105,13 +105,13 @@ pub sent_same : {C B S : Type 0} (rules : Rules C B) (d : Document S) (version :
 sent_same {C} {B} {S} rules d version key current seat is s =
     let v : Viewing = seat.view in
     let with_it : Bool → List Place → View = λ now vs.
-        let asked = asked_after v.asked key now in
-        record (view_of seat) {
-          asked = asked;
-          screen = screen_after (map shown_of v.screen) key version (is_among vs key || is_among asked key);
-          window = v.window ++ record { wid = v.next_wid; key = key } ∷ [];
-          next_wid = v.next_wid + 1;
-        } in
+    let asked = asked_after v.asked key now in
+    record (view_of seat) {
+      asked = asked;
+      screen = screen_after (map shown_of v.screen) key version (is_among vs key || is_among asked key);
+      window = v.window ++ record { wid = v.next_wid; key = key } ∷ [];
+      next_wid = v.next_wid + 1;
+    } in
     let first : sent rules d version key (view_of seat) ≡ with_it current (visible rules d (view_of seat)) = ap (λ b. with_it b (visible rules d (view_of seat))) is in
     let second : with_it current (visible rules d (view_of seat)) ≡ with_it current v.visible = ap (λ (vs : List Place). with_it current vs) (sym s.seen) in
     first ∙ second

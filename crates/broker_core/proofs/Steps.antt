@@ -126,12 +126,15 @@ holds_cut {C} {B} {S} rules paints IsSound contents now base journal applied sea
   ids = h.ids;
   ids_below = h.ids_below;
   seated = h.seated;
-  out = (record {
-    number = refl;
-    group = (omega arith, tt);
-    area = place_alone key;
-    shows = shows ∙ ap (λ c. shown rules c key) h.contents_are;
-  }, tt);
+  out = (
+    record {
+      number = refl;
+      group = (omega arith, tt);
+      area = place_alone key;
+      shows = shows ∙ ap (λ c. shown rules c key) h.contents_are;
+    },
+    tt,
+  );
 }
 
 -- a job of the next pair's key is cut

@@ -33,7 +33,11 @@ impl<K: Kit> Broker<K> {
 
     /// A painted job comes back. Where its ticket is out and its scene is the one kept for it, the job goes
     /// and each view, in order of ids, gets the tile if it is due and has room; else nothing changes.
-    pub fn painted(&mut self, alloc: Global, done: &Done<K::Scene>) -> Result<Outs<K::Scene>, Memory>
+    pub fn painted(
+        &mut self,
+        alloc: Global,
+        done: &Done<K::Scene>,
+    ) -> Result<Outs<K::Scene>, Memory>
         ensures step { IfOk result (λ outs. Goes K.rules K.Scene.paints self.old (Painted done.now.ticket.0 done.now.scene) outs self.new) }
         ensures spent { OnErr result (self.new ≡ None) }
     {

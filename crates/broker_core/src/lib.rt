@@ -20,6 +20,8 @@ mod saying;
 mod seats;
 #[cfg(test)]
 mod tests;
+#[cfg(test)]
+mod turn_tests;
 mod turning;
 
 pub use broker::Broker;

@@ -146,13 +146,7 @@ impl<K: Kit> Core<K> {
             next_ticket,
         } = self;
         let Some(job) = job else { unreachable!() };
-        let frames = offer(
-            alloc,
-            &mut seats,
-            &job.key,
-            job.number,
-            &done.pixels.rgba,
-        )?;
+        let frames = offer(alloc, &mut seats, &job.key, job.number, &done.pixels.rgba)?;
         let core = Core {
             kit,
             file,
