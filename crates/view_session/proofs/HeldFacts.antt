@@ -18,17 +18,9 @@ use Rattle.view_session.specs.Held.{IsHeld}
 use Rattle.view_session.specs.declared.slots.Slot.{Slot}
 use Rattle.view_session.proofs.ListFacts.{all_keep, all_join, all_from, pairs_keep, pairs_push}
 use Rattle.view_session.proofs.FindFacts.{Comes}
-use Rattle.view_session.proofs.SlotFacts.{entry_at, each_slot}
+use Rattle.view_session.proofs.SlotFacts.{all_shown, entry_at, each_slot}
 use Rattle.view_session.proofs.DueFacts.{IsOf, tells_wants, all_due, find_keys, filter_keys, any_seen}
 use Rattle.view_session.proofs.KeysFacts.{rising_seen, keys_are}
-
-pub all_shown : (P : Place → Type 0) (slots : List Slot) → AllByRecursion (λ slot. P slot.key) slots → AllByRecursion (λ entry. P entry.key) (screen_in slots)
-all_shown P [] a = tt
-all_shown P (slot ∷ slots) a =
-    elim slot.shown as (λ o. AllByRecursion (λ entry. P entry.key) (with_shown slot.key o (screen_in slots))) [
-      | None ↦ all_shown P slots a.1
-      | Some shown ↦ (a.0, all_shown P slots a.1)
-    ]
 
 pub screen_order : (slots : List Slot) → Pairwise Comes slots → Pairwise (λ p q. IsBefore p.key q.key) (screen_in slots)
 screen_order [] p = tt

@@ -14,9 +14,8 @@ use Rattle.view_session.specs.declared.slots.Slot.{Slot}
 use Rattle.view_session.proofs.ListFacts.{all_keep, pairs_before}
 use Rattle.view_session.proofs.OrderFacts.{same_is, not_back, apart_back}
 use Rattle.view_session.proofs.FindFacts.{Comes}
-use Rattle.view_session.proofs.SlotFacts.{Others, Tells, TellsNone, entry_at, cut_at, tells, tells_none, where_is}
+use Rattle.view_session.proofs.SlotFacts.{all_shown, Others, Tells, TellsNone, entry_at, cut_at, tells, tells_none, where_is}
 use Rattle.view_session.proofs.ShowFacts.{IsShown, shown_by, shown_none}
-use Rattle.view_session.proofs.HeldFacts.{all_shown}
 
 screen_join : (xs ys : List Slot) → screen_in (xs ++ ys) ≡ screen_in xs ++ screen_in ys
 screen_join [] ys = refl

@@ -15,7 +15,7 @@ use Rattle.view_session.specs.declared.slots.Slot.{Slot}
 use Rattle.view_session.proofs.ListFacts.{all_join, all_left, all_right, all_swap, all_out, all_keep, all_kept, all_both, all_from, pairs_swap, pairs_out}
 use Rattle.view_session.proofs.OrderFacts.{same_is, same_swap, not_back, not_self, apart_back}
 use Rattle.view_session.proofs.FindFacts.{Comes}
-use Rattle.view_session.proofs.SlotFacts.{IsSplit, Others, Tells, TellsNone, entry_at, others_before, others_after, at_split, gap_others, tells, tells_none, where_is}
+use Rattle.view_session.proofs.SlotFacts.{all_shown, IsSplit, Others, Tells, TellsNone, entry_at, others_before, others_after, at_split, gap_others, tells, tells_none, where_is}
 
 -- a slot with this on the screen
 abbrev pub showing : Slot → Shown → (ends : Bool) → Slot
@@ -86,20 +86,12 @@ first_entry : (entries : List Entry) (key : Place) (version : ℕ) (stale : Bool
 first_entry [] key version stale a = refl
 first_entry (e ∷ entries) key version stale a = rw (ap is_lt a.0) refl
 
-shown_after : (P : Place → Type 0) (slots : List Slot) → AllByRecursion (λ slot. P slot.key) slots → AllByRecursion (λ entry. P entry.key) (screen_in slots)
-shown_after P [] a = tt
-shown_after P (slot ∷ slots) a =
-    elim slot.shown as (λ o. AllByRecursion (λ entry. P entry.key) (with_shown slot.key o (screen_in slots))) [
-      | None ↦ shown_after P slots a.1
-      | Some shown ↦ (a.0, shown_after P slots a.1)
-    ]
-
 -- the screen then has the entry
 pub screen_put : (front : List Slot) (slot : Slot) (back : List Slot) (marked : Bool) (shown : Shown) → AllByRecursion (λ s. IsBefore s.key slot.key) front → AllByRecursion (λ s. IsBefore slot.key s.key) back
     → screen_in (front ++ record slot { asked = marked; shown = Some shown } ∷ back) ≡ with_entry (screen_in (front ++ slot ∷ back)) slot.key shown.version shown.stale
 screen_put [] slot back marked shown before after =
     elim slot.shown as (λ o. entry_at slot.key shown ∷ screen_in back ≡ with_entry (with_shown slot.key o (screen_in back)) slot.key shown.version shown.stale) [
-      | None ↦ sym (first_entry (screen_in back) slot.key shown.version shown.stale (shown_after (IsBefore slot.key) back after))
+      | None ↦ sym (first_entry (screen_in back) slot.key shown.version shown.stale (all_shown (IsBefore slot.key) back after))
       | Some had ↦ rw (not_self slot.key, same_self slot.key) refl
     ]
 screen_put (s ∷ front) slot back marked shown before after =

@@ -106,6 +106,15 @@ module _ (key : Place) where
 abbrev pub entry_at : Place → Shown → Entry
 entry_at key shown = record { key = key; version = shown.version; stale = shown.stale }
 
+-- what holds of the keys of slots holds of those on the screen
+pub all_shown : (P : Place → Type 0) (slots : List Slot) → AllByRecursion (λ slot. P slot.key) slots → AllByRecursion (λ entry. P entry.key) (screen_in slots)
+all_shown P [] a = tt
+all_shown P (slot ∷ slots) a =
+    elim slot.shown as (λ o. AllByRecursion (λ entry. P entry.key) (with_shown slot.key o (screen_in slots))) [
+      | None ↦ all_shown P slots a.1
+      | Some shown ↦ (a.0, all_shown P slots a.1)
+    ]
+
 -- what the lists say of the key of a slot
 pub record Tells (slots : List Slot) (asked : List Place) (key : Place) (slot : Slot) : Type 0 where
   pub keys : is_among (keys_in slots) key ≡ true
