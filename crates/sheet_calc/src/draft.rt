@@ -45,6 +45,13 @@ impl BookDraft {
         Ok(BookDraft { parts: list })
     }
 
+    /// How many parts there are: 1 to 16.
+    pub fn parts(&self) -> u32
+        ensures { result ≡ length self.now }
+    {
+        self.parts.len() as u32
+    }
+
     /// Gives the cell the raw text, in time logarithmic in the cells of its part. After `Memory` all is
     /// unchanged.
     pub fn add(&mut self, alloc: Global, at: &CellRef, raw: &str) -> Result<(), Memory>

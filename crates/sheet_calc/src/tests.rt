@@ -117,3 +117,51 @@ fn lengths_of_files(rt: HostRuntime) -> Result<(), Fail> {
     assert_eq!(rt; book.text_len(), 21);
     Ok(())
 }
+
+// Gives a cell of a draft a raw text.
+fn add(
+    rt: &impl Abort,
+    alloc: Global,
+    draft: &mut BookDraft,
+    at: CellRef,
+    raw: &str,
+) -> Result<(), Fail> {
+    assert!(rt; at.part < draft.parts());
+    assert!(rt; at.row < 4096);
+    assert!(rt; at.col < 256);
+    assert!(rt; is_raw(raw));
+    Ok(draft.add(alloc, &at, raw)?)
+}
+
+#[test]
+fn a_book_from_a_draft(rt: HostRuntime) -> Result<(), Fail> {
+    let alloc = rt.alloc();
+    let mut draft = BookDraft::new(alloc, 2)?;
+    let cells = [
+        (1, 0, 27, "=A9+1"),
+        (0, 8, 0, "7"),
+        (1, 8, 0, "lost"),
+        (1, 8, 0, "5"),
+        (0, 8, 1, "gone"),
+        (0, 8, 1, ""),
+    ];
+    for (part, row, col, raw) in cells {
+        add(&rt, alloc, &mut draft, CellRef { part, row, col }, raw)?;
+    }
+    let book = draft.finish(alloc)?;
+    assert_eq!(rt; book.parts(), 2);
+    let at = CellRef {
+        part: 1,
+        row: 0,
+        col: 27,
+    };
+    assert_eq!(rt; book.shown(&at), "6");
+    let mut lines = Vec::new(alloc);
+    book.write_lines(&mut lines)?;
+    assert_eq!(rt;
+        lines.as_slice(),
+        b"0 A9 7\n1 AB1 =A9+1\n1 A9 5\n".as_slice()
+    );
+    assert_eq!(rt; book.text_len_with(&at, "=A9"), 20 + 7 + 10 + 7);
+    Ok(())
+}
