@@ -47,13 +47,7 @@ fn mouse_act(part: u32, x: u32, y: u32) -> Act
 }
 
 // DOWN, UP, LEFT and RIGHT.
-fn key_act(
-    alloc: Global,
-    book: &Book,
-    cursor: &Cursor,
-    chr: u32,
-    code: u32,
-) -> Result<Act, Memory>
+fn key_act(alloc: Global, book: &Book, cursor: &Cursor, chr: u32, code: u32) -> Result<Act, Memory>
     requires { IsCell (length book.now) cursor.now.at }
     ensures { IfOk result (λ act. act ≡ key_act book.now cursor.now chr code) }
 {
@@ -74,13 +68,7 @@ fn key_act(
 }
 
 // HOME, END, RETURN and TAB.
-fn jump_act(
-    alloc: Global,
-    book: &Book,
-    cursor: &Cursor,
-    chr: u32,
-    code: u32,
-) -> Result<Act, Memory>
+fn jump_act(alloc: Global, book: &Book, cursor: &Cursor, chr: u32, code: u32) -> Result<Act, Memory>
     requires { IsCell (length book.now) cursor.now.at }
     ensures { IfOk result (λ act. act ≡ jump_act book.now cursor.now chr code) }
 {
@@ -152,13 +140,7 @@ fn row_end(book: &Book, at: CellRef) -> CellRef
 }
 
 // BACKSPACE, DELETE, and any other key.
-fn edit_act(
-    alloc: Global,
-    book: &Book,
-    cursor: &Cursor,
-    chr: u32,
-    code: u32,
-) -> Result<Act, Memory>
+fn edit_act(alloc: Global, book: &Book, cursor: &Cursor, chr: u32, code: u32) -> Result<Act, Memory>
     requires { IsCell (length book.now) cursor.now.at }
     ensures { IfOk result (λ act. act ≡ edit_act book.now cursor.now chr code) }
 {

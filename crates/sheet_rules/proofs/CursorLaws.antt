@@ -18,7 +18,7 @@ put_twice [] view a b = rw same_number refl
 put_twice (e ∷ es) view a b = by (nat_cmp view e.0) refl (put_twice es view a b)
   where
     by : (o : Ordering) → nat_cmp view e.0 ≡ o → insert_entry nat_cmp (insert_entry nat_cmp es view a) view b ≡ insert_entry nat_cmp es view b
-      → insert_entry nat_cmp (match_ordering o ((view, a) ∷ e ∷ es) ((e.0, a) ∷ es) (e ∷ insert_entry nat_cmp es view a)) view b ≡ match_ordering o ((view, b) ∷ e ∷ es) ((e.0, b) ∷ es) (e ∷ insert_entry nat_cmp es view b)
+        → insert_entry nat_cmp (match_ordering o ((view, a) ∷ e ∷ es) ((e.0, a) ∷ es) (e ∷ insert_entry nat_cmp es view a)) view b ≡ match_ordering o ((view, b) ∷ e ∷ es) ((e.0, b) ∷ es) (e ∷ insert_entry nat_cmp es view b)
     by Less h ih = rw same_number refl
     by Equal h ih = rw h refl
     by Greater h ih = rw h (ap (λ (s : List (ℕ × Cursor)). e ∷ s) ih)
@@ -29,7 +29,7 @@ put_taken [] view a none = rw same_number refl
 put_taken (e ∷ es) view a none = by (nat_cmp view e.0) refl (λ rest. put_taken es view a rest) none
   where
     by : (o : Ordering) → nat_cmp view e.0 ≡ o → (lookup (is_at (nat_cmp view)) es ≡ None → remove_entry (is_at (nat_cmp view)) (insert_entry nat_cmp es view a) ≡ es) → cond (is_eq o) (Some e.1) (lookup (is_at (nat_cmp view)) es) ≡ None
-      → remove_entry (is_at (nat_cmp view)) (match_ordering o ((view, a) ∷ e ∷ es) ((e.0, a) ∷ es) (e ∷ insert_entry nat_cmp es view a)) ≡ e ∷ es
+        → remove_entry (is_at (nat_cmp view)) (match_ordering o ((view, a) ∷ e ∷ es) ((e.0, a) ∷ es) (e ∷ insert_entry nat_cmp es view a)) ≡ e ∷ es
     by Less h ih none = rw same_number refl
     by Equal h ih none = cc
     by Greater h ih none = rw h (ap (λ (s : List (ℕ × Cursor)). e ∷ s) (ih none))

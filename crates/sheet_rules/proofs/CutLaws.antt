@@ -84,9 +84,11 @@ one_text parts x y at = by (length (shown_of parts at) == 0) refl
     or_none : (a : Bool) → (a || false) ≡ a
     or_none true = refl
     or_none false = refl
+
     and_none : (a : Bool) → (a && false) ≡ false
     and_none true = refl
     and_none false = refl
+
     by : (b : Bool) → (length (shown_of parts at) == 0) ≡ b → list_any (is_dot_of x y) (if b then [] else record { row = at.row; col = at.col; text = shown_of parts at } ∷ []) ≡ (here at x y && is_lettered (shown_of parts at) (x % 960) (y % 240))
     by true e =
         sym (ap (λ (s : List ℕ). here at x y && is_lettered s (x % 960) (y % 240)) (no_bytes (shown_of parts at) e)

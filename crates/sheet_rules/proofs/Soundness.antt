@@ -114,7 +114,7 @@ front_scalars (suc n) (c ∷ cs) e =
 front_text : (raw : List ℕ) (n : ℕ) → IsText raw → IsText (encode_utf8_all (take n (chars raw)))
 front_text raw n text =
     let cut : encode_utf8_all (take n (chars raw)) ++ encode_utf8_all (drop n (chars raw)) ≡ raw =
-      sym (encodes-append (take n (chars raw)) (drop n (chars raw))) ∙ ap encode_utf8_all (take-append-drop n (chars raw)) ∙ encodes-chars raw text.utf8 in
+    sym (encodes-append (take n (chars raw)) (drop n (chars raw))) ∙ ap encode_utf8_all (take-append-drop n (chars raw)) ∙ encodes-chars raw text.utf8 in
     record {
       bytes = (and_parts (list_all is_raw_byte (encode_utf8_all (take n (chars raw)))) (list_all is_raw_byte (encode_utf8_all (drop n (chars raw))))
           (sym (list_all-append is_raw_byte (encode_utf8_all (take n (chars raw))) (encode_utf8_all (drop n (chars raw)))) ∙ ap (list_all is_raw_byte) cut ∙ text.bytes)).0;
@@ -244,7 +244,7 @@ keys_inserted [] p raw = refl
 keys_inserted (e ∷ part) p raw = by (place_cmp p e.0) (keys_inserted part p raw)
   where
     by : (o : Ordering) → insert_key place_cmp (keys_of part) p ≡ keys_of (insert_entry place_cmp part p raw)
-      → match_ordering o (p ∷ e.0 ∷ keys_of part) (e.0 ∷ keys_of part) (e.0 ∷ insert_key place_cmp (keys_of part) p) ≡ keys_of (match_ordering o ((p, raw) ∷ e ∷ part) ((e.0, raw) ∷ part) (e ∷ insert_entry place_cmp part p raw))
+        → match_ordering o (p ∷ e.0 ∷ keys_of part) (e.0 ∷ keys_of part) (e.0 ∷ insert_key place_cmp (keys_of part) p) ≡ keys_of (match_ordering o ((p, raw) ∷ e ∷ part) ((e.0, raw) ∷ part) (e ∷ insert_entry place_cmp part p raw))
     by Less ih = refl
     by Equal ih = refl
     by Greater ih = ap (λ (ks : List Place). e.0 ∷ ks) ih

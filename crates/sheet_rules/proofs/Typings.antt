@@ -46,7 +46,7 @@ shorter_is : (old new : List ℕ) (c : ℕ) → IsUtf8 old → IsUtf8 new → ol
 unfolding without_last
 shorter_is old new c u v e =
     let letters : chars old ≡ chars new ++ c ∷ [] =
-      ap chars e ∙ chars-append new (encode_utf8 c) v ∙ ap (λ (cs : List ℕ). chars new ++ cs) (one_char c (last_is_char old new c u v e)) in
+    ap chars e ∙ chars-append new (encode_utf8 c) v ∙ ap (λ (cs : List ℕ). chars new ++ cs) (one_char c (last_is_char old new c u v e)) in
     sym (ap (λ (cs : List ℕ). encode_utf8_all (take (length cs - 1) cs)) letters ∙ ap encode_utf8_all (front (chars new) c) ∙ encodes-chars new v)
 
 no_bytes : (s : List ℕ) → length s ≡ 0 → s ≡ []
