@@ -482,7 +482,7 @@ fn a_raw_text_has_a_limit(rt: HostRuntime) -> Result<(), Fail> {
             ],
             1_023,
         ),
-        // A text that doesn't fit leaves the cursor of another part's view where it is, and fresh.
+        // At a fresh cursor the text takes the old one's place, and fits.
         (&[Step::Click(10, 983_000), Step::Type("ab"), Step::Save], 2),
     ];
     for (steps, bytes) in rows {
