@@ -1,3 +1,9 @@
+pub mod Acknowledged
+pub mod Fewer
+pub mod KeyOrder
+pub mod Lower
+pub mod Ordered
 pub mod Quiet
 pub mod QuietTest
+pub mod Sending
 pub mod Untouched

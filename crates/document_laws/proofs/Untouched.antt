@@ -12,7 +12,7 @@ use Rattle.kit_trait.specs.Pictures.{Colour, rgba, x_at, y_at, row, rows, pictur
 use Rattle.kit_trait.specs.Rules.{Rules, after, doc, shown, hurts_point}
 use Rattle.kit_trait.specs.declared.values.Damage.{Damage}
 use Rattle.kit_trait.specs.declared.values.Input.{Input}
-use Rattle.document_machine.proofs.OneView.{doc_more}
+use Rattle.document_machine.proofs.Journal.{doc_more}
 use Rattle.document_machine.specs.Due.{damage_of, damages, is_hurt, touched}
 
 -- a pixel of a row samples a point of the row's length

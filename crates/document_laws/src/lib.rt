@@ -2,20 +2,36 @@
 //! kits alone, whatever broker runs it. Each is a function with an empty body whose contract is the law.
 #![tactic(auto)]
 
-ghost use Rattle.std.specs.Prelude.{◌≡◌, ℕ, ◌≤◌, true, false, List};
-ghost use Rattle.document_machine.specs.Due.{touched};
-ghost use Rattle.document_machine.specs.Quiet.{IsQuiet, is_quiet, AllRight};
-ghost use Rattle.document_machine.specs.State.{Document};
+ghost use Rattle.std.specs.Prelude.{◌≡◌, ◌≢◌, ℕ, ◌^◌, ◌≤◌, ◌<◌, ◌⊎◌, true, false, List, [], ◌∷◌, length, Some, Ok};
+ghost use Rattle.cool_message.specs.Reading.{reading};
+ghost use Rattle.cool_message.specs.Writing.{written};
+ghost use Rattle.cool_message.specs.declared.message.ClientMessage.TheVariants.{TileProcessed};
+ghost use Rattle.std.specs.List.{AllByRecursion};
+ghost use Rattle.document_laws.specs.AtOnce.{all_answered, numbers, IsAcknowledged};
+ghost use Rattle.document_machine.specs.Due.{touched, is_due, keys};
+ghost use Rattle.document_machine.specs.Event.{Painted};
+ghost use Rattle.document_machine.specs.Kept.{IsKept};
+ghost use Rattle.document_machine.specs.Message.{Acknowledges, took};
+ghost use Rattle.document_machine.specs.Outputs.{nothing};
+ghost use Rattle.document_machine.specs.Quiet.{IsQuiet, is_quiet, IsRight, AllRight};
+ghost use Rattle.document_machine.specs.Rank.{left_to_do};
+ghost use Rattle.document_machine.specs.Run.{Segment};
+ghost use Rattle.document_machine.specs.State.{View, Document, find_view};
+ghost use Rattle.document_machine.specs.Step.{Applies, Cuts, Says, Sends, Step, Works};
+ghost use Rattle.document_machine.specs.declared.outs.Outs.{Outs as Given};
+ghost use Rattle.kit_trait.specs.declared.jobs.PaintJob.{PaintJob as Task};
 ghost use Rattle.kit_trait.specs.Rules.{doc, shown};
 ghost use Rattle.kit_trait.specs.declared.values.Input.{Input as Typed};
 ghost use Rattle.tile_key.specs.Places.{Place};
 
 use kit_trait::Kit;
 
-/// In a quiet document every tile that a view sees or asked for is the one of the document after all
-/// accepted inputs.
+/// In a quiet document that a broker keeps every view has on its screen each key that it sees, in a
+/// version that looks like the document after all accepted inputs, point by point. (It asks for no key
+/// then, and each key that it asked for before has come.) Of what a broker keeps this wants that zooms are
+/// zooms, so that each tile has a point, and that the versions on screens are of inputs that are applied.
 pub fn quiet_is_right<K: Kit>()
-    ensures { (d : Document K.Scene) → IsQuiet K.rules d → AllRight K.rules d }
+    ensures { (d : Document K.Scene) → IsKept K.rules d → IsQuiet K.rules d → AllRight K.rules d }
 {}
 
 /// A place looks the same after the first `n` inputs as after the first `version` of them, where no input
@@ -29,4 +45,54 @@ pub fn untouched_is_unchanged<K: Kit>()
 pub fn quiet_test<K: Kit>()
     ensures passed { (d : Document K.Scene) → is_quiet K.rules d ≡ true → IsQuiet K.rules d }
     ensures passes { (d : Document K.Scene) → IsQuiet K.rules d → is_quiet K.rules d ≡ true }
+{}
+
+/// In a document that a broker keeps each pair of a view and a key that it sees or asked for is right, or
+/// it is due, or an input is not applied yet.
+pub fn right_or_due<K: Kit>()
+    ensures { (d : Document K.Scene) → IsKept K.rules d → AllByRecursion (λ view. AllByRecursion (λ key. IsRight K.rules d view key ⊎ ((is_due K.rules d view key ≡ true) ⊎ (d.applied < length d.journal))) (keys K.rules d view)) d.views }
+{}
+
+/// Applying an input leaves less to do, and no job where there was none.
+pub fn applied_lowers<K: Kit>()
+    ensures { (old new : Document K.Scene) (outs : Given K.Scene) → Applies K.rules old outs new → old.jobs ≡ [] → (new.jobs ≡ []) × (left_to_do K.rules new < left_to_do K.rules old) }
+{}
+
+/// Sending a tile that is there already leaves less to do.
+pub fn sent_lowers<K: Kit>()
+    ensures { (old new : Document K.Scene) (outs : Given K.Scene) → Sends K.rules old outs new → IsKept K.rules old → left_to_do K.rules new < left_to_do K.rules old }
+{}
+
+/// A job that is cut where none is out, and painted directly behind it, leaves less to do and no job: of
+/// its keys one at least goes to a view with room, and each view that gets a tile has a due pair less.
+pub fn cut_and_painted_lowers<K: Kit>()
+    ensures { (old mid new : Document K.Scene) (outs later : Given K.Scene) (job : Task K.Scene) → Cuts K.rules K.Scene.paints old outs mid → old.jobs ≡ [] → IsKept K.rules old → outs.jobs ≡ job ∷ [] → Step K.rules K.Scene.paints mid (Painted job.ticket.0 job.scene) later new → (new.jobs ≡ []) × (left_to_do K.rules new < left_to_do K.rules old) }
+{}
+
+/// A turn that does a work where no job is out, with each job that it gives out painted directly behind
+/// it, in order, leaves less to do and no job. So turns whose jobs are painted at once come to an end.
+pub fn at_once_lowers<K: Kit>()
+    ensures { (old mid new : Document K.Scene) (outs later : Given K.Scene) → Works K.rules K.Scene.paints old outs mid → old.jobs ≡ [] → IsKept K.rules old → Segment K.rules K.Scene.paints mid (all_answered outs) later new → (new.jobs ≡ []) × (left_to_do K.rules new < left_to_do K.rules old) }
+{}
+
+/// Acknowledging the numbers of a window that isn't empty makes it empty and leaves less to do.
+pub fn acknowledged_lowers<K: Kit>()
+    ensures { (d : Document K.Scene) (id : ℕ) (view : View) → find_view d.views id ≡ Some view → view.window ≢ [] → (find_view (took K.rules d id (Acknowledges (numbers view))).views id ≡ Some (record view { window = [] })) × (left_to_do K.rules (took K.rules d id (Acknowledges (numbers view))) < left_to_do K.rules d) }
+{}
+
+/// Acknowledging changes no other view, whatever the numbers are.
+pub fn others_stay<K: Kit>()
+    ensures { (d : Document K.Scene) (id other : ℕ) (wids : List ℕ) → other ≢ id → find_view (took K.rules d id (Acknowledges wids)).views other ≡ find_view d.views other }
+{}
+
+/// A text that is a `tileprocessed` acknowledges just its numbers, and nothing is sent for it.
+pub fn said_acknowledges<K: Kit>()
+    ensures { (d new : Document K.Scene) (id : ℕ) (wids text : List ℕ) (outs : Given K.Scene) → reading text ≡ Ok (TileProcessed wids) → Says K.rules d id text outs new → (outs ≡ nothing) × (new ≡ took K.rules d id (Acknowledges wids)) }
+{}
+
+/// A view that says the text that is written of all its numbers has acknowledged all that it was sent. The
+/// numbers are those of a broker, below 2^64; a window that a broker keeps has at most 64 of them, so they
+/// are one message.
+pub fn written_lowers<K: Kit>()
+    ensures { (d new : Document K.Scene) (id : ℕ) (view : View) (outs : Given K.Scene) → IsKept K.rules d → find_view d.views id ≡ Some view → view.window ≢ [] → AllByRecursion (λ n. n < 2 ^ 64) (numbers view) → Says K.rules d id (written (TileProcessed (numbers view))) outs new → IsAcknowledged K.rules d id view outs new }
 {}

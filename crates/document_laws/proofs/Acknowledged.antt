@@ -1,0 +1,128 @@
+-- What acknowledging changes.
+use Rattle.std.proofs.Common.{◌≡◌, ◌≢◌, ℕ, ◌+◌, ◌-◌, ◌*◌, ◌^◌, ◌<◌, ◌≤◌, Bool, true, false, not, ◌||◌, cond, nat_eq, List, [], ◌∷◌, ◌++◌, length, map, filter, Option, None, Some, Ok, refl, ap, sym, subst, ◌∙◌, arith, inl, inr}
+use Rattle.std.proofs.lemmas.List.{length-map}
+use Rattle.std.specs.List.{list_any, sum_by, AllByRecursion}
+use Rattle.std.proofs.lemmas.Bool.{cases_Bool, eqb-true}
+use Rattle.std.proofs.lemmas.List.Sums.{sum_by-cons}
+use Rattle.cool_message.specs.Reading.{reading}
+use Rattle.cool_message.specs.Writing.{written}
+use Rattle.cool_message.specs.declared.message.ClientMessage.TheVariants.{TileProcessed}
+use Rattle.kit_trait.specs.Rules.{Rules}
+use Rattle.document_machine.proofs.Lists.{all_gone}
+use Rattle.document_machine.specs.Due.{keys, parts_of, size_of}
+use Rattle.document_machine.specs.Kept.{IsKept, IsViewKept}
+use Rattle.document_machine.specs.Message.{Acknowledges, acknowledged, effect, reading_effect, reply, took}
+use Rattle.document_machine.specs.Outputs.{nothing}
+use Rattle.document_machine.specs.Rank.{left_to_do, still_to_come, unacknowledged}
+use Rattle.document_machine.specs.State.{Sent, View, Document, find_view, with_view}
+use Rattle.document_machine.specs.Step.{Says}
+use Rattle.document_machine.specs.declared.outs.Outs.{Outs}
+use Rattle.message_laws.proofs.BoundLemmas.{text_again}
+use Rattle.message_laws.specs.Bounds.{IsListLength}
+use Rattle.document_laws.specs.AtOnce.{numbers, IsAcknowledged}
+use Rattle.document_laws.proofs.Fewer.{due_of}
+use Rattle.document_laws.proofs.Lower.{sum_with, found_view}
+
+-- a view whose numbers are all acknowledged
+pub all_acknowledged : (view : View) → acknowledged (numbers view) view ≡ record view { window = [] }
+all_acknowledged view = ap (λ window. record view { window = window }) (all_gone [] view.window)
+
+-- the view that has changed, and another
+pub found_with : (views : List View) (id : ℕ) (change : View → View) (view : View) → ((v : View) → (change v).id ≡ v.id) → find_view views id ≡ Some view → find_view (with_view views id change) id ≡ Some (change view)
+found_with [] id change view same e = absurd (cc)
+found_with (v ∷ vs) id change view same e =
+    let go : (b : Bool) → nat_eq v.id id ≡ b → cond b (Some v) (find_view vs id) ≡ Some view → find_view (cond b (change v ∷ vs) (v ∷ with_view vs id change)) id ≡ Some (change view) = elim [
+      | true ↦ λ here is.
+          let one : v ≡ view = cc in
+          let id_is : nat_eq (change v).id id ≡ true = ap (λ n. nat_eq n id) (same v) ∙ here in
+          rw id_is (ap (λ w. Some (change w)) one)
+      | false ↦ λ away is. rw away (found_with vs id change view same is)
+    ] in
+    go (nat_eq v.id id) refl e
+
+pub found_other : (views : List View) (id other : ℕ) (change : View → View) → ((v : View) → (change v).id ≡ v.id) → other ≢ id → find_view (with_view views id change) other ≡ find_view views other
+found_other [] id other change same apart = refl
+found_other (v ∷ vs) id other change same apart =
+    let go : (b : Bool) → nat_eq v.id id ≡ b → find_view (cond b (change v ∷ vs) (v ∷ with_view vs id change)) other ≡ find_view (v ∷ vs) other = elim [
+      | true ↦ λ here.
+          let id_is : v.id ≡ id = eqb-true v.id id here in
+          let off : nat_eq v.id other ≡ false = elim (cases_Bool (nat_eq v.id other)) [ inl is ↦ absurd (apart (sym (eqb-true v.id other is) ∙ id_is)) | inr away ↦ away ] in
+          let changed : nat_eq (change v).id other ≡ false = ap (λ n. nat_eq n other) (same v) ∙ off in
+          rw (changed, off) refl
+      | false ↦ λ away. ap (λ o. cond (nat_eq v.id other) (Some v) o) (found_other vs id other change same apart)
+    ] in
+    go (nat_eq v.id id) refl
+
+-- a window with a tile in it has a length
+some_tile : (window : List Sent) → window ≢ [] → 1 ≤ length window
+some_tile [] some = absurd (some refl)
+some_tile (tile ∷ tiles) some = omega arith
+
+-- a sum stays where the one view that has changed counts as before
+sum_same : (f : View → ℕ) (views : List View) (id : ℕ) (change : View → View) → ((v : View) → f (change v) ≡ f v) → sum_by f (with_view views id change) ≡ sum_by f views
+sum_same f [] id change same = refl
+sum_same f (v ∷ vs) id change same =
+    let go : (b : Bool) → sum_by f (cond b (change v ∷ vs) (v ∷ with_view vs id change)) ≡ sum_by f (v ∷ vs) = elim [
+      | true ↦ omega (arith, same v, sum_by-cons f (change v) vs, sum_by-cons f v vs)
+      | false ↦ omega (arith, sum_same f vs id change same, sum_by-cons f v (with_view vs id change), sum_by-cons f v vs)
+    ] in
+    go (nat_eq v.id id)
+
+-- a list of at least one and at most 64 is one of a message
+list_length : (n : ℕ) → 1 ≤ n → n ≤ 64 → IsListLength n
+list_length n low high = (low, omega arith)
+
+module _ {C B S : Type 0} (rules : Rules C B) (d : Document S) where
+  -- acknowledging leaves the other things to do
+  same_to_come : (id : ℕ) (wids : List ℕ) → still_to_come rules (took rules d id (Acknowledges wids)) ≡ still_to_come rules d
+  same_to_come id wids =
+      let p : sum_by (λ view. length (keys rules d view)) (with_view d.views id (acknowledged wids)) ≡ sum_by (λ view. length (keys rules d view)) d.views = sum_same (λ view. length (keys rules d view)) d.views id (acknowledged wids) (λ v. refl) in
+      let q : sum_by (due_of rules d) (with_view d.views id (acknowledged wids)) ≡ sum_by (due_of rules d) d.views = sum_same (due_of rules d) d.views id (acknowledged wids) (λ v. refl) in
+      ap (λ n. (length d.journal - d.applied) * (2 * n + 1) + 2 * sum_by (due_of rules d) (with_view d.views id (acknowledged wids))) p
+      ∙ ap (λ n. (length d.journal - d.applied) * (2 * sum_by (λ view. length (keys rules d view)) d.views + 1) + 2 * n) q
+
+  pub acknowledged_lowers : (id : ℕ) (view : View) → find_view d.views id ≡ Some view → view.window ≢ [] → (find_view (took rules d id (Acknowledges (numbers view))).views id ≡ Some (record view { window = [] })) × (left_to_do rules (took rules d id (Acknowledges (numbers view))) < left_to_do rules d)
+  acknowledged_lowers id view live some =
+      let there : 1 ≤ length view.window = some_tile view.window some in
+      let empty : acknowledged (numbers view) view ≡ record view { window = [] } = all_acknowledged view in
+      let gone : length (acknowledged (numbers view) view).window ≡ 0 = ap (λ v. length v.window) empty in
+      let sum = sum_with (λ v. length v.window) d.views id (acknowledged (numbers view)) view live in
+      let rest = same_to_come id (numbers view) in
+      (found_with d.views id (acknowledged (numbers view)) view (λ v. refl) live ∙ ap Some empty, omega (arith, there, gone, sum, rest))
+
+  pub others_stay : (id other : ℕ) (wids : List ℕ) → other ≢ id → find_view (took rules d id (Acknowledges wids)).views other ≡ find_view d.views other
+  others_stay id other wids apart = found_other d.views id other (acknowledged wids) (λ v. refl) apart
+
+  effect_is : (view : View) (wids text : List ℕ) → reading text ≡ Ok (TileProcessed wids) → effect rules d view text ≡ Acknowledges wids
+  effect_is view wids text read = ap (reading_effect (length d.journal) (parts_of rules d.base) (size_of rules d.base) view text) read
+
+  -- the text of such a message
+  pub said_acknowledges : (id : ℕ) (wids text : List ℕ) (outs : Outs S) (new : Document S) → reading text ≡ Ok (TileProcessed wids) → Says rules d id text outs new → (outs ≡ nothing) × (new ≡ took rules d id (Acknowledges wids))
+  said_acknowledges id wids text outs new read says =
+      let e = effect_is says.view wids text read in
+      (says.outs_are ∙ ap (reply id) e, says.new_is ∙ ap (took rules d id) e)
+
+  pub said_lowers : (id : ℕ) (view : View) (text : List ℕ) (outs : Outs S) (new : Document S) → find_view d.views id ≡ Some view → view.window ≢ [] → reading text ≡ Ok (TileProcessed (numbers view)) → Says rules d id text outs new → IsAcknowledged rules d id view outs new
+  said_lowers id view text outs new live some read says =
+      let is = said_acknowledges id (numbers view) text outs new read says in
+      let low = acknowledged_lowers id view live some in
+      record {
+        outs_are = is.0;
+        new_is = is.1;
+        empty = subst (λ (e : Document S). find_view e.views id ≡ Some (record view { window = [] })) (sym is.1) low.0;
+        others = λ other apart. subst (λ (e : Document S). find_view e.views other ≡ find_view d.views other) (sym is.1) (others_stay id other (numbers view) apart);
+        jobs = ap (λ e. e.jobs) is.1;
+        less = subst (λ (e : Document S). left_to_do rules e < left_to_do rules d) (sym is.1) low.1;
+      }
+
+  -- what is written of a window's numbers is read as them
+  pub written_read : (view : View) → view.window ≢ [] → length view.window ≤ 64 → AllByRecursion (λ n. n < 2 ^ 64) (numbers view) → reading (written (TileProcessed (numbers view))) ≡ Ok (TileProcessed (numbers view))
+  written_read view some few small =
+      let many : length (numbers view) ≡ length view.window = simp length-map in
+      let there : 1 ≤ length view.window = some_tile view.window some in
+      text_again (TileProcessed (numbers view)) (small, list_length (length (numbers view)) (omega arith) (omega arith))
+
+  pub written_lowers : (id : ℕ) (view : View) (outs : Outs S) (new : Document S) → IsKept rules d → find_view d.views id ≡ Some view → view.window ≢ [] → AllByRecursion (λ n. n < 2 ^ 64) (numbers view) → Says rules d id (written (TileProcessed (numbers view))) outs new → IsAcknowledged rules d id view outs new
+  written_lowers id view outs new kept live some small says =
+      let of_view : IsViewKept rules d view = found_view (IsViewKept rules d) d.views id view kept.each live in
+      said_lowers id view (written (TileProcessed (numbers view))) outs new live some (written_read view some of_view.window_few small) says

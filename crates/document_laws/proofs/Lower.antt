@@ -1,0 +1,282 @@
+-- Less is left to do after a turn whose job is painted at once.
+use Rattle.std.proofs.Common.{◌≡◌, ◌≢◌, ℕ, zero, suc, ◌+◌, ◌-◌, ◌*◌, ◌<◌, ◌≤◌, Bool, true, false, not, ◌&&◌, ◌||◌, cond, nat_eq, List, [], ◌∷◌, ◌++◌, length, map, Option, None, Some, refl, ap, sym, subst, ◌∙◌, arith, inl, inr}
+use Rattle.std.specs.Prelude.{◌⊎◌, slice_get}
+use Rattle.std.specs.List.{list_any, count_by, sum_by, AllByRecursion}
+use Rattle.std.proofs.lemmas.Bool.{cases_Bool, and_parts, or_parts, not-true}
+use Rattle.std.proofs.lemmas.List.Sums.{sum_by-cons, count_by-le-length}
+use Rattle.std.proofs.lemmas.Option.{slice_get_cases}
+use Rattle.kit_trait.specs.Rules.{Rules}
+use Rattle.kit_trait.specs.declared.jobs.PaintJob.{PaintJob}
+use Rattle.kit_trait.specs.declared.values.Input.{Input}
+use Rattle.kit_trait.specs.declared.values.Pixels.{Pixels}
+use Rattle.tile_key.specs.Places.{Place}
+use Rattle.document_machine.proofs.Lists.{nat_eq_self}
+use Rattle.document_machine.proofs.Present.{untouched}
+use Rattle.document_machine.specs.Due.{is_due, has_room, touched, keys, takes, sent}
+use Rattle.document_machine.specs.Event.{Painted}
+use Rattle.document_machine.specs.Kept.{IsKept}
+use Rattle.document_machine.specs.Outputs.{nothing, joined}
+use Rattle.document_machine.specs.Rank.{left_to_do, still_to_come, pairs, due_pairs, unacknowledged}
+use Rattle.document_machine.specs.Run.{Segment}
+use Rattle.document_machine.specs.State.{View, Job, Document, find_view, with_view, find_job, without_job}
+use Rattle.document_machine.specs.Step.{Applies, Cuts, Sends, Works, Step, Paints, offered, views_offered, is_wanted, given}
+use Rattle.document_machine.specs.declared.outs.Outs.{Outs}
+use Rattle.document_laws.specs.AtOnce.{answered, all_answered}
+use Rattle.document_laws.proofs.Fewer.{IsReady, due_of, left_of, all_ready, ready_sent, sent_less, due_less, takes_by}
+
+-- a sum of smaller numbers is no larger
+pub sum_le : {X : Type 0} (f g : X → ℕ) (xs : List X) → ((x : X) → f x ≤ g x) → sum_by f xs ≤ sum_by g xs
+sum_le f g [] le = omega arith
+sum_le f g (x ∷ xs) le = omega (arith, le x, sum_le f g xs le, sum_by-cons f x xs, sum_by-cons g x xs)
+
+-- twice the one and once the other, summed apart
+pub sum_apart : {X : Type 0} (f g : X → ℕ) (xs : List X) → sum_by (λ x. 2 * f x + g x) xs ≡ 2 * sum_by f xs + sum_by g xs
+sum_apart f g [] = omega arith
+sum_apart f g (x ∷ xs) = omega (arith, sum_apart f g xs, sum_by-cons (λ x. 2 * f x + g x) x xs, sum_by-cons f x xs, sum_by-cons g x xs)
+
+-- a sum once one view has changed
+pub sum_with : (f : View → ℕ) (views : List View) (id : ℕ) (change : View → View) (view : View) → find_view views id ≡ Some view → sum_by f (with_view views id change) + f view ≡ sum_by f views + f (change view)
+sum_with f [] id change view e = absurd (cc)
+sum_with f (v ∷ vs) id change view e =
+    let go : (b : Bool) → cond b (Some v) (find_view vs id) ≡ Some view → sum_by f (cond b (change v ∷ vs) (v ∷ with_view vs id change)) + f view ≡ sum_by f (v ∷ vs) + f (change view) = elim [
+      | true ↦ λ is.
+          let same : v ≡ view = cc in
+          let a : f v ≡ f view = ap f same in
+          let b : f (change v) ≡ f (change view) = ap (λ w. f (change w)) same in
+          omega (arith, a, b, sum_by-cons f (change v) vs, sum_by-cons f v vs)
+      | false ↦ λ is. omega (arith, sum_with f vs id change view is, sum_by-cons f v (with_view vs id change), sum_by-cons f v vs)
+    ] in
+    go (nat_eq v.id id) e
+
+-- what holds of each view holds of the one with an id
+pub found_view : (P : View → Type 0) (views : List View) (id : ℕ) (view : View) → AllByRecursion P views → find_view views id ≡ Some view → P view
+found_view P [] id view all e = absurd (cc)
+found_view P (v ∷ vs) id view all e =
+    let go : (b : Bool) → cond b (Some v) (find_view vs id) ≡ Some view → P view = elim [
+      | true ↦ λ is. let same : v ≡ view = cc in subst P same all.0
+      | false ↦ λ is. found_view P vs id view all.1 is
+    ] in
+    go (nat_eq v.id id) e
+
+-- some pass a test that is no stronger
+any_weaker : {X : Type 0} (P : X → Type 0) (p q : X → Bool) (xs : List X) → ((x : X) → P x → p x ≡ true → q x ≡ true) → AllByRecursion P xs → list_any p xs ≡ true → list_any q xs ≡ true
+any_weaker P p q [] imp all e = absurd (cc)
+any_weaker P p q (x ∷ xs) imp all e =
+    let go : (b : Bool) → p x ≡ b → (b || list_any p xs) ≡ true → (q x || list_any q xs) ≡ true = elim [
+      | true ↦ λ is some. let yes : q x ≡ true = imp x all.0 is in rw yes refl
+      | false ↦ λ is some.
+          let rest : list_any q xs ≡ true = any_weaker P p q xs imp all.1 some in
+          let any : (b : Bool) → (b || true) ≡ true = elim [ true ↦ refl | false ↦ refl ] in
+          rw rest (any (q x))
+    ] in
+    go (p x) refl e
+
+module _ {C B S : Type 0} (rules : Rules C B) (d : Document S) where
+  -- a key's tile once it was offered
+  taken_due : (key : Place) (view : View) → takes rules d d.applied key view ≡ true → is_due rules d view key ≡ true
+  taken_due key view taken = (and_parts (is_due rules d view key) (has_room view) (and_parts _ (is_due rules d view key && has_room view) taken).1).0
+
+  offered_lt : (key : Place) (view : View) → IsReady rules d view → takes rules d d.applied key view ≡ true → left_of rules d (offered rules d d.applied key view) + 1 ≤ left_of rules d view
+  offered_lt key view ready taken =
+      let le : d.applied ≤ d.applied = omega arith in
+      let clean : touched rules d.base d.journal d.applied key d.applied ≡ false = untouched rules d.base d.journal d.applied key d.applied le in
+      let less : left_of rules d (sent rules d d.applied key view) + 1 ≤ left_of rules d view = sent_less rules d d.applied key view clean le ready (taken_due key view taken) in
+      let is : offered rules d d.applied key view ≡ sent rules d d.applied key view = rw taken refl in
+      let same : left_of rules d (offered rules d d.applied key view) ≡ left_of rules d (sent rules d d.applied key view) = ap (left_of rules d) is in
+      omega (arith, less, same)
+
+  offered_same : (key : Place) (view : View) → takes rules d d.applied key view ≡ false → offered rules d d.applied key view ≡ view
+  offered_same key view not_taken = rw not_taken refl
+
+  offered_le : (key : Place) (view : View) → IsReady rules d view → left_of rules d (offered rules d d.applied key view) ≤ left_of rules d view
+  offered_le key view ready =
+      elim (cases_Bool (takes rules d d.applied key view)) [
+        | inl taken ↦ omega (arith, offered_lt key view ready taken)
+        | inr not_taken ↦ let same : left_of rules d (offered rules d d.applied key view) ≡ left_of rules d view = ap (left_of rules d) (offered_same key view not_taken) in omega (arith, same)
+      ]
+
+  offered_ready : (key : Place) (view : View) → IsReady rules d view → IsReady rules d (offered rules d d.applied key view)
+  offered_ready key view ready =
+      let le : d.applied ≤ d.applied = omega arith in
+      elim (takes rules d d.applied key view) as (λ b. IsReady rules d (cond b (sent rules d d.applied key view) view)) [
+        | true ↦ ready_sent rules d d.applied key view le ready
+        | false ↦ ready
+      ]
+
+  -- all views
+  offers_le : (key : Place) (views : List View) → AllByRecursion (IsReady rules d) views → sum_by (left_of rules d) (map (offered rules d d.applied key) views) ≤ sum_by (left_of rules d) views
+  offers_le key [] ready = omega arith
+  offers_le key (view ∷ views) ready =
+      omega (arith, offered_le key view ready.0, offers_le key views ready.1, sum_by-cons (left_of rules d) (offered rules d d.applied key view) (map (offered rules d d.applied key) views), sum_by-cons (left_of rules d) view views)
+
+  offers_lt : (key : Place) (views : List View) → AllByRecursion (IsReady rules d) views → list_any (takes rules d d.applied key) views ≡ true → sum_by (left_of rules d) (map (offered rules d d.applied key) views) + 1 ≤ sum_by (left_of rules d) views
+  offers_lt key [] ready some = absurd (cc)
+  offers_lt key (view ∷ views) ready some =
+      let first = sum_by-cons (left_of rules d) (offered rules d d.applied key view) (map (offered rules d d.applied key) views) in
+      let second = sum_by-cons (left_of rules d) view views in
+      let go : (b : Bool) → takes rules d d.applied key view ≡ b → (b || list_any (takes rules d d.applied key) views) ≡ true → sum_by (left_of rules d) (map (offered rules d d.applied key) (view ∷ views)) + 1 ≤ sum_by (left_of rules d) (view ∷ views) = elim [
+        | true ↦ λ taken any. omega (arith, first, second, offered_lt key view ready.0 taken, offers_le key views ready.1)
+        | false ↦ λ taken any. omega (arith, first, second, offered_le key view ready.0, offers_lt key views ready.1 any)
+      ] in
+      go (takes rules d d.applied key view) refl some
+
+  offers_same : (key : Place) (views : List View) → list_any (takes rules d d.applied key) views ≡ false → map (offered rules d d.applied key) views ≡ views
+  offers_same key [] none = refl
+  offers_same key (view ∷ views) none =
+      let parts = or_parts (takes rules d d.applied key view) (list_any (takes rules d d.applied key) views) none in
+      let here : offered rules d d.applied key view ≡ view = offered_same key view parts.0 in
+      let rest : map (offered rules d d.applied key) views ≡ views = offers_same key views parts.1 in
+      cc
+
+  offers_ready : (key : Place) (views : List View) → AllByRecursion (IsReady rules d) views → AllByRecursion (IsReady rules d) (map (offered rules d d.applied key) views)
+  offers_ready key [] ready = tt
+  offers_ready key (view ∷ views) ready = (offered_ready key view ready.0, offers_ready key views ready.1)
+
+  -- all keys
+  all_offers_le : (keys : List Place) (views : List View) → AllByRecursion (IsReady rules d) views → sum_by (left_of rules d) (views_offered rules d d.applied keys views) ≤ sum_by (left_of rules d) views
+  all_offers_le [] views ready = omega arith
+  all_offers_le (key ∷ keys) views ready =
+      omega (arith, offers_le key views ready, all_offers_le keys (map (offered rules d d.applied key) views) (offers_ready key views ready))
+
+  abbrev wanted_by : List View → Place → Bool
+  wanted_by views key = list_any (λ view. has_room view && is_due rules d view key) views
+
+  -- a key that a view with room is owed goes to some view
+  goes_somewhere : (key : Place) (views : List View) → AllByRecursion (IsReady rules d) views → wanted_by views key ≡ true → list_any (takes rules d d.applied key) views ≡ true
+  goes_somewhere key views ready wanted =
+      any_weaker (IsReady rules d) (λ view. has_room view && is_due rules d view key) (takes rules d d.applied key) views
+      (λ view is e. let parts = and_parts (has_room view) (is_due rules d view key) e in takes_by rules d key view is parts.0 parts.1) ready wanted
+
+  all_offers_lt : (keys : List Place) (views : List View) → AllByRecursion (IsReady rules d) views → list_any (wanted_by views) keys ≡ true → sum_by (left_of rules d) (views_offered rules d d.applied keys views) + 1 ≤ sum_by (left_of rules d) views
+  all_offers_lt [] views ready some = absurd (cc)
+  all_offers_lt (key ∷ keys) views ready some =
+      let later : sum_by (left_of rules d) (views_offered rules d d.applied keys (map (offered rules d d.applied key) views)) ≤ sum_by (left_of rules d) (map (offered rules d d.applied key) views) = all_offers_le keys (map (offered rules d d.applied key) views) (offers_ready key views ready) in
+      elim (cases_Bool (list_any (takes rules d d.applied key) views)) [
+        | inl taken ↦ omega (arith, later, offers_lt key views ready taken)
+        | inr not_taken ↦
+            let same : map (offered rules d d.applied key) views ≡ views = offers_same key views not_taken in
+            let other : (b : Bool) → wanted_by views key ≡ b → (b || list_any (wanted_by views) keys) ≡ true → list_any (wanted_by views) keys ≡ true = elim [
+              | true ↦ λ is e. absurd (let yes = goes_somewhere key views ready is in cc)
+              | false ↦ λ is e. e
+            ] in
+            let rest : sum_by (left_of rules d) (views_offered rules d d.applied keys views) + 1 ≤ sum_by (left_of rules d) views = all_offers_lt keys views ready (other (wanted_by views key) refl some) in
+            let is : sum_by (left_of rules d) (views_offered rules d d.applied keys (map (offered rules d d.applied key) views)) ≡ sum_by (left_of rules d) (views_offered rules d d.applied keys views) = ap (λ vs. sum_by (left_of rules d) (views_offered rules d d.applied keys vs)) same in
+            omega (arith, rest, is)
+      ]
+
+-- what is left, where no input is left
+no_input : (j a p x : ℕ) → a ≡ j → (j - a) * p + x ≡ x
+no_input j a p x e = let none : j - a ≡ 0 = omega arith in rw none (grind arith)
+
+-- and where one more is applied
+one_input : (j a u x y w : ℕ) → a < j → y ≤ u → (j - (a + 1)) * (2 * u + 1) + 2 * y + w < (j - a) * (2 * u + 1) + 2 * x + w
+one_input j a u x y w more le =
+    let m : j - a ≡ (j - (a + 1)) + 1 = omega arith in
+    rw m (grind arith)
+
+-- an input behind the first n is there
+some_input : (journal : List Input) (n : ℕ) (input : Input) → slice_get journal n ≡ Some input → n < length journal
+some_input journal n input is =
+    elim ((slice_get_cases journal n).1) [
+      | inl (other, lt, some, at) ↦ lt
+      | inr (past, none) ↦ absurd (cc)
+    ]
+
+module _ {C B S : Type 0} (rules : Rules C B) where
+  -- the document with other views and jobs
+  abbrev pub with_views : Document S → List View → List (Job S) → ℕ → Document S
+  with_views d views jobs ticket = record d { views = views; jobs = jobs; next_ticket = ticket }
+
+  left_is : (d : Document S) (views : List View) (jobs : List (Job S)) (ticket : ℕ) → d.applied ≡ length d.journal → left_to_do rules (with_views d views jobs ticket) ≡ sum_by (left_of rules d) views
+  left_is d views jobs ticket level =
+      let apart : sum_by (left_of rules d) views ≡ 2 * sum_by (due_of rules d) views + sum_by (λ view. length view.window) views = sum_apart (due_of rules d) (λ view. length view.window) views in
+      let e : (length d.journal - d.applied) * (2 * pairs rules (with_views d views jobs ticket) + 1) + 2 * sum_by (due_of rules d) views ≡ 2 * sum_by (due_of rules d) views = no_input (length d.journal) d.applied (2 * pairs rules (with_views d views jobs ticket) + 1) (2 * sum_by (due_of rules d) views) level in
+      omega (arith, apart, e)
+
+  -- an input that is applied
+  due_le_pairs : (d : Document S) (views : List View) → sum_by (due_of rules d) views ≤ sum_by (λ view. length (keys rules d view)) views
+  due_le_pairs d views = sum_le (due_of rules d) (λ view. length (keys rules d view)) views (λ view. count_by-le-length (is_due rules d view) (keys rules d view))
+
+  applied_left : (d : Document S) → d.applied < length d.journal → left_to_do rules (record d { applied = d.applied + 1 }) < left_to_do rules d
+  applied_left d more =
+      let e : Document S = record d { applied = d.applied + 1 } in
+      one_input (length d.journal) d.applied (pairs rules d) (due_pairs rules d) (due_pairs rules e) (unacknowledged d) more (due_le_pairs e d.views)
+
+  pub applied_lowers : (old new : Document S) (outs : Outs S) → Applies rules old outs new → old.jobs ≡ [] → (new.jobs ≡ []) × (left_to_do rules new < left_to_do rules old)
+  applied_lowers old new outs step none =
+      let more : old.applied < length old.journal = some_input old.journal old.applied step.input step.behind in
+      let less : left_to_do rules (record old { applied = old.applied + 1 }) < left_to_do rules old = applied_left old more in
+      (ap (λ e. e.jobs) step.new_is ∙ none, subst (λ e. left_to_do rules e < left_to_do rules old) (sym step.new_is) less)
+
+  -- a tile that is sent
+  sent_left : (old : Document S) (view : View) (key : Place) (version : ℕ) → IsReady rules old view → old.applied ≡ length old.journal → find_view old.views view.id ≡ Some view → is_due rules old view key ≡ true → version ≤ old.applied → touched rules old.base old.journal version key old.applied ≡ false
+      → left_to_do rules (record old { views = with_view old.views view.id (sent rules old version key) }) < left_to_do rules old
+  sent_left old view key version ready level live due past clean =
+      let less : left_of rules old (sent rules old version key view) + 1 ≤ left_of rules old view = sent_less rules old version key view clean past ready due in
+      let sum = sum_with (left_of rules old) old.views view.id (sent rules old version key) view live in
+      let after : left_to_do rules (record old { views = with_view old.views view.id (sent rules old version key) }) ≡ sum_by (left_of rules old) (with_view old.views view.id (sent rules old version key)) = left_is old (with_view old.views view.id (sent rules old version key)) old.jobs old.next_ticket level in
+      let before : left_to_do rules old ≡ sum_by (left_of rules old) old.views = left_is old old.views old.jobs old.next_ticket level in
+      omega (arith, less, sum, after, before)
+
+  pub sent_lowers : (old new : Document S) (outs : Outs S) → Sends rules old outs new → IsKept rules old → left_to_do rules new < left_to_do rules old
+  sent_lowers old new outs step kept =
+      let ready : IsReady rules old step.view = found_view (IsReady rules old) old.views step.view.id step.view (all_ready rules old kept) step.live in
+      let clean : touched rules old.base old.journal step.version step.key old.applied ≡ false = not-true (touched rules old.base old.journal step.version step.key old.applied) step.current in
+      let less = sent_left old step.view step.key step.version ready step.level step.live step.due step.past clean in
+      subst (λ e. left_to_do rules e < left_to_do rules old) (sym step.new_is) less
+
+  -- a job that is painted directly behind the turn that cut it
+  abbrev cut_now : Document S → Job S → Document S
+  cut_now old job = record old { jobs = old.jobs ++ job ∷ []; next_ticket = old.next_ticket + 1 }
+
+  painted_is : (paints : S → Pixels) (old new : Document S) (job : Job S) (later : Outs S) → old.jobs ≡ [] → Step rules paints (cut_now old job) (answered (given job)) later new
+      → new ≡ with_views old (views_offered rules old job.number job.keys old.views) [] (old.next_ticket + 1)
+  painted_is paints old new job later none step =
+      let jobs_are : old.jobs ++ job ∷ [] ≡ job ∷ [] = ap (λ js. js ++ job ∷ []) none in
+      let here : find_job (job ∷ []) job.ticket ≡ Some job = rw (nat_eq_self job.ticket) refl in
+      let gone : without_job (job ∷ []) job.ticket ≡ [] = rw (nat_eq_self job.ticket) refl in
+      let found : find_job (old.jobs ++ job ∷ []) job.ticket ≡ Some job = ap (λ js. find_job js job.ticket) jobs_are ∙ here in
+      let left : without_job (old.jobs ++ job ∷ []) job.ticket ≡ [] = ap (λ js. without_job js job.ticket) jobs_are ∙ gone in
+      let paint = subst (Paints rules (cut_now old job) job.ticket job.scene later new) found step in
+      elim paint [
+        | inl not_taken ↦ absurd (not_taken.0 refl)
+        | inr taken ↦ taken.2 ∙ ap (λ js. with_views old (views_offered rules old job.number job.keys old.views) js (old.next_ticket + 1)) left
+      ]
+
+  cut_left : (old : Document S) (job : Job S) → IsKept rules old → old.applied ≡ length old.journal → job.number ≡ old.applied → list_any (is_wanted rules old) job.keys ≡ true
+      → left_to_do rules (with_views old (views_offered rules old job.number job.keys old.views) [] (old.next_ticket + 1)) < left_to_do rules old
+  cut_left old job kept level number wanted =
+      let less : sum_by (left_of rules old) (views_offered rules old old.applied job.keys old.views) + 1 ≤ sum_by (left_of rules old) old.views = all_offers_lt rules old job.keys old.views (all_ready rules old kept) wanted in
+      let same : sum_by (left_of rules old) (views_offered rules old job.number job.keys old.views) ≡ sum_by (left_of rules old) (views_offered rules old old.applied job.keys old.views) = ap (λ n. sum_by (left_of rules old) (views_offered rules old n job.keys old.views)) number in
+      let after = left_is old (views_offered rules old job.number job.keys old.views) [] (old.next_ticket + 1) level in
+      let before : left_to_do rules old ≡ sum_by (left_of rules old) old.views = left_is old old.views old.jobs old.next_ticket level in
+      omega (arith, less, same, after, before)
+
+  pub cut_and_painted_lowers : (paints : S → Pixels) (old mid new : Document S) (outs later : Outs S) (job : PaintJob S) → Cuts rules paints old outs mid → old.jobs ≡ [] → IsKept rules old → outs.jobs ≡ job ∷ [] → Step rules paints mid (answered job) later new → (new.jobs ≡ []) × (left_to_do rules new < left_to_do rules old)
+  cut_and_painted_lowers paints old mid new outs later job cuts none kept one step =
+      let given_is : outs.jobs ≡ given cuts.job ∷ [] = ap (λ o. o.jobs) cuts.outs_are in
+      let same : job ≡ given cuts.job = cc in
+      let there : Step rules paints (cut_now old cuts.job) (answered (given cuts.job)) later new =
+          subst (λ (j : PaintJob S). Step rules paints (cut_now old cuts.job) (answered j) later new) same
+          (subst (λ (m : Document S). Step rules paints m (answered job) later new) cuts.new_is step) in
+      let is = painted_is paints old new cuts.job later none there in
+      let less = cut_left old cuts.job kept cuts.level cuts.number_is cuts.wanted in
+      (ap (λ e. e.jobs) is, subst (λ e. left_to_do rules e < left_to_do rules old) (sym is) less)
+
+  -- a turn that works, with each job that it gave out painted directly behind it
+  pub at_once_lowers : (paints : S → Pixels) (old mid new : Document S) (outs later : Outs S) → Works rules paints old outs mid → old.jobs ≡ [] → IsKept rules old → Segment rules paints mid (all_answered outs) later new → (new.jobs ≡ []) × (left_to_do rules new < left_to_do rules old)
+  at_once_lowers paints old mid new outs later works none kept run =
+      let Lower : Document S → Type 0 = λ e. (e.jobs ≡ []) × (left_to_do rules e < left_to_do rules old) in
+      let stays : outs.jobs ≡ [] → Lower mid → Lower new = λ e low.
+          let run0 = subst (λ (js : List (PaintJob S)). Segment rules paints mid (map answered js) later new) e run in
+          subst Lower (sym run0.1) low in
+      elim works [
+        | inl applies ↦ stays (ap (λ o. o.jobs) applies.outs_are) (applied_lowers old mid outs applies none)
+        | inr other ↦ elim other [
+          | inl sends ↦ stays (ap (λ o. o.jobs) sends.outs_are) (ap (λ e. e.jobs) sends.new_is ∙ none, sent_lowers old mid outs sends kept)
+          | inr cuts ↦
+              let jobs_are : outs.jobs ≡ given cuts.job ∷ [] = ap (λ o. o.jobs) cuts.outs_are in
+              let run1 = subst (λ (js : List (PaintJob S)). Segment rules paints mid (map answered js) later new) jobs_are run in
+              subst Lower (sym run1.4.1) (cut_and_painted_lowers paints old mid run1.0 outs run1.1 (given cuts.job) cuts none kept jobs_are run1.3)
+        ]
+      ]
