@@ -30,9 +30,10 @@ abbrev pub held : {S : Type 0} → Option (Option (Document S)) → Option (Docu
 held None = None
 held (Some document) = document
 
--- the rights of a link
+-- the rights of a link that writes, and of one that only looks, with their tokens
 abbrev pub rights : Bool → Rights
-rights writes = record { can_write = writes }
+rights true = record { can_write = true; token = codes "t-rw" }
+rights false = record { can_write = false; token = codes "t-ro" }
 
 -- A load of a document that is there: the link is a new view of it, or, where it has 64 views, is refused and stays
 -- in the lobby.

@@ -10,11 +10,25 @@ use crate::seats::{Seats, records};
 use crate::takes::Step;
 use broker_core::{Broker, JoinFault};
 use bytes::Bytes;
-use cool_base::{FileId, Memory};
+use cool_base::{FileId, Memory, Token};
 use cool_frame::ErrorKind;
 use document_machine::Rights;
 use kit_trait::{Kit, LoadFault};
 use std::alloc::Global;
+
+/// The rights of a link.
+fn rights(alloc: Global, writes: bool) -> Result<Rights, Memory>
+    ensures { IfOk result (λ given. given ≡ rights writes) }
+{
+    let text = if writes { "t-rw" } else { "t-ro" };
+    match Token::read(alloc, text)? {
+        Some(token) => Ok(Rights {
+            can_write: writes,
+            token,
+        }),
+        None => unreachable!(),
+    }
+}
 
 /// The link becomes a view of the document, or is refused where it has 64 views.
 fn joins<K: Kit>(
@@ -27,7 +41,8 @@ fn joins<K: Kit>(
     requires { ForSome broker (λ d. d.jobs ≡ []) }
     ensures { IfOk result (λ step. JoinsBy K.rules K.Scene.paints seats.old link (rights writes) broker step.bytes.items (record { seats = seats.new; document = held step.broker })) }
 {
-    match broker.join(alloc, Rights { can_write: writes }) {
+    let given = rights(alloc, writes)?;
+    match broker.join(alloc, given) {
         Ok((view, outs)) => {
             seats.sit(link, view.0)?;
             let bytes = records(alloc, seats, outs.frames.get())?;
