@@ -8,7 +8,7 @@ use Rattle.cool_message.specs.Reading.{reading}
 use Rattle.cool_message.specs.Writing.{written}
 use Rattle.cool_message.specs.declared.message.ClientMessage.TheVariants.{TileProcessed}
 use Rattle.kit_trait.specs.Rules.{Rules}
-use Rattle.document_machine.proofs.Lists.{all_gone}
+use Rattle.document_machine.proofs.Lists.{all_gone, filter_le}
 use Rattle.document_machine.specs.Due.{keys, parts_of, size_of}
 use Rattle.document_machine.specs.Kept.{IsKept, IsViewKept}
 use Rattle.document_machine.specs.Message.{Acknowledges, acknowledged, effect, reading_effect, reply, took}
@@ -68,13 +68,23 @@ sum_same f (v ∷ vs) id change same =
     ] in
     go (nat_eq v.id id)
 
+-- and it is no larger where that view counts no more
+sum_with_le : (f : View → ℕ) (views : List View) (id : ℕ) (change : View → View) → ((v : View) → f (change v) ≤ f v) → sum_by f (with_view views id change) ≤ sum_by f views
+sum_with_le f [] id change le = omega arith
+sum_with_le f (v ∷ vs) id change le =
+    let go : (b : Bool) → sum_by f (cond b (change v ∷ vs) (v ∷ with_view vs id change)) ≤ sum_by f (v ∷ vs) = elim [
+      | true ↦ omega (arith, le v, sum_by-cons f (change v) vs, sum_by-cons f v vs)
+      | false ↦ omega (arith, sum_with_le f vs id change le, sum_by-cons f v (with_view vs id change), sum_by-cons f v vs)
+    ] in
+    go (nat_eq v.id id)
+
 -- a list of at least one and at most 64 is one of a message
 list_length : (n : ℕ) → 1 ≤ n → n ≤ 64 → IsListLength n
 list_length n low high = (low, omega arith)
 
 module _ {C B S : Type 0} (rules : Rules C B) (d : Document S) where
   -- acknowledging leaves the other things to do
-  same_to_come : (id : ℕ) (wids : List ℕ) → still_to_come rules (took rules d id (Acknowledges wids)) ≡ still_to_come rules d
+  pub same_to_come : (id : ℕ) (wids : List ℕ) → still_to_come rules (took rules d id (Acknowledges wids)) ≡ still_to_come rules d
   same_to_come id wids =
       let p : sum_by (λ view. length (keys rules d view)) (with_view d.views id (acknowledged wids)) ≡ sum_by (λ view. length (keys rules d view)) d.views = sum_same (λ view. length (keys rules d view)) d.views id (acknowledged wids) (λ v. refl) in
       let q : sum_by (due_of rules d) (with_view d.views id (acknowledged wids)) ≡ sum_by (due_of rules d) d.views = sum_same (due_of rules d) d.views id (acknowledged wids) (λ v. refl) in
@@ -89,6 +99,13 @@ module _ {C B S : Type 0} (rules : Rules C B) (d : Document S) where
       let sum = sum_with (λ v. length v.window) d.views id (acknowledged (numbers view)) view live in
       let rest = same_to_come id (numbers view) in
       (found_with d.views id (acknowledged (numbers view)) view (λ v. refl) live ∙ ap Some empty, omega (arith, there, gone, sum, rest))
+
+  -- whatever is acknowledged, no more is left to do
+  pub acknowledging_adds_nothing : (id : ℕ) (wids : List ℕ) → left_to_do rules (took rules d id (Acknowledges wids)) ≤ left_to_do rules d
+  acknowledging_adds_nothing id wids =
+      let fewer : unacknowledged (took rules d id (Acknowledges wids)) ≤ unacknowledged d =
+          sum_with_le (λ v. length v.window) d.views id (acknowledged wids) (λ v. filter_le (λ tile. not (list_any (λ wid. nat_eq wid tile.wid) wids)) v.window) in
+      omega (arith, same_to_come id wids, fewer)
 
   pub others_stay : (id other : ℕ) (wids : List ℕ) → other ≢ id → find_view (took rules d id (Acknowledges wids)).views other ≡ find_view d.views other
   others_stay id other wids apart = found_other d.views id other (acknowledged wids) (λ v. refl) apart

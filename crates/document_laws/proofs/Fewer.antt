@@ -22,7 +22,7 @@ use Rattle.document_laws.proofs.Quiet.{version_applied}
 use Rattle.document_laws.proofs.Sending.{without_key, sent_due}
 
 -- of a list and of what a filter keeps of it, no more pass a test that is no weaker
-one_le : (a b : Bool) → (a ≡ true → b ≡ true) → one a ≤ one b
+pub one_le : (a b : Bool) → (a ≡ true → b ≡ true) → one a ≤ one b
 one_le true b f = let e : b ≡ true = f refl in rw e (omega arith)
 one_le false b f = omega arith
 
@@ -113,11 +113,11 @@ with_versions n (shown ∷ screen) key version le all =
     ] in
     go (is_lt (key_order key shown.key)) (same_place key shown.key)
 
-screen_versions : (n : ℕ) (screen : List Shown) (key : Place) (version : ℕ) (wanted : Bool) → version ≤ n → AllByRecursion (λ shown. shown.version ≤ n) screen → AllByRecursion (λ shown. shown.version ≤ n) (screen_after screen key version wanted)
+pub screen_versions : (n : ℕ) (screen : List Shown) (key : Place) (version : ℕ) (wanted : Bool) → version ≤ n → AllByRecursion (λ shown. shown.version ≤ n) screen → AllByRecursion (λ shown. shown.version ≤ n) (screen_after screen key version wanted)
 screen_versions n screen key version true le all = with_versions n screen key version le all
 screen_versions n screen key version false le all = all_filter (λ shown. shown.version ≤ n) (λ shown. not (same_place shown.key key)) screen all
 
-asked_once : (asked : List Place) (key : Place) (current : Bool) → Pairwise (λ p q. p ≢ q) asked → Pairwise (λ p q. p ≢ q) (asked_after asked key current)
+pub asked_once : (asked : List Place) (key : Place) (current : Bool) → Pairwise (λ p q. p ≢ q) asked → Pairwise (λ p q. p ≢ q) (asked_after asked key current)
 asked_once asked key true once = pairwise_filter (λ p q. p ≢ q) (λ other. not (same_place other key)) asked once
 asked_once asked key false once = once
 

@@ -165,17 +165,17 @@ module _ {C B S : Type 0} (rules : Rules C B) (d : Document S) where
       ]
 
 -- what is left, where no input is left
-no_input : (j a p x : ℕ) → a ≡ j → (j - a) * p + x ≡ x
+pub no_input : (j a p x : ℕ) → a ≡ j → (j - a) * p + x ≡ x
 no_input j a p x e = let none : j - a ≡ 0 = omega arith in rw none (grind arith)
 
 -- and where one more is applied
-one_input : (j a u x y w : ℕ) → a < j → y ≤ u → (j - (a + 1)) * (2 * u + 1) + 2 * y + w < (j - a) * (2 * u + 1) + 2 * x + w
+pub one_input : (j a u x y w : ℕ) → a < j → y ≤ u → (j - (a + 1)) * (2 * u + 1) + 2 * y + w < (j - a) * (2 * u + 1) + 2 * x + w
 one_input j a u x y w more le =
     let m : j - a ≡ (j - (a + 1)) + 1 = omega arith in
     rw m (grind arith)
 
 -- an input behind the first n is there
-some_input : (journal : List Input) (n : ℕ) (input : Input) → slice_get journal n ≡ Some input → n < length journal
+pub some_input : (journal : List Input) (n : ℕ) (input : Input) → slice_get journal n ≡ Some input → n < length journal
 some_input journal n input is =
     elim ((slice_get_cases journal n).1) [
       | inl (other, lt, some, at) ↦ lt
@@ -194,7 +194,7 @@ module _ {C B S : Type 0} (rules : Rules C B) where
       omega (arith, apart, e)
 
   -- an input that is applied
-  due_le_pairs : (d : Document S) (views : List View) → sum_by (due_of rules d) views ≤ sum_by (λ view. length (keys rules d view)) views
+  pub due_le_pairs : (d : Document S) (views : List View) → sum_by (due_of rules d) views ≤ sum_by (λ view. length (keys rules d view)) views
   due_le_pairs d views = sum_le (due_of rules d) (λ view. length (keys rules d view)) views (λ view. count_by-le-length (is_due rules d view) (keys rules d view))
 
   applied_left : (d : Document S) → d.applied < length d.journal → left_to_do rules (record d { applied = d.applied + 1 }) < left_to_do rules d

@@ -132,7 +132,7 @@ count_inserted p (other ∷ others) key order =
     ] in
     go (is_lt (key_order key other)) (same_place key other) refl refl
 
-among_inserted : (list : List Place) (key x : Place) → is_among (inserted list key) x ≡ (is_among list x || same_place key x)
+pub among_inserted : (list : List Place) (key x : Place) → is_among (inserted list key) x ≡ (is_among list x || same_place key x)
 among_inserted [] key x = let go : (b : Bool) → (b || false) ≡ b = elim [ true ↦ refl | false ↦ refl ] in go (same_place key x)
 among_inserted (other ∷ others) key x =
     let turn : (a b c : Bool) → (a || (b || c)) ≡ ((b || c) || a) = elim [ true ↦ elim [ true ↦ λ c. refl | false ↦ elim [ true ↦ refl | false ↦ refl ] ] | false ↦ elim [ true ↦ λ c. refl | false ↦ elim [ true ↦ refl | false ↦ refl ] ] ] in

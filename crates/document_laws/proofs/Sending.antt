@@ -68,7 +68,7 @@ screen_other screen key version false x away = without_other screen key x away
 abbrev pub without_key : List Place → Place → List Place
 without_key asked key = filter (λ other. not (same_place other key)) asked
 
-asked_other : (asked : List Place) (key x : Place) → same_place key x ≡ false → is_among (without_key asked key) x ≡ is_among asked x
+pub asked_other : (asked : List Place) (key x : Place) → same_place key x ≡ false → is_among (without_key asked key) x ≡ is_among asked x
 asked_other [] key x away = refl
 asked_other (other ∷ others) key x away =
     let go : (b : Bool) → same_place other key ≡ b → is_among (cond (not b) (other ∷ without_key others key) (without_key others key)) x ≡ is_among (other ∷ others) x = elim [

@@ -1,1 +1,4 @@
+pub mod Apart
 pub mod AtOnce
+pub mod InARow
+pub mod Whole

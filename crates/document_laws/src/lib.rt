@@ -2,21 +2,24 @@
 //! kits alone, whatever broker runs it. Each is a function with an empty body whose contract is the law.
 #![tactic(auto)]
 
-ghost use Rattle.std.specs.Prelude.{◌≡◌, ◌≢◌, ℕ, ◌^◌, ◌≤◌, ◌<◌, ◌⊎◌, true, false, List, [], ◌∷◌, length, Some, Ok};
+ghost use Rattle.std.specs.Prelude.{◌≡◌, ◌≢◌, ℕ, ◌+◌, ◌^◌, ◌≤◌, ◌<◌, ◌⊎◌, true, false, List, [], ◌∷◌, length, Some, Ok};
 ghost use Rattle.cool_message.specs.Reading.{reading};
 ghost use Rattle.cool_message.specs.Writing.{written};
 ghost use Rattle.cool_message.specs.declared.message.ClientMessage.TheVariants.{TileProcessed};
 ghost use Rattle.std.specs.List.{AllByRecursion};
+ghost use Rattle.document_laws.specs.Apart.{AreApart};
 ghost use Rattle.document_laws.specs.AtOnce.{all_answered, numbers, IsAcknowledged};
+ghost use Rattle.document_laws.specs.InARow.{WorkInARow};
+ghost use Rattle.document_laws.specs.Whole.{IsWhole};
 ghost use Rattle.document_machine.specs.Due.{touched, is_due, keys};
-ghost use Rattle.document_machine.specs.Event.{Painted};
+ghost use Rattle.document_machine.specs.Event.{Event as Happening, Painted};
 ghost use Rattle.document_machine.specs.Kept.{IsKept};
 ghost use Rattle.document_machine.specs.Message.{Acknowledges, took};
 ghost use Rattle.document_machine.specs.Outputs.{nothing};
 ghost use Rattle.document_machine.specs.Quiet.{IsQuiet, is_quiet, IsRight, AllRight};
-ghost use Rattle.document_machine.specs.Rank.{left_to_do};
+ghost use Rattle.document_machine.specs.Rank.{IsLower, due_pairs, jobs_due, left_to_do, rank};
 ghost use Rattle.document_machine.specs.Run.{Segment};
-ghost use Rattle.document_machine.specs.State.{View, Document, find_view};
+ghost use Rattle.document_machine.specs.State.{View, Document, find_view, opening};
 ghost use Rattle.document_machine.specs.Step.{Applies, Cuts, Says, Sends, Step, Works};
 ghost use Rattle.document_machine.specs.declared.outs.Outs.{Outs as Given};
 ghost use Rattle.kit_trait.specs.declared.jobs.PaintJob.{PaintJob as Task};
@@ -80,6 +83,11 @@ pub fn acknowledged_lowers<K: Kit>()
     ensures { (d : Document K.Scene) (id : ℕ) (view : View) → find_view d.views id ≡ Some view → view.window ≢ [] → (find_view (took K.rules d id (Acknowledges (numbers view))).views id ≡ Some (record view { window = [] })) × (left_to_do K.rules (took K.rules d id (Acknowledges (numbers view))) < left_to_do K.rules d) }
 {}
 
+/// Acknowledging never leaves more to do, whatever the numbers are.
+pub fn acknowledging_adds_nothing<K: Kit>()
+    ensures { (d : Document K.Scene) (id : ℕ) (wids : List ℕ) → left_to_do K.rules (took K.rules d id (Acknowledges wids)) ≤ left_to_do K.rules d }
+{}
+
 /// Acknowledging changes no other view, whatever the numbers are.
 pub fn others_stay<K: Kit>()
     ensures { (d : Document K.Scene) (id other : ℕ) (wids : List ℕ) → other ≢ id → find_view (took K.rules d id (Acknowledges wids)).views other ≡ find_view d.views other }
@@ -95,4 +103,34 @@ pub fn said_acknowledges<K: Kit>()
 /// are one message.
 pub fn written_lowers<K: Kit>()
     ensures { (d new : Document K.Scene) (id : ℕ) (view : View) (outs : Given K.Scene) → IsKept K.rules d → find_view d.views id ≡ Some view → view.window ≢ [] → AllByRecursion (λ n. n < 2 ^ 64) (numbers view) → Says K.rules d id (written (TileProcessed (numbers view))) outs new → IsAcknowledged K.rules d id view outs new }
+{}
+
+/// Each work of a turn lowers the rank, in a document that a broker keeps and in which no key is in two
+/// jobs out. (Without the latter a tile that is sent could leave several jobs without a due pair.)
+pub fn work_lowers<K: Kit>()
+    ensures { (old new : Document K.Scene) (outs : Given K.Scene) → Works K.rules K.Scene.paints old outs new → IsKept K.rules old → AreApart old.jobs → IsLower K.rules new old }
+{}
+
+/// Where no key is in two jobs out, no more jobs have a due pair than there are due pairs. So the rank is
+/// never below nothing.
+pub fn rank_counts<K: Kit>()
+    ensures { (d : Document K.Scene) → AreApart d.jobs → jobs_due K.rules d ≤ due_pairs K.rules d }
+{}
+
+/// From a whole document at most as many turns in a row do a work as its rank says.
+pub fn turns_end<K: Kit>()
+    ensures { (n : ℕ) (old new : Document K.Scene) → WorkInARow K.rules K.Scene.paints old n new → IsWhole K.rules old → n + rank K.rules new ≤ rank K.rules old }
+{}
+
+/// A document as it is loaded is whole, and every step leaves a whole document whole.
+pub fn steps_keep<K: Kit>()
+    ensures opening { (file base : List ℕ) → K.rules.accepts base ≡ true → IsWhole K.rules (opening {S = K.Scene} file base) }
+    ensures step { (old new : Document K.Scene) (event : Happening K.Scene) (outs : Given K.Scene) → Step K.rules K.Scene.paints old event outs new → IsWhole K.rules old → IsWhole K.rules new }
+    ensures run { (events : List (Happening K.Scene)) (old new : Document K.Scene) (outs : Given K.Scene) → Segment K.rules K.Scene.paints old events outs new → IsWhole K.rules old → IsWhole K.rules new }
+{}
+
+/// Whatever events come to a loaded document: whenever it is quiet, each key that a view sees is on its
+/// screen in a version that looks like the document after all accepted inputs.
+pub fn quiet_runs_are_right<K: Kit>()
+    ensures { (file base : List ℕ) (events : List (Happening K.Scene)) (outs : Given K.Scene) (d : Document K.Scene) → K.rules.accepts base ≡ true → Segment K.rules K.Scene.paints (opening file base) events outs d → IsQuiet K.rules d → AllRight K.rules d }
 {}
