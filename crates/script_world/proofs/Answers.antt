@@ -2,7 +2,7 @@
 use Rattle.std.proofs.Common.{◌≡◌, ◌∙◌, ℕ, Bool, true, false, List, [], ◌∷◌, ◌++◌, length, Option, None, Some, IsSome, refl, sym, ap, subst, append_assoc, arith}
 use Rattle.std.specs.List.{flat_map}
 use Rattle.std.proofs.lemmas.List.{append-nil}
-use Rattle.broker_core.specs.Turns.{GoesTurn}
+use Rattle.broker_core.specs.Serving.{GoesTo}
 use Rattle.cool_base.specs.declared.ids.ViewId.{ViewId}
 use Rattle.cool_frame.specs.declared.frame.Frame.{Frame}
 use Rattle.document_machine.specs.Event.{Event, Painted}
@@ -81,14 +81,14 @@ goes_there rules paints None new event outs goes = absurd goes
 goes_there rules paints (Some d) None event outs goes = absurd goes
 goes_there rules paints (Some d) (Some e) event outs goes = refl
 
-pub turn_there : {C B S : Type 0} (rules : Rules C B) (paints : S → Pixels) (old new : Option (Document S)) (turned : Turned S) → GoesTurn rules paints old turned new → IsSome new
+pub turn_there : {C B S : Type 0} (rules : Rules C B) (paints : S → Pixels) (old new : Option (Document S)) (turned : Turned S) → GoesTo rules paints old turned new → IsSome new
 turn_there rules paints None new turned goes = absurd goes
 turn_there rules paints (Some d) None turned goes = absurd goes
 turn_there rules paints (Some d) (Some e) turned goes = refl
 
 -- a turn that worked, with the answers to its jobs
 pub worked_by : {C B S : Type 0} (rules : Rules C B) (paints : S → Pixels) (seats : Seats) (old mid new : Option (Document S)) (outs : Outs S) (here later : List ℕ) (out : List ℕ)
-    → GoesTurn rules paints old (Worked outs) mid → here ≡ records seats outs.frames → AnswersAll rules paints seats mid outs.jobs later new → out ≡ here ++ later
+    → GoesTo rules paints old (Worked outs) mid → here ≡ records seats outs.frames → AnswersAll rules paints seats mid outs.jobs later new → out ≡ here ++ later
     → TurnsDocument rules paints seats old out true new
 worked_by rules paints seats None mid new outs here later out goes is answers all = absurd goes
 worked_by rules paints seats (Some d) None new outs here later out goes is answers all = absurd goes
@@ -101,7 +101,7 @@ worked_by {C} {B} {S} rules paints seats (Some d) (Some e) new outs here later o
 )
 
 -- a turn that did nothing
-pub rested_by : {C B S : Type 0} (rules : Rules C B) (paints : S → Pixels) (seats : Seats) (old new : Option (Document S)) (out : List ℕ) → GoesTurn rules paints old Idle new → out ≡ [] → TurnsDocument rules paints seats old out false new
+pub rested_by : {C B S : Type 0} (rules : Rules C B) (paints : S → Pixels) (seats : Seats) (old new : Option (Document S)) (out : List ℕ) → GoesTo rules paints old Idle new → out ≡ [] → TurnsDocument rules paints seats old out false new
 rested_by rules paints seats None new out goes is = absurd goes
 rested_by rules paints seats (Some d) None out goes is = absurd goes
 rested_by rules paints seats (Some d) (Some e) out goes is = (is, goes.0, ap Some goes.1)

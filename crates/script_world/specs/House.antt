@@ -6,6 +6,7 @@ use Rattle.cool_base.specs.declared.ids.ViewId.{ViewId}
 use Rattle.cool_frame.specs.declared.frame.Frame.{Frame}
 use Rattle.cool_message.specs.Writing.{written}
 use Rattle.cool_message.specs.declared.message.ClientMessage.TheVariants.{TileProcessed}
+use Rattle.document_laws.specs.Whole.{IsWhole}
 use Rattle.document_machine.specs.Event.{Event, Joined, Left, Said, Painted}
 use Rattle.document_machine.specs.Outputs.{nothing}
 use Rattle.document_machine.specs.Run.{Segment}
@@ -161,17 +162,19 @@ acknowledgements_by document views = flat_map (λ seat. acknowledges seat.0 (win
 abbrev pub acknowledgements : {S : Type 0} → House S → List Waiting
 acknowledgements house = acknowledgements_by house.document house.seats.views
 
--- a document and who is there: no job is out, and each of its views has a link
+-- the ids of views
 abbrev pub ids_of : List View → List ℕ
 ids_of views = map (λ view. view.id) views
 
-pub record IsSeated {S : Type 0} (seats : Seats) (d : Document S) : Type 0 where
+-- a document and who is there: it is whole, no job is out, and each of its views has a link
+pub record IsSeated {C B S : Type 0} (rules : Rules C B) (seats : Seats) (d : Document S) : Type 0 where
+  pub whole : IsWhole rules d
   pub none_out : d.jobs ≡ []
   pub linked : AllByRecursion (λ id. is_some (link_of seats id) ≡ true) (ids_of d.views)
 
-abbrev pub IsHousedBy : {S : Type 0} → Seats → Option (Document S) → Type 0
-IsHousedBy seats None = Unit {0}
-IsHousedBy seats (Some d) = IsSeated seats d
+abbrev pub IsHousedBy : {C B S : Type 0} → Rules C B → Seats → Option (Document S) → Type 0
+IsHousedBy rules seats None = Unit {0}
+IsHousedBy rules seats (Some d) = IsSeated rules seats d
 
-abbrev pub IsHoused : {S : Type 0} → House S → Type 0
-IsHoused house = IsHousedBy house.seats house.document
+abbrev pub IsHoused : {C B S : Type 0} → Rules C B → House S → Type 0
+IsHoused rules house = IsHousedBy rules house.seats house.document

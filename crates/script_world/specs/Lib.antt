@@ -4,3 +4,4 @@ pub mod Taken
 pub mod Answered
 pub mod World
 
+pub mod Moved

@@ -1,5 +1,5 @@
 -- Which links the world holds: those in the lobby, and those that are views; and what is written to them.
-use Rattle.std.specs.Prelude.{ℕ, Bool, List, [], ◌∷◌, ◌++◌, nat_eq, Option, None, Some, Result, Ok, Err, codes, if◌then◌else◌}
+use Rattle.std.specs.Prelude.{ℕ, Bool, ◌&&◌, is_none, List, [], ◌∷◌, ◌++◌, nat_eq, Option, None, Some, Result, Ok, Err, codes, if◌then◌else◌}
 use Rattle.std.specs.BTreeMap.{insert_entry, is_at}
 use Rattle.std.specs.BTreeSet.{insert_key}
 use Rattle.std.specs.List.{list_any, flat_map}
@@ -27,13 +27,13 @@ pub record Seats : Type 0 where
 abbrev pub nobody : Seats
 nobody = record { lobby = []; views = [] }
 
--- whether the link is in the lobby
-abbrev pub is_waiting : Seats → ℕ → Bool
-is_waiting seats link = list_any (is_at (nat_cmp link)) seats.lobby
-
 -- the view that the link is
 abbrev pub view_of : Seats → ℕ → Option ℕ
 view_of seats link = lookup (is_at (nat_cmp link)) seats.views
+
+-- whether the link is in the lobby: it is held there, and is no view
+abbrev pub is_waiting : Seats → ℕ → Bool
+is_waiting seats link = list_any (is_at (nat_cmp link)) seats.lobby && is_none (view_of seats link)
 
 -- a link comes into the lobby
 abbrev pub enters : Seats → ℕ → Seats

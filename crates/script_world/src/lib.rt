@@ -5,17 +5,17 @@
 //! the document is quiet, and all that its views see is right.
 #![tactic(auto)]
 
-// mod acknowledging;
+mod acknowledging;
 mod event;
 mod joining;
 mod lobby;
-// mod moves;
+mod moves;
 mod seats;
-// mod settling;
+mod settling;
 mod takes;
 mod turning;
-// mod world;
+mod world;
 
 pub use event::Waiting;
 pub use seats::Seats;
-// pub use world::World;
+pub use world::World;

@@ -25,7 +25,9 @@ impl Model for Seats {
 }
 
 impl Seats {
-    ghost use Rattle.std.specs.Prelude.{◌≡◌, OnOk};
+    ghost use Rattle.std.specs.Prelude.{◌≡◌, map, OnOk};
+    ghost use Rattle.std.specs.List.Sorted.{IsStrictlySortedBy};
+    ghost use Rattle.std.specs.Ordering.{nat_cmp};
     ghost use Rattle.script_world.specs.Seats.{nobody, is_waiting, view_of, enters, sits, without, link_of};
 
     /// No link is held.
@@ -38,11 +40,11 @@ impl Seats {
         }
     }
 
-    /// Whether the link is in the lobby.
+    /// Whether the link is in the lobby: it is held there, and is no view.
     pub fn is_waiting(&self, link: u32) -> bool
         ensures { result ≡ is_waiting self.now link }
     {
-        self.lobby.contains(&link)
+        self.lobby.contains(&link) && self.view_of(link).is_none()
     }
 
     /// The view that the link is.
@@ -66,8 +68,10 @@ impl Seats {
 
     /// The links that are views, in order, each with its view's id.
     pub fn views(&self) -> &BTreeMap<u32, u32>
-        ensures { result.now.entries ≡ self.now.views }
+        ensures entries { result.now.entries ≡ self.now.views }
+        ensures sorted { IsStrictlySortedBy nat_cmp (map (λ seat. seat.0) self.now.views) }
     {
+        let _count = self.views.len();
         &self.views
     }
 
