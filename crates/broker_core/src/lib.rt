@@ -1,2 +1,28 @@
-//! The broker of a document: every event is one call, and every call is a step of the document machine.
+//! The broker of one document: its views and their messages, the inputs, the jobs out. Each of its calls is
+//! a step of the document machine: what `document_machine` says may follow an event is what the call answers.
+//!
+//! `Broker` is the type that matters. It is driven from outside: a caller tells it who joins and leaves and
+//! what the views said, makes turns, and brings back the jobs that were painted. It knows no link, no thread
+//! and no time. After `Memory` from one of its calls a broker is spent: it answers `Memory` from then on.
 #![tactic(auto)]
+
+mod answering;
+mod applying;
+mod broker;
+mod core_of;
+mod cutting;
+mod faults;
+mod joining;
+mod message;
+mod painting;
+mod resting;
+mod saying;
+mod seats;
+#[cfg(test)]
+mod tests;
+#[cfg(test)]
+mod turn_tests;
+mod turning;
+
+pub use broker::Broker;
+pub use faults::JoinFault;

@@ -66,7 +66,7 @@ all_acks rules document seats (seat ∷ views) housed small =
     (seat_acks rules document seats seat.0 seat.1 (window_in document seat.1) housed refl small.0) (all_acks rules document seats views housed small.1)
 
 -- the first of them: its link is a view with an unacknowledged tile
-pub record IsFirst {S : Type 0} (document : Option (Document S)) (views : List (ℕ × ℕ)) (event : Waiting) : Type 0 where
+pub record IsFirst {S : Type 0} (document : Option (Document S)) (views : List (ℕ × ℕ)) (event : Waiting) : Type 1 where
   pub link : ℕ
   pub id : ℕ
   pub wid : ℕ

@@ -1,0 +1,16 @@
+pub mod SeatPlaces
+pub mod SeatLists
+pub mod Commute
+pub mod Pushed
+pub mod Within
+pub mod Effects
+pub mod HeardBy
+pub mod Windows
+pub mod Comings
+pub mod KeptBy
+pub mod Marks
+pub mod SeatWords
+pub mod Search
+pub mod Steps
+pub mod Offers
+pub mod Rest

@@ -1,0 +1,135 @@
+-- The machine's words of a view, and the view's own.
+use Rattle.std.proofs.Common.{◌≡◌, ℕ, zero, suc, ◌+◌, ◌<◌, ◌≤◌, Bool, true, false, not, ◌&&◌, ◌||◌, cond, List, [], ◌∷◌, ◌++◌, length, map, filter, find, Option, Some, None, refl, sym, ap, subst, ◌∙◌, arith, rules, nat_eq}
+use Rattle.std.specs.Prelude.{nat_lt, option_map}
+use Rattle.std.specs.List.{list_any, list_all, AllByRecursion}
+use Rattle.std.specs.Ordering.{is_lt}
+use Rattle.std.proofs.lemmas.Bool.Decides.{nat_tests}
+use Rattle.kit_trait.specs.Rules.{Rules}
+use Rattle.kit_trait.specs.declared.values.Input.{Input}
+use Rattle.tile_key.specs.Places.{Place, key_order, same_place}
+use Rattle.document_machine.specs.Due.{parts_of, size_of, touched, visible, keys, version_of, is_lacking, is_due, has_room, is_current, is_newer, with_version, without_version, screen_after, asked_after, sent, takes, tile_frame}
+use Rattle.document_machine.specs.Keys.{is_among, ordered}
+use Rattle.document_machine.specs.Quiet.{is_still}
+use Rattle.document_machine.specs.State.{Document, Shown, View}
+use Rattle.document_machine.proofs.Present.{untouched}
+use Rattle.view_session.specs.Viewing as viewing
+use Rattle.view_session.specs.Viewing.{Viewing, Entry, entry_of, version_on, with_entry, without_entry}
+use Rattle.broker_core.specs.Held.{Seat, shown_of, view_of, views_of, IsSeated}
+use Rattle.broker_core.specs.Serving as serving
+
+abbrev place : (part width height posx posy tilewidth tileheight : ℕ) → Place
+place part width height posx posy tilewidth tileheight = record { part = part; width = width; height = height; posx = posx; posy = posy; tilewidth = tilewidth; tileheight = tileheight }
+
+place_by : (a a2 b b2 c c2 d d2 e e2 f f2 g g2 : ℕ) → a ≡ a2 → b ≡ b2 → c ≡ c2 → d ≡ d2 → e ≡ e2 → f ≡ f2 → g ≡ g2 → place a b c d e f g ≡ place a2 b2 c2 d2 e2 f2 g2
+place_by a a2 b b2 c c2 d d2 e e2 f f2 g g2 p q r s t u v = cc
+
+-- places that are the same are one
+pub same_is : (p q : Place) → same_place p q ≡ true → p ≡ q
+same_is p q e =
+    let part : p.part ≡ q.part = grind (arith, nat_tests) in
+    let posy : p.posy ≡ q.posy = grind (arith, nat_tests) in
+    let posx : p.posx ≡ q.posx = grind (arith, nat_tests) in
+    let width : p.width ≡ q.width = grind (arith, nat_tests) in
+    let height : p.height ≡ q.height = grind (arith, nat_tests) in
+    let tilewidth : p.tilewidth ≡ q.tilewidth = grind (arith, nat_tests) in
+    let tileheight : p.tileheight ≡ q.tileheight = grind (arith, nat_tests) in
+    place_by p.part q.part p.width q.width p.height q.height p.posx q.posx p.posy q.posy p.tilewidth q.tilewidth p.tileheight q.tileheight part width height posx posy tilewidth tileheight
+
+-- the keys that a seat sees
+pub visible_same : {C B S : Type 0} (rules : Rules C B) (d : Document S) (seat : Seat) → IsSeated rules d.base d.journal d.applied seat → visible rules d (view_of seat) ≡ seat.view.visible
+visible_same rules d seat s = sym s.seen
+
+pub keys_same : {C B S : Type 0} (rules : Rules C B) (d : Document S) (seat : Seat) → IsSeated rules d.base d.journal d.applied seat → keys rules d (view_of seat) ≡ viewing.keys seat.view
+keys_same rules d seat s = ap (λ (vs : List Place). ordered seat.view.asked vs) (sym s.seen)
+
+-- a screen's version of a key
+pub version_same : (screen : List Entry) (key : Place) → version_of (map shown_of screen) key ≡ option_map (λ (e : Entry). e.version) (entry_of screen key)
+version_same [] key = refl
+version_same (entry ∷ screen) key =
+    elim (same_place entry.key key) as (λ b. cond b (Some entry.version) (version_of (map shown_of screen) key) ≡ option_map (λ (e : Entry). e.version) (cond b (Some entry) (entry_of screen key))) [
+      | true ↦ refl
+      | false ↦ version_same screen key
+    ]
+
+-- a screen lacks the present tile of the key
+lacking_same : {C B S : Type 0} (rules : Rules C B) (d : Document S) (screen : List Entry) (key : Place) → AllByRecursion (λ (e : Entry). e.stale ≡ touched rules d.base d.journal e.version e.key d.applied) screen → is_lacking rules d key (version_of (map shown_of screen) key) ≡ viewing.is_lacking (entry_of screen key)
+lacking_same rules d [] key marks = refl
+lacking_same rules d (entry ∷ screen) key marks =
+    let go : (b : Bool) → same_place entry.key key ≡ b → is_lacking rules d key (cond b (Some entry.version) (version_of (map shown_of screen) key)) ≡ viewing.is_lacking (cond b (Some entry) (entry_of screen key)) = elim [
+      | true ↦ λ same. ap (λ (k : Place). touched rules d.base d.journal entry.version k d.applied) (sym (same_is entry.key key same)) ∙ sym marks.0
+      | false ↦ λ _. lacking_same rules d screen key marks.1
+    ] in
+    go (same_place entry.key key) refl
+
+-- a key is due
+pub due_same : {C B S : Type 0} (rules : Rules C B) (d : Document S) (seat : Seat) (key : Place) → IsSeated rules d.base d.journal d.applied seat → is_due rules d (view_of seat) key ≡ viewing.is_due seat.view key
+due_same rules d seat key s =
+    let v : Viewing = seat.view in
+    ap (λ (vs : List Place). (is_among vs key && is_lacking rules d key (version_of (map shown_of v.screen) key)) || is_among v.asked key) (sym s.seen)
+    ∙ ap (λ b. (is_among v.visible key && b) || is_among v.asked key) (lacking_same rules d v.screen key s.marks)
+
+-- a painted tile is taken
+pub takes_same : {C B S : Type 0} (rules : Rules C B) (d : Document S) (version : ℕ) (key : Place) (seat : Seat) → IsSeated rules d.base d.journal d.applied seat → takes rules d version key (view_of seat) ≡ serving.takes key version seat.view
+takes_same rules d version key seat s =
+    let v : Viewing = seat.view in
+    ap (λ (had : Option ℕ). is_newer had version (is_among v.asked key) && (is_due rules d (view_of seat) key && has_room (view_of seat))) (version_same v.screen key)
+    ∙ ap (λ b. is_newer (version_on v key) version (is_among v.asked key) && (b && has_room (view_of seat))) (due_same rules d seat key s)
+
+-- a screen with a version put in
+with_same : (screen : List Entry) (key : Place) (version : ℕ) (stale : Bool) → with_version (map shown_of screen) key version ≡ map shown_of (with_entry screen key version stale)
+with_same [] key version stale = refl
+with_same (entry ∷ screen) key version stale =
+    elim (is_lt (key_order key entry.key)) as (λ a. cond a (record { key = key; version = version } ∷ (shown_of entry ∷ map shown_of screen)) (cond (same_place key entry.key) (record { key = key; version = version } ∷ map shown_of screen) (shown_of entry ∷ with_version (map shown_of screen) key version)) ≡ map shown_of (cond a (record { key = key; version = version; stale = stale } ∷ (entry ∷ screen)) (cond (same_place key entry.key) (record { key = key; version = version; stale = stale } ∷ screen) (entry ∷ with_entry screen key version stale)))) [
+      | true ↦ refl
+      | false ↦ elim (same_place key entry.key) as (λ b. cond b (record { key = key; version = version } ∷ map shown_of screen) (shown_of entry ∷ with_version (map shown_of screen) key version) ≡ map shown_of (cond b (record { key = key; version = version; stale = stale } ∷ screen) (entry ∷ with_entry screen key version stale))) [
+        | true ↦ refl
+        | false ↦ ap (λ es. shown_of entry ∷ es) (with_same screen key version stale)
+      ]
+    ]
+
+-- a screen with a version taken out
+without_same : (screen : List Entry) (key : Place) → without_version (map shown_of screen) key ≡ map shown_of (without_entry screen key)
+without_same [] key = refl
+without_same (entry ∷ screen) key =
+    elim (same_place entry.key key) as (λ b. cond (not b) (shown_of entry ∷ without_version (map shown_of screen) key) (without_version (map shown_of screen) key) ≡ map shown_of (cond (not b) (entry ∷ without_entry screen key) (without_entry screen key))) [
+      | true ↦ without_same screen key
+      | false ↦ ap (λ es. shown_of entry ∷ es) (without_same screen key)
+    ]
+
+screen_same : (screen : List Entry) (key : Place) (version : ℕ) (stale wanted : Bool) → screen_after (map shown_of screen) key version wanted ≡ map shown_of (viewing.screen_after screen key version stale wanted)
+screen_same screen key version stale true = with_same screen key version stale
+screen_same screen key version stale false = without_same screen key
+
+-- a tile is sent
+pub sent_same : {C B S : Type 0} (rules : Rules C B) (d : Document S) (version : ℕ) (key : Place) (current : Bool) (seat : Seat) → is_current rules d version key ≡ current → IsSeated rules d.base d.journal d.applied seat → sent rules d version key (view_of seat) ≡ view_of (record seat { view = viewing.sent key version current seat.view })
+sent_same {C} {B} {S} rules d version key current seat is s =
+    let v : Viewing = seat.view in
+    let with_it : Bool → List Place → View = λ now vs.
+    let asked = asked_after v.asked key now in
+    record (view_of seat) {
+      asked = asked;
+      screen = screen_after (map shown_of v.screen) key version (is_among vs key || is_among asked key);
+      window = v.window ++ record { wid = v.next_wid; key = key } ∷ [];
+      next_wid = v.next_wid + 1;
+    } in
+    let first : sent rules d version key (view_of seat) ≡ with_it current (visible rules d (view_of seat)) = ap (λ b. with_it b (visible rules d (view_of seat))) is in
+    let second : with_it current (visible rules d (view_of seat)) ≡ with_it current v.visible = ap (λ (vs : List Place). with_it current vs) (sym s.seen) in
+    first ∙ second
+    ∙ ap (λ es. record (with_it current v.visible) { screen = es }) (screen_same v.screen key version (not current) (is_among v.visible key || is_among (asked_after v.asked key current) key))
+
+any_same : {X : Type 0} (p q : X → Bool) → ((x : X) → p x ≡ q x) → (xs : List X) → list_any p xs ≡ list_any q xs
+any_same p q same [] = refl
+any_same p q same (x ∷ xs) = ap (λ b. b || list_any p xs) (same x) ∙ ap (λ b. q x || b) (any_same p q same xs)
+
+-- nothing is left to do for a view
+pub still_same : {C B S : Type 0} (rules : Rules C B) (d : Document S) (seat : Seat) → IsSeated rules d.base d.journal d.applied seat → is_still rules d (view_of seat) ≡ serving.is_still seat.view
+still_same rules d seat s =
+    let v : Viewing = seat.view in
+    ap (λ (vs : List Place). nat_eq (length v.window) 0 && (not (list_any (is_due rules d (view_of seat)) vs) && nat_eq (length v.asked) 0)) (sym s.seen)
+    ∙ ap (λ b. nat_eq (length v.window) 0 && (not b && nat_eq (length v.asked) 0)) (any_same (is_due rules d (view_of seat)) (viewing.is_due v) (λ key. due_same rules d seat key s) v.visible)
+
+pub stills_same : {C B S : Type 0} (rules : Rules C B) (d : Document S) (seats : List Seat) → AllByRecursion (IsSeated rules d.base d.journal d.applied) seats → list_all (is_still rules d) (views_of seats) ≡ list_all (λ (seat : Seat). serving.is_still seat.view) seats
+stills_same rules d [] all = refl
+stills_same rules d (seat ∷ seats) all =
+    ap (λ b. b && list_all (is_still rules d) (views_of seats)) (still_same rules d seat all.0)
+    ∙ ap (λ b. serving.is_still seat.view && b) (stills_same rules d seats all.1)

@@ -1,0 +1,75 @@
+//! `Broker`: turns, painted jobs, and what is left to do.
+ghost use Rattle.std.specs.Prelude.{◌≡◌, [], length, map, false, None, IsSome, IfOk, OnErr};
+ghost use Rattle.std.specs.Option.{ForSome, option_map_or};
+ghost use Rattle.document_machine.specs.Event.{Painted};
+ghost use Rattle.document_machine.specs.Next.{none_kept, IsFirst};
+ghost use Rattle.document_machine.specs.Quiet.{is_quiet};
+ghost use Rattle.document_machine.specs.State.{find_view};
+ghost use Rattle.document_machine.specs.Step.{Goes};
+ghost use Rattle.broker_core.specs.Serving.{GoesTo};
+
+use crate::broker::Broker;
+use cool_base::{Memory, ViewId, Wids};
+use document_machine::{Outs, Turned};
+use kit_trait::{Done, Kit};
+use std::alloc::Global;
+
+impl<K: Kit> Broker<K> {
+    /// One turn: the next input is applied, or else a job is cut for the first key, in order of views and
+    /// then of keys, that a view with room is due. Idle exactly where there is nothing to do.
+    pub fn turn(&mut self, alloc: Global) -> Result<Turned<K::Scene>, Memory>
+        requires { ForSome self.old (λ d. d.jobs ≡ []) }
+        ensures turn { IfOk result (λ turned. GoesTo K.rules K.Scene.paints self.old turned self.new) }
+        ensures first { IfOk result (λ turned. ForSome self.old (λ d. d.applied ≡ length d.journal → IsFirst K.rules none_kept d turned)) }
+        ensures spent { OnErr result (self.new ≡ None) }
+    {
+        let Some(core) = self.core.take() else {
+            return Err(Memory);
+        };
+        let (core, turned) = core.turn(alloc)?;
+        self.core = Some(core);
+        Ok(turned)
+    }
+
+    /// A painted job comes back. Where its ticket is out and its scene is the one kept for it, the job goes
+    /// and each view, in order of ids, gets the tile if it is due and has room; else nothing changes.
+    pub fn painted(
+        &mut self,
+        alloc: Global,
+        done: &Done<K::Scene>,
+    ) -> Result<Outs<K::Scene>, Memory>
+        ensures step { IfOk result (λ outs. Goes K.rules K.Scene.paints self.old (Painted done.now.ticket.0 done.now.scene) outs self.new) }
+        ensures spent { OnErr result (self.new ≡ None) }
+    {
+        let Some(core) = self.core.take() else {
+            return Err(Memory);
+        };
+        let (core, outs) = core.painted(alloc, done)?;
+        self.core = Some(core);
+        Ok(outs)
+    }
+
+    /// Whether a turn would be Idle, no job is out and every window is empty; false where the broker is
+    /// spent.
+    pub fn is_quiet(&self) -> bool
+        ensures { result ≡ option_map_or (is_quiet K.rules) self.now false }
+    {
+        match &self.core {
+            Some(core) => core.is_quiet(),
+            None => false,
+        }
+    }
+
+    /// The numbers of the tiles that the view has not acknowledged, in the order sent; none where the
+    /// broker is spent.
+    pub fn unprocessed(&self, view: ViewId) -> Wids
+        requires { ForSome self.now (λ d. IsSome (find_view d.views view.0)) }
+        ensures wids { ForSome self.now (λ d. ForSome (find_view d.views view.0) (λ v. map (λ wid. wid.0) result.items ≡ map (λ tile. tile.wid) v.window)) }
+        ensures spent { self.now ≡ None → result.items ≡ [] }
+    {
+        match &self.core {
+            Some(core) => core.unprocessed(view.0),
+            None => Wids::new(),
+        }
+    }
+}

@@ -1,0 +1,139 @@
+//! `Broker`: the calls of a document, each a step of the document machine.
+ghost use Rattle.std.specs.Prelude.{◌≡◌, ℕ, ◌<◌, ◌≤◌, length, true, false, None, Some, Err, IsSome, IfOk, OnOk, OnErr};
+ghost use Rattle.std.specs.Option.{ForSome, is_some, option_map_or};
+ghost use Rattle.document_machine.specs.Event.{Joined, Left, Said};
+ghost use Rattle.document_machine.specs.Kept.{IsKept};
+ghost use Rattle.document_machine.specs.Outputs.{nothing};
+ghost use Rattle.document_machine.specs.State.{opening, find_view};
+ghost use Rattle.document_machine.specs.Step.{Goes};
+
+use crate::core_of::{Core, frames_only};
+use crate::faults::JoinFault;
+use bytes::Bytes;
+use cool_base::{FileId, Memory, ViewId};
+use document_machine::{Outs, Rights};
+use kit_trait::{Kit, LoadFault};
+use std::alloc::Global;
+use std::marker::Model;
+
+/// A document. After `Memory` from one of its calls it is spent, and seen as `None`: each further call
+/// that can answers `Memory`, and the others change nothing.
+#[derive(Drop)]
+pub struct Broker<K: Kit> {
+    pub(crate) core: Option<Core<K>>,
+}
+
+impl<K: Kit> Model for Broker<K> {
+    ghost use Rattle.std.specs.Prelude.{Option};
+    ghost use Rattle.document_machine.specs.State.{Document};
+
+    ghost Value = { Option (Document K.Scene) };
+
+    ghost view = { λ b. b.core };
+}
+
+impl<K: Kit> Broker<K> {
+    /// The document of this file, without inputs and views. BadFile exactly where the kit says so.
+    pub fn start(alloc: Global, file: &FileId, base: Bytes) -> Result<Broker<K>, LoadFault>
+        ensures accepted { OnOk result (K.rules.accepts base ≡ true) }
+        ensures ok { IfOk result (λ broker. broker ≡ Some (opening file.now base)) }
+        ensures bad { result ≡ Err LoadFault.BadFile → K.rules.accepts base ≡ false }
+    {
+        let core = Core::open(alloc, file, base)?;
+        Ok(Broker { core: Some(core) })
+    }
+
+    /// What holds of every document that is not spent.
+    pub fn kept(&self)
+        ensures { ForSome self.now (IsKept K.rules) }
+    {
+        if let Some(core) = &self.core {
+            core.kept();
+        }
+    }
+
+    /// A view joins, with the next id, and gets its status. ViewsFull exactly where 64 views are there,
+    /// and then nothing changed; after `Memory` the broker is spent.
+    pub fn join(
+        &mut self,
+        alloc: Global,
+        rights: Rights,
+    ) -> Result<(ViewId, Outs<K::Scene>), JoinFault>
+        ensures step { IfOk result (λ r. Goes K.rules K.Scene.paints self.old (Joined rights) r.1 self.new) }
+        ensures view { IfOk result (λ r. ForSome self.old (λ d. (r.0.0 ≡ d.next_view) × (length d.views < 64))) }
+        ensures full { result ≡ Err JoinFault.ViewsFull → ForSome self.old (λ d. 64 ≤ length d.views) × IsSome self.old × (self.new ≡ self.old) }
+        ensures spent { result ≡ Err JoinFault.Memory → self.new ≡ None }
+    {
+        let Some(core) = self.core.take() else {
+            return Err(JoinFault::Memory);
+        };
+        if core.views() >= 64 {
+            self.core = Some(core);
+            return Err(JoinFault::ViewsFull);
+        }
+        let (core, view, outs) = core.join(alloc, rights)?;
+        self.core = Some(core);
+        Ok((view, outs))
+    }
+
+    /// The view leaves, with its window, its asked keys and its screen. Where the broker is spent nothing
+    /// changes.
+    pub fn leave(&mut self, view: ViewId)
+        requires { ForSome self.old (λ d. IsSome (find_view d.views view.0)) }
+        ensures step { ForSome self.old (λ d. Goes K.rules K.Scene.paints self.old (Left view.0) nothing self.new) }
+        ensures spent { self.old ≡ None → self.new ≡ None }
+    {
+        if let Some(core) = self.core.take() {
+            self.core = Some(core.leave(view.0));
+        }
+    }
+
+    /// The view says a text: its one effect, and the frame of a greeting or of a refusal.
+    pub fn message(
+        &mut self,
+        alloc: Global,
+        view: ViewId,
+        text: &[u8],
+    ) -> Result<Outs<K::Scene>, Memory>
+        requires { ForSome self.old (λ d. IsSome (find_view d.views view.0)) }
+        ensures step { IfOk result (λ outs. Goes K.rules K.Scene.paints self.old (Said view.0 text.now) outs self.new) }
+        ensures spent { OnErr result (self.new ≡ None) }
+    {
+        let Some(core) = self.core.take() else {
+            return Err(Memory);
+        };
+        let (core, frames) = core.message(alloc, view.0, text)?;
+        self.core = Some(core);
+        Ok(frames_only(alloc, frames))
+    }
+
+    /// Whether the document has this view; false where the broker is spent.
+    pub fn is_live(&self, view: ViewId) -> bool
+        ensures { result ≡ option_map_or (λ d. is_some (find_view d.views view.0)) self.now false }
+    {
+        match &self.core {
+            Some(core) => core.is_live(view.0),
+            None => false,
+        }
+    }
+
+    /// How many inputs are applied; 0 where the broker is spent.
+    pub fn applied(&self) -> u64
+        ensures { result ≡ option_map_or (λ d. d.applied) self.now 0 }
+    {
+        match &self.core {
+            Some(core) => core.applied(),
+            None => 0,
+        }
+    }
+
+    /// How many inputs are accepted; 0 where the broker is spent.
+    pub fn accepted(&self) -> u64
+        ensures { result ≡ option_map_or (λ d. length d.journal) self.now 0 }
+    {
+        match &self.core {
+            Some(core) => core.accepted(),
+            None => 0,
+        }
+    }
+}

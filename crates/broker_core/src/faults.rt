@@ -1,0 +1,25 @@
+//! `JoinFault`.
+use cool_base::Memory;
+use thiserror::Error;
+
+/// Why a view did not join.
+#[derive(Clone, Copy, Debug, PartialEq, Eq, Error)]
+pub enum JoinFault {
+    /// The document has 64 views.
+    #[error("the document has 64 views")]
+    ViewsFull,
+    /// No memory was left.
+    #[error("out of memory")]
+    Memory,
+}
+
+impl From<Memory> for JoinFault {
+    ghost use Rattle.std.specs.Prelude.{◌≡◌};
+    ghost use Rattle.broker_core.specs.declared.faults.JoinFault.TheVariants.{Memory as NoMemory};
+
+    ghost from_gives = { λ _ fault. fault ≡ NoMemory };
+
+    fn from(_error: Memory) -> JoinFault {
+        JoinFault::Memory
+    }
+}

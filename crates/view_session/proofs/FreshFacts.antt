@@ -1,0 +1,74 @@
+-- Slots of keys that are seen, with nothing on the screen, and a view as it joins.
+use Rattle.std.proofs.Common.{◌≡◌, ℕ, ◌≤◌, ◌||◌, Bool, true, false, List, [], ◌∷◌, length, map, refl, ap, sym, ◌∙◌, arith}
+use Rattle.std.specs.List.{AllByRecursion}
+use Rattle.cool_base.specs.Points.{Extent}
+use Rattle.tile_key.specs.Places.{Place, Scale}
+use Rattle.tile_key.specs.Visible.{IsBefore, visible_keys, is_too_large}
+use Rattle.document_machine.specs.Keys.{Pairwise}
+use Rattle.document_machine.specs.State.{Sent, first_zoom, no_area}
+use Rattle.document_machine.specs.declared.rights.Rights.{Rights}
+use Rattle.view_session.specs.Viewing.{Viewing, opening}
+use Rattle.view_session.specs.Slots.{keys_in, seen_in, screen_in, IsSlotted}
+use Rattle.view_session.specs.Moves.{seen_slot}
+use Rattle.view_session.specs.Held.{IsHeld}
+use Rattle.view_session.specs.declared.slots.Slot.{Slot}
+use Rattle.view_session.proofs.FindFacts.{Comes}
+use Rattle.view_session.proofs.HeldFacts.{whole}
+
+pub seen_fresh : (keys : List Place) → seen_in (map seen_slot keys) ≡ keys
+seen_fresh [] = refl
+seen_fresh (key ∷ keys) = ap (λ ks. key ∷ ks) (seen_fresh keys)
+
+pub screen_fresh : (keys : List Place) → screen_in (map seen_slot keys) ≡ []
+screen_fresh [] = refl
+screen_fresh (key ∷ keys) = screen_fresh keys
+
+all_fresh : (P : Place → Type 0) (keys : List Place) → AllByRecursion P keys → AllByRecursion (λ slot. P slot.key) (map seen_slot keys)
+all_fresh P [] a = tt
+all_fresh P (key ∷ keys) a = (a.0, all_fresh P keys a.1)
+
+order_fresh : (keys : List Place) → Pairwise IsBefore keys → Pairwise Comes (map seen_slot keys)
+order_fresh [] p = tt
+order_fresh (key ∷ keys) p = (all_fresh (IsBefore key) keys p.0, order_fresh keys p.1)
+
+needed_fresh : (keys : List Place) → AllByRecursion (λ slot. (slot.visible || slot.asked) ≡ true) (map seen_slot keys)
+needed_fresh [] = tt
+needed_fresh (key ∷ keys) = (refl, needed_fresh keys)
+
+marks_fresh : (keys : List Place) → AllByRecursion (λ slot. slot.asked ≡ false) (map seen_slot keys)
+marks_fresh [] = tt
+marks_fresh (key ∷ keys) = (refl, marks_fresh keys)
+
+pub slotted_fresh : (keys : List Place) → Pairwise IsBefore keys → IsSlotted (map seen_slot keys) []
+slotted_fresh keys p = record { order = order_fresh keys p; needed = needed_fresh keys; marks = marks_fresh keys; held = tt }
+
+-- no view is too large whose keys were listed
+pub not_large : (b : Bool) → (b ≡ true → ⊥) → b ≡ false
+not_large true f = absurd (f refl)
+not_large false f = refl
+
+pub held_fresh : (zoom : Scale) (slots : List Slot) (keys asked : List Place) (window : List Sent) → slots ≡ map seen_slot keys → Pairwise IsBefore keys → is_too_large zoom (length keys) ≡ false → asked ≡ [] → window ≡ [] → IsHeld zoom slots asked window 1
+held_fresh zoom slots keys asked window s p small a w =
+    rw (s, a, w) (record {
+      slotted = slotted_fresh keys p;
+      seen = rw (seen_fresh keys) small;
+      asked_keys = tt;
+      asked_once = tt;
+      asked_few = omega arith;
+      wids = tt;
+      wids_below = tt;
+    })
+
+pub whole_opening : (rights : Rights) (zoom : Scale) (size : Extent) (slots : List Slot) (keys asked : List Place) (window : List Sent) → zoom ≡ first_zoom → keys ≡ visible_keys 0 zoom no_area size → slots ≡ map seen_slot keys → asked ≡ [] → window ≡ [] → whole rights 0 zoom no_area slots asked window 1 ≡ opening rights size
+whole_opening rights zoom size slots keys asked window z k s a w =
+    λ i. record {
+      rights = rights;
+      part = 0;
+      zoom = z i;
+      area = no_area;
+      visible = (ap seen_in s ∙ seen_fresh keys ∙ k ∙ ap (λ (x : Scale). visible_keys 0 x no_area size) z) i;
+      asked = a i;
+      screen = (ap screen_in s ∙ screen_fresh keys) i;
+      window = w i;
+      next_wid = 1;
+    }

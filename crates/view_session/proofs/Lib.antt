@@ -1,0 +1,12 @@
+pub mod OrderFacts
+pub mod ListFacts
+pub mod FindFacts
+pub mod SlotFacts
+pub mod DueFacts
+pub mod KeysFacts
+pub mod HeldFacts
+pub mod FreshFacts
+pub mod ShowFacts
+pub mod AskFacts
+pub mod CancelFacts
+pub mod SeeFacts
