@@ -9,6 +9,7 @@ use Rattle.std.specs.Option.{is_some}
 use Rattle.std.specs.Ordering.{nat_cmp, is_eq}
 use Rattle.std.specs.declared.cmp.Ordering.{Ordering}
 use Rattle.std.specs.declared.cmp.Ordering.TheVariants.{Less, Equal, Greater}
+use Rattle.std.proofs.lemmas.Bool.Decides.{nat_tests}
 use Rattle.std.proofs.lemmas.Map.Keys.{sorted_head, sorted_tail}
 use Rattle.cool_message.specs.Reading.{reading}
 use Rattle.cool_message.specs.Writing.{written}
@@ -25,14 +26,20 @@ use Rattle.document_machine.specs.Step.{Rests}
 use Rattle.kit_trait.specs.Rules.{Rules}
 use Rattle.kit_trait.specs.declared.values.Pixels.{Pixels}
 use Rattle.script_world.specs.House.{House, seated, seated_at, SaysAs, TakesOne, PollTurn, wids_of, window_in, acknowledges, acknowledgements_by, acknowledgements, ids_of, IsSeated, IsHousedBy, IsHoused}
-use Rattle.script_world.specs.Moved.{TurnWritten, IsAcknowledgement, AllAcknowledge, AreSmall, left_of}
+use Rattle.script_world.specs.Moved.{Came, TurnWritten, IsAcknowledgement, AllAcknowledge, AreSmall, left_of}
 use Rattle.script_world.specs.Seats.{Seats, view_of, link_in}
-use Rattle.script_world.specs.World.{RestsNow, IsAtRest}
+use Rattle.script_run.proofs.Moves.{adds_nothing}
+use Rattle.script_world.specs.World.{Seen, Acknowledge, Moves, RestsNow, IsAtRest}
 use Rattle.script_world.specs.declared.event.Waiting.{Waiting}
 use Rattle.script_world.specs.declared.event.Waiting.TheVariants.{Says}
+use Rattle.script_world.proofs.Chains.{came_one, came_joined}
 use Rattle.script_world.proofs.Housed.{Keeps, first_housed}
 use Rattle.script_world.proofs.Ids.{HasLink, same_number}
 use Rattle.script_world.proofs.Steps.{document_left}
+
+pub each_small : (xs : List ℕ) → ((k : ℕ) → get_or xs k 0 < 2 ^ 64) → AllByRecursion (λ (n : ℕ). n < 2 ^ 64) xs
+each_small [] all = tt
+each_small (x ∷ xs) all = (all 0, each_small xs (λ k. all (suc k)))
 
 some_window : (view : View) (wid : ℕ) (wids : List ℕ) → map (λ (tile : Sent). tile.wid) view.window ≡ wid ∷ wids → view.window ≢ []
 some_window view wid wids is none =
@@ -78,10 +85,17 @@ pub record IsFirst {S : Type 0} (document : Option (Document S)) (views : List (
   pub among : (P : ℕ → Type 0) → AllByRecursion P (map (λ (e : ℕ × ℕ). e.0) views) → P link
 
 same_order : (n : ℕ) → nat_cmp n n ≡ Equal
-same_order n = ?
+same_order n = grind (arith, nat_tests)
+
+not_less : (n m : ℕ) → nat_lt n m ≡ true → is_eq (nat_cmp m n) ≡ false
+not_less n m less = grind (arith, nat_tests)
+
+less_back : (n m : ℕ) (b : Bool) → nat_lt n m ≡ b → nat_cmp n m ≡ Less → is_eq (nat_cmp m n) ≡ false
+less_back n m true is less = not_less n m is
+less_back n m false is less = grind (arith, nat_tests)
 
 after_less : (n m : ℕ) → nat_cmp n m ≡ Less → is_eq (nat_cmp m n) ≡ false
-after_less n m less = ?
+after_less n m less = less_back n m (nat_lt n m) refl less
 
 first_at : (link id : ℕ) (views : List (ℕ × ℕ)) → lookup (is_at (nat_cmp link)) ((link, id) ∷ views) ≡ Some id
 first_at link id views = subst (λ (o : Ordering). cond (is_eq o) (Some id) (lookup (is_at (nat_cmp link)) views) ≡ Some id) (sym (same_order link)) refl
@@ -230,3 +244,15 @@ at_rest rules seats None right housed rests none = tt
 at_rest rules seats (Some d) right housed rests none =
     let quiet : IsQuiet rules d = record { rests = rests; no_job = housed.none_out; empty = empty_each d seats.views d.views none housed.linked (found_each d.views housed.whole.kept.ids) } in
     (quiet, right d quiet housed)
+
+-- the pass that found acknowledgements: turns up to the last that works, then they wait
+pub acks_came : {C B S : Type 0} (rules : Rules C B) (paints : S → Pixels) (start : Seen S) (still : House S) (waiting : List Waiting) (a b c : Option (List ℕ)) (was : House S)
+    → Came (Moves rules paints) start (record { waiting = []; house = was }) a b → Came (Moves rules paints) (record { waiting = []; house = was }) (record { waiting = []; house = still }) b c
+    → RestsNow rules still.document → waiting ≡ acknowledgements still → 0 < length waiting
+    → Came (Moves rules paints) start (record { waiting = waiting; house = still }) a c
+acks_came {C} {B} {S} rules paints start still waiting a b c was first works rests are some =
+    let s : Seen S = record { waiting = []; house = still } in
+    let t : Seen S = record { waiting = waiting; house = still } in
+    came_joined (Moves rules paints) start s t a c c (came_joined (Moves rules paints) start (record { waiting = []; house = was }) s a b c first works)
+    (came_one (Moves rules paints) Acknowledge s [] t c c
+    ((refl, rests), subst (λ (w : List Waiting). 0 < length w) are some, refl, ap (λ (w : List Waiting). record { waiting = w; house = still }) are) (adds_nothing c))

@@ -88,6 +88,10 @@ pub on_ok : {T E : Type 0} (r : Result T E) (P Q : T → Type 0) → ((x : T) �
 on_ok (Ok x) P Q leads holds = leads x holds
 on_ok (Err e) P Q leads holds = tt
 
+pub on_err : {T E : Type 0} (r : Result T E) (P Q : E → Type 0) → ((x : E) → P x → Q x) → IfErr r P → IfErr r Q
+on_err (Ok x) P Q leads holds = tt
+on_err (Err e) P Q leads holds = leads e holds
+
 -- what a call answers that hands on another's fault
 pub handed_on : {T : Type 0} (result : Result T Stop) (stop : Stop) (P : Stop → Type 0) → IsErrAnd result (λ e. e ≡ stop) → P stop → IfErr result P
 handed_on result stop P is holds =

@@ -15,6 +15,12 @@ use kit_trait::Kit;
 use std::alloc::Global;
 use std::collections::VecDeque;
 
+/// A number of 64 bits is below 2^64.
+fn are_small(wids: &[u64])
+    ensures { AllByRecursion (λ n. n < 2 ^ 64) wids.now }
+{
+}
+
 /// The numbers of the tiles that the view has not acknowledged, in order.
 fn window_to<K: Kit>(alloc: Global, broker: &Broker<K>, view: u32) -> Result<Vec<u64>, Memory>
     ensures window { IfOk result (λ wids. wids.items ≡ window_in broker.now view) }
@@ -24,7 +30,9 @@ fn window_to<K: Kit>(alloc: Global, broker: &Broker<K>, view: u32) -> Result<Vec
         return Ok(Vec::new(alloc));
     }
     let wids = broker.unprocessed(ViewId(view));
-    Ok(wids.as_slice().iter().map(|wid| wid.0).collect(alloc)?)
+    let found: Vec<u64> = wids.as_slice().iter().map(|wid| wid.0).collect(alloc)?;
+    are_small(&found);
+    Ok(found)
 }
 
 /// The same where there may be no document.

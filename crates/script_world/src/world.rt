@@ -1,6 +1,6 @@
 //! The world of a script.
-ghost use Rattle.std.specs.Prelude.{◌≡◌, IfOk};
-ghost use Rattle.script_world.specs.World.{key_text};
+ghost use Rattle.std.specs.Prelude.{◌≡◌, ◌++◌, codes, IfOk, OnOk};
+ghost use Rattle.script_world.specs.World.{key_text, typed_events};
 
 use crate::event::Waiting;
 use crate::moves::{all_events, turns_up_to};
@@ -63,13 +63,11 @@ impl<K: Kit> World<K> {
         ensures ok { OnOk result (self.new ≡ record self.old { waiting = self.old.waiting ++ opening_events link file writes }) }
         ensures err { OnErr result (self.new ≡ self.old) }
     {
-        let greeting = Vec::from_slice(alloc, b"coolclient 0.1")?;
+        let greeting = greeting(alloc)?;
         self.waiting.reserve(3)?;
         self.waiting.push_back_reserved(Waiting::Opened(link));
-        self.waiting
-            .push_back_reserved(Waiting::Says(link, ListOf::of(greeting)));
-        self.waiting
-            .push_back_reserved(Waiting::Loads(link, file, writes));
+        self.waiting.push_back_reserved(Waiting::Says(link, greeting));
+        self.waiting.push_back_reserved(Waiting::Loads(link, file, writes));
         Ok(())
     }
 
@@ -86,11 +84,7 @@ impl<K: Kit> World<K> {
     pub fn type_all(&mut self, alloc: Global, link: u32, typed: &[char]) -> Result<(), Memory>
         ensures { OnOk result (self.new ≡ record self.old { waiting = self.old.waiting ++ typed_events link typed.now }) }
     {
-        for character in typed {
-            let text = key_text(alloc, *character)?;
-            self.waiting.push_back(Waiting::Says(link, text))?;
-        }
-        Ok(())
+        type_into(alloc, link, typed, &mut self.waiting)
     }
 
     /// The link is gone. After `Memory` the world is unchanged.
@@ -128,6 +122,30 @@ impl<K: Kit> World<K> {
         self.broker = comes_to_rest(alloc, broker, &mut self.seats, &mut self.waiting, sink)?;
         Ok(())
     }
+}
+
+// What a link says first.
+fn greeting(alloc: Global) -> Result<ListOf<u8>, Memory>
+    ensures { IfOk result (λ text. text ≡ codes "coolclient 0.1") }
+{
+    let text = String::from_str(alloc, "coolclient 0.1")?;
+    Ok(ListOf::of(Vec::from_slice(alloc, text.as_bytes())?))
+}
+
+// The messages of keys come to wait.
+fn type_into(
+    alloc: Global,
+    link: u32,
+    typed: &[char],
+    waiting: &mut VecDeque<Waiting>,
+) -> Result<(), Memory>
+    ensures { OnOk result (waiting.new.items ≡ waiting.old.items ++ typed_events link typed.now) }
+{
+    for character in typed {
+        let text = key_text(alloc, *character)?;
+        waiting.push_back(Waiting::Says(link, text))?;
+    }
+    Ok(())
 }
 
 // The message of a key for a character.
