@@ -6,3 +6,4 @@ pub mod Chains
 pub mod Housed
 pub mod Steps
 pub mod Rest
+pub mod Worlds
