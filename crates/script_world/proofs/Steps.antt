@@ -1,5 +1,5 @@
 -- Poll turns as moves, with what they wrote, and what they leave to do.
-use Rattle.std.proofs.Common.{◌≡◌, ◌∙◌, ◌⊎◌, ℕ, zero, suc, ◌+◌, ◌<◌, ◌≤◌, Bool, true, false, cond, ◌||◌, List, [], ◌∷◌, ◌++◌, length, length-append, length-drop, drop, nat_lt, inl, inr, refl, ap, sym, subst, arith, Option, None, Some}
+use Rattle.std.proofs.Common.{◌≡◌, ◌∙◌, ◌⊎◌, ℕ, zero, suc, ◌+◌, ◌<◌, ◌≤◌, Bool, true, false, cond, ◌||◌, List, [], ◌∷◌, ◌++◌, length, length-append, length-drop, drop, nat_eq, nat_lt, inl, inr, refl, ap, sym, subst, arith, Option, None, Some}
 use Rattle.std.specs.Prelude.{Result, Ok, Err, IfOk, IfErr}
 use Rattle.std.specs.List.{AllByRecursion}
 use Rattle.std.specs.Result.{IsErrAnd}
@@ -76,6 +76,20 @@ none_left (x ∷ xs) lacks = absurd (lacks (omega arith))
 pub falls_busy : (busy : Bool) (n m : ℕ) → busy ≡ true → n ≤ m → n < m + cond busy 1 0
 falls_busy true n m is le = omega (arith, le)
 falls_busy false n m is le = absurd (cc)
+
+-- what a test for nothing tells
+none_is : (n : ℕ) → nat_eq n 0 ≡ true → n ≡ 0
+none_is n is = grind arith
+
+some_is : (n : ℕ) → nat_eq n 0 ≡ false → 0 < n
+some_is zero is = absurd (cc)
+some_is (suc n) is = omega arith
+
+pub is_none : (n : ℕ) (b : Bool) → b ≡ nat_eq n 0 → b ≡ true → n ≡ 0
+is_none n b is told = none_is n (sym is ∙ told)
+
+pub not_none : (n : ℕ) (b : Bool) → b ≡ nat_eq n 0 → b ≡ false → 0 < n
+not_none n b is told = some_is n (sym is ∙ told)
 
 -- a list that is its own tail is empty
 pub own_tail : {X : Type 0} (xs ys : List X) → xs ≡ ys → ys ≡ drop 1 xs → xs ≡ []
