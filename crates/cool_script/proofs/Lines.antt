@@ -1,14 +1,11 @@
 -- A line that the grammar lets act, done or stopped, as an answer to it.
-use Rattle.std.proofs.Common.{◌≡◌, ◌⊎◌, ℕ, List, Option, Some, inl, inr, refl, sym, subst}
-use Rattle.document_machine.specs.declared.rights.Rights.{Rights}
+use Rattle.std.proofs.Common.{◌≡◌, ◌⊎◌, ℕ, List, Option, None, Some, inl, inr, refl, sym, subst}
 use Rattle.kit_trait.specs.Rules.{Rules}
 use Rattle.kit_trait.specs.declared.values.Pixels.{Pixels}
 use Rattle.outside.specs.Streams.{Adds}
-use Rattle.script_lines.specs.Grammar.{verdict}
-use Rattle.script_lines.specs.declared.grammar.Place.{Place}
-use Rattle.script_lines.specs.declared.grammar.ScriptLine.{ScriptLine}
-use Rattle.script_lines.specs.declared.grammar.Verdict.{Verdict}
-use Rattle.script_lines.specs.declared.grammar.Verdict.TheVariants.{Acts, Refused}
+use Rattle.script_lines.specs.Grammar.{Verdict, Acts, Refused, verdict}
+use Rattle.script_lines.specs.Places.{Place}
+use Rattle.script_lines.specs.declared.saying.ScriptLine.{ScriptLine}
 use Rattle.script_lines.specs.declared.output.Stop.{Stop}
 use Rattle.script_lines.specs.declared.output.Stop.TheVariants.{Sink, Memory as NoMemory}
 use Rattle.script_lines.specs.Records.{fault_text}
@@ -16,77 +13,93 @@ use Rattle.script_run.specs.Play.{Makes, Stopped, Answers, Refuses}
 use Rattle.script_run.specs.declared.status.Status.{Status}
 use Rattle.script_run.specs.declared.status.Status.TheVariants.{Done, WrongWords, FaultLine, ReadFault, WriteFault, Memory, NoEnd}
 use Rattle.script_world.specs.World.{Seen}
-use Rattle.cool_script.specs.Script.{Standing, Does, Doing, DoesBy, DoingBy, Acting, UnderWay, Halted}
+use Rattle.cool_script.specs.Script.{Standing, Does, Doing, DoesBy, DoingBy, Acting, UnderWay, Halted, Obeys}
 
 -- what was made in one sense was made in the other
 made_too : (stop : Stop) (A B : List ℕ → Type 0) (before now : Option (List ℕ)) → ((out : List ℕ) → A out → B out) → Stopped stop A before now → Stopped stop B before now
 made_too stop A B before now leads s = record { made = s.made; part = s.part; is_made = leads s.made s.is_made; cut = s.cut; added = s.added }
 
 -- a line that did what it says acts
-pub acts : {C B S : Type 0} (rules : Rules C B) (paints : S → Pixels) (rights : Rights) (s t : Standing S) (line out : List ℕ) (said : ScriptLine) (place : Place)
-    → verdict s.place line ≡ Acts said place → Does rules paints rights said s.world out t.world → t.place ≡ place
-    → Acting rules paints rights s line out t
+pub acts : {C B S : Type 0} (rules : Rules C B) (paints : S → Pixels) (s t : Standing S) (line out : List ℕ) (said : ScriptLine) (place : Place)
+    → verdict s.place line ≡ Acts said place → Does rules paints said s.world out t.world → t.place ≡ place
+    → Acting rules paints s line out t
 unfolding Acting
-acts rules paints rights s t line out said place e does stands =
-    subst (λ (v : Verdict). DoesBy rules paints rights v s.world out t) (sym e) (does, stands)
+acts rules paints s t line out said place e does stands =
+    subst (λ (v : Verdict). DoesBy rules paints v s.world out t) (sym e) (does, stands)
 
 -- a line that is being done is under way
-under_way : {C B S : Type 0} (rules : Rules C B) (paints : S → Pixels) (rights : Rights) (s : Standing S) (line out : List ℕ) (said : ScriptLine) (place : Place)
-    → verdict s.place line ≡ Acts said place → Doing rules paints rights said s.world out
-    → UnderWay rules paints rights s line out
+under_way : {C B S : Type 0} (rules : Rules C B) (paints : S → Pixels) (s : Standing S) (line out : List ℕ) (said : ScriptLine) (place : Place)
+    → verdict s.place line ≡ Acts said place → Doing rules paints said s.world out
+    → UnderWay rules paints s line out
 unfolding UnderWay
-under_way rules paints rights s line out said place e doing =
-    subst (λ (v : Verdict). DoingBy rules paints rights v s.world out) (sym e) doing
+under_way rules paints s line out said place e doing =
+    subst (λ (v : Verdict). DoingBy rules paints v s.world out) (sym e) doing
 
 -- a line that was stopped was stopped under way
-pub stopped : {C B S : Type 0} (rules : Rules C B) (paints : S → Pixels) (rights : Rights) (stop : Stop) (s : Standing S) (line : List ℕ) (number : ℕ) (said : ScriptLine) (place : Place) (before now : Option (List ℕ))
-    → verdict s.place line ≡ Acts said place → Stopped stop (Doing rules paints rights said s.world) before now
-    → Stopped stop (Makes (λ (x : Standing S). x.place) (UnderWay rules paints rights) s line number) before now
-stopped rules paints rights stop s line number said place before now e halted =
-    made_too stop (Doing rules paints rights said s.world) _ before now (λ out doing. inl (under_way rules paints rights s line out said place e doing)) halted
+pub stopped : {C B S : Type 0} (rules : Rules C B) (paints : S → Pixels) (stop : Stop) (s : Standing S) (line : List ℕ) (number : ℕ) (said : ScriptLine) (place : Place) (before now : Option (List ℕ))
+    → verdict s.place line ≡ Acts said place → Stopped stop (Doing rules paints said s.world) before now
+    → Stopped stop (Makes (λ (x : Standing S). x.place) (UnderWay rules paints) s line number) before now
+stopped rules paints stop s line number said place before now e halted =
+    made_too stop (Doing rules paints said s.world) _ before now (λ out doing. inl (under_way rules paints s line out said place e doing)) halted
 
 -- what a line is judged where a script stands
 pub judged_at : {S : Type 0} (place : Place) (world : Seen S) (s : Standing S) (line : List ℕ) (v : Verdict) → record { place = place; world = world } ≡ s → verdict place line ≡ v → verdict s.place line ≡ v
 judged_at {S} place world s line v same e = subst (λ (x : Standing S). verdict x.place line ≡ v) same e
 
 -- the world of a line that acts, as it was done
-pub done : {C B S : Type 0} (rules : Rules C B) (paints : S → Pixels) (rights : Rights) (here : Place) (world new : Seen S) (s : Standing S) (line : List ℕ) (said : ScriptLine) (place : Place) (before now : Option (List ℕ))
+pub done : {C B S : Type 0} (rules : Rules C B) (paints : S → Pixels) (here : Place) (world new : Seen S) (s : Standing S) (line : List ℕ) (said : ScriptLine) (place : Place) (before now : Option (List ℕ))
     → record { place = here; world = world } ≡ s → verdict s.place line ≡ Acts said place
-    → ((out : List ℕ) × Does rules paints rights said world out new × Adds before out now)
-    → (out : List ℕ) × Acting rules paints rights s line out (record { place = place; world = new }) × Adds before out now
-done {C} {B} {S} rules paints rights here world new s line said place before now same e d =
-    (d.0, acts rules paints rights s (record { place = place; world = new }) line d.0 said place e (subst (λ (x : Standing S). Does rules paints rights said x.world d.0 new) same d.1) refl, d.2)
+    → ((out : List ℕ) × Does rules paints said world out new × Adds before out now)
+    → (out : List ℕ) × Acting rules paints s line out (record { place = place; world = new }) × Adds before out now
+done {C} {B} {S} rules paints here world new s line said place before now same e d =
+    (d.0, acts rules paints s (record { place = place; world = new }) line d.0 said place e (subst (λ (x : Standing S). Does rules paints said x.world d.0 new) same d.1) refl, d.2)
 
 -- a line that the sink stopped
-pub cut_off : {C B S : Type 0} (rules : Rules C B) (paints : S → Pixels) (rights : Rights) (here : Place) (world : Seen S) (s : Standing S) (line : List ℕ) (number : ℕ) (said : ScriptLine) (place : Place) (before now : Option (List ℕ))
-    → record { place = here; world = world } ≡ s → verdict s.place line ≡ Acts said place → Halted Sink (Doing rules paints rights said world) before now
-    → Stopped Sink (Makes (λ (x : Standing S). x.place) (UnderWay rules paints rights) s line number) before now
-cut_off {C} {B} {S} rules paints rights here world s line number said place before now same e halted =
-    stopped rules paints rights Sink s line number said place before now e (subst (λ (x : Standing S). Stopped Sink (Doing rules paints rights said x.world) before now) same halted)
+pub cut_off : {C B S : Type 0} (rules : Rules C B) (paints : S → Pixels) (here : Place) (world : Seen S) (s : Standing S) (line : List ℕ) (number : ℕ) (said : ScriptLine) (place : Place) (before now : Option (List ℕ))
+    → record { place = here; world = world } ≡ s → verdict s.place line ≡ Acts said place → Halted Sink (Doing rules paints said world) before now
+    → Stopped Sink (Makes (λ (x : Standing S). x.place) (UnderWay rules paints) s line number) before now
+cut_off {C} {B} {S} rules paints here world s line number said place before now same e halted =
+    stopped rules paints Sink s line number said place before now e (subst (λ (x : Standing S). Stopped Sink (Doing rules paints said x.world) before now) same halted)
 
 -- a line that memory stopped, by what the script holds
-wanting : {C B S : Type 0} (rules : Rules C B) (paints : S → Pixels) (rights : Rights) (s : Standing S) (line : List ℕ) (number : ℕ) (said : ScriptLine) (place : Place) (before now : Option (List ℕ))
-    → verdict s.place line ≡ Acts said place → Halted NoMemory (Doing rules paints rights said s.world) before now
-    → (now ≡ before) ⊎ Stopped NoMemory (Makes (λ (x : Standing S). x.place) (UnderWay rules paints rights) s line number) before now
-wanting rules paints rights s line number said place before now e (inl same) = inl same
-wanting rules paints rights s line number said place before now e (inr halted) = inr (stopped rules paints rights NoMemory s line number said place before now e halted)
+wanting : {C B S : Type 0} (rules : Rules C B) (paints : S → Pixels) (s : Standing S) (line : List ℕ) (number : ℕ) (said : ScriptLine) (place : Place) (before now : Option (List ℕ))
+    → verdict s.place line ≡ Acts said place → Halted NoMemory (Doing rules paints said s.world) before now
+    → (now ≡ before) ⊎ Stopped NoMemory (Makes (λ (x : Standing S). x.place) (UnderWay rules paints) s line number) before now
+wanting rules paints s line number said place before now e (inl same) = inl same
+wanting rules paints s line number said place before now e (inr halted) = inr (stopped rules paints NoMemory s line number said place before now e halted)
 
 -- a line that memory stopped
-pub wanting_at : {C B S : Type 0} (rules : Rules C B) (paints : S → Pixels) (rights : Rights) (here : Place) (world : Seen S) (s : Standing S) (line : List ℕ) (number : ℕ) (said : ScriptLine) (place : Place) (before now : Option (List ℕ))
-    → record { place = here; world = world } ≡ s → verdict s.place line ≡ Acts said place → Halted NoMemory (Doing rules paints rights said world) before now
-    → (now ≡ before) ⊎ Stopped NoMemory (Makes (λ (x : Standing S). x.place) (UnderWay rules paints rights) s line number) before now
-wanting_at {C} {B} {S} rules paints rights here world s line number said place before now same e halted =
-    wanting rules paints rights s line number said place before now e (subst (λ (x : Standing S). Halted NoMemory (Doing rules paints rights said x.world) before now) same halted)
+pub wanting_at : {C B S : Type 0} (rules : Rules C B) (paints : S → Pixels) (here : Place) (world : Seen S) (s : Standing S) (line : List ℕ) (number : ℕ) (said : ScriptLine) (place : Place) (before now : Option (List ℕ))
+    → record { place = here; world = world } ≡ s → verdict s.place line ≡ Acts said place → Halted NoMemory (Doing rules paints said world) before now
+    → (now ≡ before) ⊎ Stopped NoMemory (Makes (λ (x : Standing S). x.place) (UnderWay rules paints) s line number) before now
+wanting_at {C} {B} {S} rules paints here world s line number said place before now same e halted =
+    wanting rules paints s line number said place before now e (subst (λ (x : Standing S). Halted NoMemory (Doing rules paints said x.world) before now) same halted)
 
 -- a refused line is answered by what the attempt to name it was
-pub refused : {C B S : Type 0} (rules : Rules C B) (paints : S → Pixels) (rights : Rights) (status : Status) (s t : Standing S) (line : List ℕ) (number : ℕ) (before now : Option (List ℕ))
+pub refused : {C B S : Type 0} (rules : Rules C B) (paints : S → Pixels) (status : Status) (s t : Standing S) (line : List ℕ) (number : ℕ) (before now : Option (List ℕ))
     → verdict s.place line ≡ Refused → Refuses status number before now
-    → Answers (λ (x : Standing S). x.place) (Acting rules paints rights) (UnderWay rules paints rights) (Some status) s line number t before now
-refused rules paints rights Done s t line number before now e r = absurd r
-refused rules paints rights WrongWords s t line number before now e r = r
-refused rules paints rights FaultLine s t line number before now e r = (e, r)
-refused rules paints rights ReadFault s t line number before now e r = r
-refused rules paints rights WriteFault s t line number before now e r =
+    → Answers (λ (x : Standing S). x.place) (Acting rules paints) (UnderWay rules paints) (Some status) s line number t before now
+refused rules paints Done s t line number before now e r = absurd r
+refused rules paints WrongWords s t line number before now e r = r
+refused rules paints FaultLine s t line number before now e r = (e, r)
+refused rules paints ReadFault s t line number before now e r = r
+refused rules paints WriteFault s t line number before now e r =
     made_too Sink (λ (out : List ℕ). out ≡ fault_text number) _ before now (λ out is. inr (e, is)) r
-refused rules paints rights Memory s t line number before now e r = inl r
-refused rules paints rights NoEnd s t line number before now e r = r
+refused rules paints Memory s t line number before now e r = inl r
+refused rules paints NoEnd s t line number before now e r = r
+
+-- a line that acts, as an answer to it
+pub obeyed : {C B S : Type 0} (rules : Rules C B) (paints : S → Pixels) (here next : Place) (world new : Seen S) (s : Standing S) (line : List ℕ) (number : ℕ) (said : ScriptLine) (status : Option Status) (before now : Option (List ℕ))
+    → record { place = here; world = world } ≡ s → verdict here line ≡ Acts said next → Obeys rules paints said status world new before now
+    → Answers (λ (x : Standing S). x.place) (Acting rules paints) (UnderWay rules paints) status s line number (record { place = next; world = new }) before now
+obeyed rules paints here next world new s line number said None before now same v obeys =
+    done rules paints here world new s line said next before now same (judged_at here world s line (Acts said next) same v) obeys
+obeyed rules paints here next world new s line number said (Some Done) before now same v obeys = absurd obeys
+obeyed rules paints here next world new s line number said (Some WrongWords) before now same v obeys = absurd obeys
+obeyed rules paints here next world new s line number said (Some FaultLine) before now same v obeys = absurd obeys
+obeyed rules paints here next world new s line number said (Some ReadFault) before now same v obeys = absurd obeys
+obeyed rules paints here next world new s line number said (Some WriteFault) before now same v obeys =
+    cut_off rules paints here world s line number said next before now same (judged_at here world s line (Acts said next) same v) obeys
+obeyed rules paints here next world new s line number said (Some Memory) before now same v obeys =
+    wanting_at rules paints here world s line number said next before now same (judged_at here world s line (Acts said next) same v) obeys
+obeyed rules paints here next world new s line number said (Some NoEnd) before now same v obeys = absurd obeys

@@ -5,7 +5,6 @@ use Rattle.kit_trait.specs.PatchSeen.{scene_picture}
 use Rattle.script_run.specs.Outcome.{Outcome}
 use Rattle.script_run.specs.declared.status.Status.{Status}
 use Rattle.script_run.specs.declared.status.Status.TheVariants.{Done, WrongWords, FaultLine, ReadFault, WriteFault, Memory, NoEnd}
-use Rattle.script_world.specs.World.{writer}
 use Rattle.cool_script.specs.Script.{first, Acting, UnderWay}
 
 -- the words of the command line are `replay patch`
@@ -16,7 +15,7 @@ PlaysPatch words = words ≡ codes "replay" ∷ codes "patch" ∷ []
 -- bytes and counts of faults before and after, and ended with this status.
 abbrev pub Plays : (source_then source_now sink_then sink_now : Option (List ℕ)) (reads reads_now writes writes_now : ℕ) → Status → Type 0
 Plays source_then source_now sink_then sink_now reads reads_now writes writes_now status =
-    Outcome (λ s. s.place) (Acting patch_rules scene_picture writer) (UnderWay patch_rules scene_picture writer) first source_then source_now sink_then sink_now reads reads_now writes writes_now status
+    Outcome (λ s. s.place) (Acting patch_rules scene_picture) (UnderWay patch_rules scene_picture) first source_then source_now sink_then sink_now reads reads_now writes writes_now status
 
 -- the exit status
 abbrev pub code_of : Status → ℕ

@@ -1,13 +1,12 @@
 //! `Script`: the world with the place in the grammar, played line by line.
-ghost use Rattle.std.specs.Prelude.{◌≡◌, ℕ, List, Err, OnOk, IfErr};
+ghost use Rattle.std.specs.Prelude.{◌≡◌, ℕ, List, Some, Err, OnOk, IfErr};
 ghost use Rattle.outside.specs.Causes.{HasCause};
 ghost use Rattle.outside.specs.Streams.{Adds};
-ghost use Rattle.script_world.specs.World.{writer};
-ghost use Rattle.cool_script.specs.Script.{Does, Doing, Halted};
+ghost use Rattle.cool_script.specs.Script.{Does, Doing, Halted, Obeys};
 
 use kit_trait::{Kit, PatchKit};
 use outside::Sink;
-use script_lines::{Place, ScriptLine, Stop, Verdict, judge};
+use script_lines::{Judged, Place, ScriptLine, Stop};
 use script_run::{Play, Status, refuse};
 use script_world::World;
 use std::alloc::Global;
@@ -29,9 +28,7 @@ impl<K: Kit> Model for Script<K> {
 }
 
 impl<K: Kit> Script<K> {
-    ghost use Rattle.std.specs.Prelude.{◌≡◌, ℕ, List};
-    ghost use Rattle.script_lines.specs.Grammar.{verdict};
-    ghost use Rattle.script_lines.specs.declared.grammar.Verdict.TheVariants.{Acts};
+    ghost use Rattle.std.specs.Prelude.{◌≡◌, Some};
     ghost use Rattle.script_run.specs.Play.{Answers};
     ghost use Rattle.cool_script.specs.Script.{first, Acting, UnderWay};
 
@@ -40,11 +37,7 @@ impl<K: Kit> Script<K> {
         ensures { result ≡ first }
     {
         Script {
-            place: Place {
-                opened: false,
-                said: 0,
-                asked: 0,
-            },
+            place: Place::start(alloc),
             world: World::new(alloc),
         }
     }
@@ -58,38 +51,34 @@ impl<K: Kit> Script<K> {
         line: &[u8],
         number: u64,
     ) -> Option<Status>
-        ensures answers { Answers (λ s. s.place) (Acting K.rules K.Scene.paints writer) (UnderWay K.rules K.Scene.paints writer) result self.old line.now number self.new (T.written sink.old) (T.written sink.new) }
+        ensures answers { Answers (λ s. s.place) (Acting K.rules K.Scene.paints) (UnderWay K.rules K.Scene.paints) result self.old line.now number self.new (T.written sink.old) (T.written sink.new) }
         ensures cause { HasCause (T.faults sink.old) (T.faults sink.new) (result ≡ Some Status.WriteFault) }
     {
-        let Ok(judged) = judge(alloc, self.place, line) else {
+        let Ok(judged) = self.place.judge(alloc, line) else {
             return Some(Status::Memory);
         };
         match judged {
-            Verdict::Acts(said, place) => self.obey(alloc, sink, said, place),
-            Verdict::Ends => Some(Status::Done),
-            Verdict::Refused => Some(refuse(alloc, sink, number)),
+            Judged::Acts(said) => obey(&mut self.world, alloc, sink, said),
+            Judged::Ends => Some(Status::Done),
+            Judged::Refused => Some(refuse(alloc, sink, number)),
         }
     }
+}
 
-    // Does what the line says, and stands behind it.
-    fn obey<T: Sink>(
-        &mut self,
-        alloc: Global,
-        sink: &mut T,
-        said: ScriptLine,
-        place: Place,
-    ) -> Option<Status>
-        ensures answers { (line : List ℕ) (number : ℕ) → verdict self.old.place line ≡ Acts said place
-            → Answers (λ s. s.place) (Acting K.rules K.Scene.paints writer) (UnderWay K.rules K.Scene.paints writer) result self.old line number self.new (T.written sink.old) (T.written sink.new) }
-        ensures cause { HasCause (T.faults sink.old) (T.faults sink.new) (result ≡ Some Status.WriteFault) }
-    {
-        match act(&mut self.world, alloc, sink, said) {
-            Ok(()) => {}
-            Err(Stop::Sink) => return Some(Status::WriteFault),
-            Err(Stop::Memory) => return Some(Status::Memory),
-        }
-        self.place = place;
-        None
+// Lets the world do what the line says: None where it is done, else the status that it decides.
+fn obey<K: Kit, T: Sink>(
+    world: &mut World<K>,
+    alloc: Global,
+    sink: &mut T,
+    said: ScriptLine,
+) -> Option<Status>
+    ensures obeys { Obeys K.rules K.Scene.paints said result world.old world.new (T.written sink.old) (T.written sink.new) }
+    ensures cause { HasCause (T.faults sink.old) (T.faults sink.new) (result ≡ Some Status.WriteFault) }
+{
+    match act(world, alloc, sink, said) {
+        Ok(()) => None,
+        Err(Stop::Sink) => Some(Status::WriteFault),
+        Err(Stop::Memory) => Some(Status::Memory),
     }
 }
 
@@ -100,13 +89,16 @@ fn act<K: Kit, T: Sink>(
     sink: &mut T,
     said: ScriptLine,
 ) -> Result<(), Stop>
-    ensures ok { OnOk result ((out : List ℕ) × Does K.rules K.Scene.paints writer said world.old out world.new × Adds (T.written sink.old) out (T.written sink.new)) }
-    ensures halted { IfErr result (λ stop. Halted stop (Doing K.rules K.Scene.paints writer said world.old) (T.written sink.old) (T.written sink.new)) }
+    ensures ok { OnOk result ((out : List ℕ) × Does K.rules K.Scene.paints said world.old out world.new × Adds (T.written sink.old) out (T.written sink.new)) }
+    ensures halted { IfErr result (λ stop. Halted stop (Doing K.rules K.Scene.paints said world.old) (T.written sink.old) (T.written sink.new)) }
     ensures cause { HasCause (T.faults sink.old) (T.faults sink.new) (result ≡ Err Stop.Sink) }
 {
     match said {
-        ScriptLine::Open(file) => Ok(world.open(file)?),
-        ScriptLine::Say(message) => Ok(world.say(message)?),
+        ScriptLine::Open(link, file, writes) => Ok(world.open(alloc, link, file, writes)?),
+        ScriptLine::Say(link, message) => Ok(world.say(link, message)?),
+        ScriptLine::Keys(link, typed) => Ok(world.type_all(alloc, link, typed.get())?),
+        ScriptLine::Leave(link) => Ok(world.leave(link)?),
+        ScriptLine::Turn(count) => world.turn(alloc, sink, count),
         ScriptLine::Settle => world.settle(alloc, sink),
         ScriptLine::Blank => Ok(()),
         ScriptLine::End => Ok(()),
@@ -117,8 +109,7 @@ impl Play for Script<PatchKit> {
     ghost use Rattle.kit_trait.specs.Patch.{patch_rules};
     ghost use Rattle.kit_trait.specs.PatchSeen.{scene_picture};
     ghost use Rattle.kit_trait.specs.declared.patch_scene.PatchScene.{PatchScene};
-    ghost use Rattle.script_world.specs.World.{writer};
-    ghost use Rattle.cool_script.specs.Script.{Standing, Acting, UnderWay};
+        ghost use Rattle.cool_script.specs.Script.{Standing, Acting, UnderWay};
     ghost use Rattle.cool_script.specs.Follows.{acting_follows};
 
     ghost State = { Standing PatchScene };
@@ -127,9 +118,9 @@ impl Play for Script<PatchKit> {
 
     ghost place = { λ s. s.place };
 
-    ghost step = { Acting patch_rules scene_picture writer };
+    ghost step = { Acting patch_rules scene_picture };
 
-    ghost under = { UnderWay patch_rules scene_picture writer };
+    ghost under = { UnderWay patch_rules scene_picture };
 
     fn answer<T: Sink>(
         &mut self,
@@ -141,5 +132,5 @@ impl Play for Script<PatchKit> {
         self.take_line(alloc, sink, line, number)
     }
 
-    ghost follows = { acting_follows patch_rules scene_picture writer };
+    ghost follows = { acting_follows patch_rules scene_picture };
 }

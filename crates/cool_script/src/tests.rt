@@ -90,69 +90,198 @@ fn refused_messages(rt: HostRuntime) -> Result<(), Fail> {
     assert_eq!(rt; status, 0);
     assert!(rt; bytes.as_slice() == wanted.as_slice());
     let script =
-        "open 1 d rw\nsay 1 tile part=0 width=8 height=8 tileposx=7 tileposy=0 tilewidth=240 tileheight=240\nsettle\nend\n";
+        "open 1 d ro\nsay 1 key type=input char=65 key=0\nsay 1 load url=x\nsay 1 useractive\nsettle\nend\n";
     let (status, bytes) = played(&rt, script, 10_000)?;
-    let wanted = format!(in rt.alloc(); "{OPENING}1 28\nerror: cmd=tile kind=badtile\n")?;
+    let wanted =
+        "1 51\ncoolserver {\"Version\":\"profile-1\",\"Protocol\":\"0.1\"}\n1 79\nstatus: type=patch parts=1 current=0 width=3840 height=3840 viewid=0 readonly=1\n1 28\nerror: cmd=key kind=readonly\n1 34\nerror: cmd=load kind=alreadyloaded\n1 37\nerror: cmd=useractive kind=badmessage\n";
     assert_eq!(rt; status, 0);
     assert!(rt; bytes.as_slice() == wanted.as_bytes());
     Ok(())
 }
 
-// A `tilecombine` of so many positions in one row.
-fn combine(alloc: Global, count: u32) -> Result<String, Fail> {
-    let mut xs = String::from_str(alloc, "0")?;
-    let mut ys = String::from_str(alloc, "0")?;
-    for _ in 1..count {
-        xs.push_str(",240")?;
-        ys.push_str(",0")?;
+// How often the text stands in the bytes.
+fn count_of(bytes: &[u8], text: &str) -> usize {
+    let mut count = 0usize;
+    for i in 0..bytes.len() {
+        if bytes[i..].starts_with(text.as_bytes()) && count < bytes.len() {
+            count += 1;
+        }
     }
-    Ok(format!(in alloc;
-        "say 1 tilecombine part=0 width=1 height=1 tileposx={xs} tileposy={ys} tilewidth=240 tileheight=240\n"
-    )?)
+    count
 }
 
-const MESSAGES: &str =
-    "# what a view may say\n\nopen 1 d rw\nsay 1 coolclient 0.1\nsay 1 load url=x\nsay 1 key char=65 key=0 type=input\n#settle\nsay 1 key type=up char=66 key=0\n";
+const Z: &str = "clientzoom tilepixelwidth=8 tilepixelheight=8 tiletwipwidth=240 tiletwipheight=240";
 
-const ANSWERS: &str =
-    "1 51\ncoolserver {\"Version\":\"profile-1\",\"Protocol\":\"0.1\"}\n1 34\nerror: cmd=load kind=alreadyloaded\n1 52\ninvalidatetiles: part=0 x=0 y=0 width=240 height=240\n1 97\ntile: part=0 width=1 height=1 tileposx=0 tileposy=0 tilewidth=240 tileheight=240 ver=1 wid=1\n";
+// Scripts by what stands in their transcripts, and how often.
+fn counted(rt: &HostRuntime, script: &str, wanted: &[(&str, usize)]) -> Result<(), Fail> {
+    let (status, bytes) = played(rt, script, 4_000_000)?;
+    assert_eq!(rt; status, 0, "{script}");
+    for (text, count) in wanted {
+        let found = count_of(&bytes, *text);
+        assert_eq!(rt; found, *count, "{text} in {script}");
+    }
+    Ok(())
+}
 
-const REFUSALS: &str =
-    "1 44\nerror: cmd=clientvisiblearea kind=badmessage\n1 30\nerror: cmd=uno kind=badmessage\n1 35\nerror: cmd=tilecombine kind=badtile\n";
-
-// Two tiles are asked for and one is sent before they are cancelled, so the line that asks for 63 more is
-// refused, and one that asks for 62 more is not.
 #[test]
-fn what_a_view_may_say(rt: HostRuntime) -> Result<(), Fail> {
+fn a_window_holds_tiles_back(rt: HostRuntime) -> Result<(), Fail> {
     let alloc = rt.alloc();
-    let two = combine(alloc, 2)?;
-    let said = format!(in alloc; "{MESSAGES}{two}say 1 canceltiles\nsettle\n")?;
-    let later =
-        "say 1 clientvisiblearea x=0 y=0 width=240 height=240\nsay 1 uno .uno:Save\nsay 1 tilecombine part=0 width=1 height=1 tileposx=0,7 tileposy=0,0 tilewidth=240 tileheight=240\nsettle\n";
+    let script = format!(in alloc;
+        "open 1 d rw\nsay 1 {Z}\nsay 1 clientvisiblearea x=0 y=0 width=3120 height=1200\nturn 0 200\nsay 1 tileprocessed wids=1\nturn 0 3\nend\n"
+    )?;
+    counted(
+        &rt,
+        &script,
+        &[
+            ("\ntile: ", 65),
+            ("tileposx=0 tileposy=960 tilewidth=240 tileheight=240 ver=0 wid=53\n", 1),
+            ("tileposx=2880 tileposy=960 tilewidth=240 tileheight=240 ver=0 wid=65\n", 1),
+        ],
+    )?;
+    let script = format!(in alloc;
+        "open 1 d rw\nsay 1 {Z}\nsay 1 clientvisiblearea x=0 y=0 width=3360 height=1200\nturn 0 200\nsay 1 tileprocessed wids=99,1,1\nturn 0 9\nend\n"
+    )?;
+    counted(
+        &rt,
+        &script,
+        &[
+            ("\ntile: ", 65),
+            ("tileposx=1920 tileposy=960 tilewidth=240 tileheight=240 ver=0 wid=65\n", 1),
+        ],
+    )?;
+    let mut wids = String::from_str(alloc, "1")?;
+    for wid in 2..22u32 {
+        let more = format!(in alloc; ",{wid}")?;
+        wids.push_str(&more)?;
+    }
+    let script = format!(in alloc;
+        "open 1 d rw\nsay 1 {Z}\nsay 1 clientvisiblearea x=0 y=0 width=3120 height=1200\nturn 0 200\nsay 1 clientzoom tilepixelwidth=8 tilepixelheight=8 tiletwipwidth=480 tiletwipheight=480\nturn 0 5\nsay 1 tileprocessed wids={wids}\nturn 0 60\nend\n"
+    )?;
+    counted(
+        &rt,
+        &script,
+        &[
+            ("\ntile: ", 85),
+            ("tilewidth=480 tileheight=480 ver=0 wid=65\n", 1),
+            ("tilewidth=480 tileheight=480", 21),
+            ("wid=85\n", 1),
+        ],
+    )
+}
+
+#[test]
+fn too_small_a_zoom(rt: HostRuntime) -> Result<(), Fail> {
+    counted(
+        &rt,
+        "open 1 d rw\nsay 1 tile part=0 width=8 height=8 tileposx=7 tileposy=0 tilewidth=240 tileheight=240\nsay 1 clientvisiblearea x=0 y=0 width=3840 height=3840\nsay 1 clientzoom tilepixelwidth=1 tilepixelheight=1 tiletwipwidth=15 tiletwipheight=15\nturn 0 9\nend\n",
+        &[
+            ("1 28\nerror: cmd=tile kind=badtile\n", 1),
+            ("\ntile: part=0 width=256 height=256 tileposx=0 tileposy=0 tilewidth=3840 tileheight=3840 ver=0 wid=1\n", 1),
+            ("\ntile: ", 1),
+            ("error: cmd=clientzoom kind=toolarge\n", 1),
+        ],
+    )
+}
+
+// The record of a tile at the origin.
+fn square(
+    rt: &HostRuntime,
+    link: u8,
+    side: u32,
+    version: u8,
+    wid: u8,
+    greys: u32,
+) -> Result<Vec<u8>, Fail> {
+    let head = format!(in rt.alloc();
+        "{link} 349\ntile: part=0 width=8 height=8 tileposx=0 tileposy=0 tilewidth={side} tileheight={side} ver={version} wid={wid}\n"
+    )?;
+    let mut bytes = Vec::from_slice(rt.alloc(), head.as_bytes())?;
+    for j in 0..8u32 {
+        for i in 0..8u32 {
+            let grey = if i < greys && j < greys { 1 } else { 0 };
+            bytes.extend_from_slice(&[grey, grey, grey, 255])?;
+        }
+    }
+    bytes.extend_from_slice(b"\n")?;
+    Ok(bytes)
+}
+
+#[test]
+fn two_views_with_zooms_of_their_own(rt: HostRuntime) -> Result<(), Fail> {
+    let alloc = rt.alloc();
+    let script = format!(in alloc;
+        "open 1 d rw\nopen 2 d rw\nsay 1 {Z}\nsay 1 clientvisiblearea x=0 y=0 width=240 height=240\nsay 2 clientzoom tilepixelwidth=8 tilepixelheight=8 tiletwipwidth=480 tiletwipheight=480\nsay 2 clientvisiblearea x=0 y=0 width=480 height=480\nsettle\n{CLICK}settle\nend\n"
+    )?;
+    let (status, bytes) = played(&rt, &script, 10_000)?;
+    let second =
+        "2 51\ncoolserver {\"Version\":\"profile-1\",\"Protocol\":\"0.1\"}\n2 79\nstatus: type=patch parts=1 current=0 width=3840 height=3840 viewid=1 readonly=0\n";
     let mut wanted = Vec::from_slice(alloc, OPENING.as_bytes())?;
-    wanted.extend_from_slice(ANSWERS.as_bytes())?;
-    wanted.extend_from_slice(&[65, 65, 65, 255, b'\n'])?;
-    wanted.extend_from_slice(REFUSALS.as_bytes())?;
-    let many = combine(alloc, 62)?;
-    let script = format!(in alloc; "{said}{later}{many}# end\nend\n")?;
-    let (status, bytes) = played(&rt, script.as_str(), 10_000)?;
+    wanted.extend_from_slice(second.as_bytes())?;
+    wanted.extend_from_slice(&square(&rt, 1, 240, 0, 1, 0)?)?;
+    wanted.extend_from_slice(&square(&rt, 2, 480, 0, 1, 0)?)?;
+    wanted.extend_from_slice(b"1 52\ninvalidatetiles: part=0 x=0 y=0 width=240 height=240\n")?;
+    wanted.extend_from_slice(b"2 52\ninvalidatetiles: part=0 x=0 y=0 width=240 height=240\n")?;
+    wanted.extend_from_slice(&square(&rt, 1, 240, 1, 2, 8)?)?;
+    wanted.extend_from_slice(&square(&rt, 2, 480, 1, 2, 4)?)?;
     assert_eq!(rt; status, 0);
-    assert!(rt; bytes.as_slice() == wanted.as_slice());
-    let many = combine(alloc, 63)?;
-    let script = format!(in alloc; "{said}{later}{many}end\n")?;
-    let (status, bytes) = played(&rt, script.as_str(), 10_000)?;
-    wanted.extend_from_slice(b"fault line 16\n")?;
-    assert_eq!(rt; status, 3);
     assert!(rt; bytes.as_slice() == wanted.as_slice());
     Ok(())
 }
 
 #[test]
-fn how_scripts_end(rt: HostRuntime) -> Result<(), Fail> {
-    let mut many = String::from_str(rt.alloc(), "open 1 d rw\n")?;
-    for _ in 0..65 {
-        many.push_str("say 1 canceltiles\n")?;
+fn links_come_and_go(rt: HostRuntime) -> Result<(), Fail> {
+    let alloc = rt.alloc();
+    let mut script = String::new(alloc);
+    for link in 1..66u32 {
+        let line = format!(in alloc; "open {link} d rw\n")?;
+        script.push_str(&line)?;
     }
+    script.push_str("say 65 canceltiles\nsay 65 load url=x\nsay 65 coolclient 0.1\nsay 65 hop\nsettle\ndrop 1\nopen 66 d ro\nsettle\nturn 0 100000\nend\n")?;
+    counted(
+        &rt,
+        &script,
+        &[
+            ("65 32\nerror: cmd=load kind=viewsfull\n65 39\nerror: cmd=canceltiles kind=notloaded\n65 31\nerror: cmd=load kind=badmessage\n65 51\ncoolserver", 1),
+            ("65 30\nerror: cmd=hop kind=badmessage\n", 1),
+            ("66 80\nstatus: type=patch parts=1 current=0 width=3840 height=3840 viewid=64 readonly=1\n", 1),
+            ("kind=", 4),
+            ("\nstatus: ", 65),
+        ],
+    )?;
+    counted(
+        &rt,
+        "open 1 d rw\nsettle\ntype 1 ab\ndrop 1\nsettle\nopen 2 d rw\nsettle\nend\n",
+        &[
+            ("1 52\ninvalidatetiles", 2),
+            ("2 79\nstatus: type=patch parts=1 current=0 width=3840 height=3840 viewid=1 readonly=0\n", 1),
+            ("kind=", 0),
+        ],
+    )
+}
+
+#[test]
+fn three_views_settle(rt: HostRuntime) -> Result<(), Fail> {
+    let alloc = rt.alloc();
+    let script = format!(in alloc;
+        "open 3 d rw\nopen 1 d rw\nopen 2 d ro\nsay 1 {Z}\nsay 1 clientvisiblearea x=0 y=0 width=3840 height=3840\nsay 2 clientzoom tilepixelwidth=8 tilepixelheight=8 tiletwipwidth=480 tiletwipheight=480\nsay 2 clientvisiblearea x=0 y=0 width=3840 height=3840\nsay 3 clientvisiblearea x=0 y=0 width=1 height=1\nsettle\nsay 3 mouse type=buttondown x=3839 y=3839\nsettle\nend\n"
+    )?;
+    counted(
+        &rt,
+        &script,
+        &[
+            ("tilewidth=240 tileheight=240 ver=0", 256),
+            ("tilewidth=480 tileheight=480 ver=0", 64),
+            ("tilewidth=3840 tileheight=3840 ver=0", 1),
+            ("tileposx=3600 tileposy=3600 tilewidth=240 tileheight=240 ver=1 wid=257\n", 1),
+            ("tileposx=3360 tileposy=3360 tilewidth=480 tileheight=480 ver=1 wid=65\n", 1),
+            ("tilewidth=3840 tileheight=3840 ver=1 wid=2\n", 1),
+            ("ver=1", 3),
+        ],
+    )
+}
+
+#[test]
+fn how_scripts_end(rt: HostRuntime) -> Result<(), Fail> {
     let table = [
         ("", 7, ""),
         ("hop\n", 3, "fault line 1\n"),
@@ -166,7 +295,12 @@ fn how_scripts_end(rt: HostRuntime) -> Result<(), Fail> {
         ("\n# end\nend\n", 0, ""),
         (" \nend\n", 3, "fault line 1\n"),
         ("settle\nsay 1 x\n", 3, "fault line 2\n"),
-        (many.as_str(), 3, "fault line 66\n"),
+        ("open 1 d rw\nopen 1 d rw\n", 3, "fault line 2\n"),
+        ("open 1 d rw\nopen 2 e rw\n", 3, "fault line 2\n"),
+        ("open 1 d rw\ndrop 1\nsay 1 x\n", 3, "fault line 3\n"),
+        ("turn 1 1\n", 3, "fault line 1\n"),
+        ("turn 0 0\n", 3, "fault line 1\n"),
+        ("turn 0 7\nend\n", 0, ""),
     ];
     for (script, status, text) in table {
         let (ended, bytes) = played(&rt, script, 10_000)?;

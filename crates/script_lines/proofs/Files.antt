@@ -1,8 +1,8 @@
--- A file id is text.
+-- A file id is text, and which bytes are text.
 use Rattle.std.proofs.Common.{◌≡◌, ℕ, zero, suc, ◌<◌, ◌&&◌, if◌then◌else◌, List, [], ◌∷◌, length, get_or, Bool, true, false, Option, None, Some, refl, sym, ap, arith}
 use Rattle.std.specs.List.{list_all}
-use Rattle.std.specs.Str.{IsUtf8, IsAscii}
-use Rattle.std.proofs.lemmas.Str.{IsUtf8-from_ascii}
+use Rattle.std.specs.Str.{IsUtf8, IsAscii, is_utf8}
+use Rattle.std.proofs.lemmas.Str.{IsUtf8-from_ascii, IsUtf8-from_is_utf8}
 use Rattle.std.proofs.lemmas.Grind.{common_steps}
 use Rattle.cool_base.specs.Words.{is_file_character, is_file_id, file_id}
 
@@ -28,3 +28,10 @@ not_text_at text false is not = ap (λ (b : Bool). (if b then Some text else Non
 
 pub not_text : (text : List ℕ) → (IsUtf8 text → ⊥) → None ≡ file_id text
 not_text text not = not_text_at text (is_file_id text) refl not
+
+pub no_text : (text : List ℕ) → (IsUtf8 text → ⊥) → false ≡ is_utf8 text
+no_text text h =
+    elim (is_utf8 text) as (λ b. is_utf8 text ≡ b → false ≡ b) [
+      | true ↦ λ e. absurd (h (IsUtf8-from_is_utf8 text e))
+      | false ↦ λ _. refl
+    ] refl

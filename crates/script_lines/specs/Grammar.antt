@@ -1,54 +1,103 @@
 -- The grammar of script lines: what a line says, and where a script may say it.
-use Rattle.std.specs.Prelude.{ℕ, ◌==◌, ◌&&◌, ◌||◌, ◌+◌, Bool, true, false, List, [], ◌∷◌, length, codes, Option, None, Some, Result, Ok, Err, if◌then◌else◌, nat_lt, nat_le}
-use Rattle.std.specs.Str.{bytes_eq}
-use Rattle.asked_keys.specs.Asked.{keys_of}
+use Rattle.std.specs.Prelude.{ℕ, ◌==◌, ◌&&◌, ◌||◌, Bool, true, false, not, List, [], ◌∷◌, length, codes, is_some, Option, None, Some, if◌then◌else◌}
+use Rattle.std.specs.BTreeMap.{is_at}
+use Rattle.std.specs.BTreeSet.{insert_key}
+use Rattle.std.specs.List.{list_any}
+use Rattle.std.specs.Ordering.{nat_cmp}
+use Rattle.std.specs.Str.{bytes_eq, is_utf8, chars}
 use Rattle.cool_base.specs.Numbers.{number}
 use Rattle.cool_base.specs.Words.{is_file_id}
-use Rattle.cool_message.specs.Reading.{reading}
-use Rattle.cool_message.specs.declared.fault.MessageFault.{MessageFault}
-use Rattle.cool_message.specs.declared.message.ClientMessage.{ClientMessage}
 use Rattle.cool_words.specs.Words.{cut_at}
-use Rattle.tile_key.specs.Places.{Place as KeyPlace}
-use Rattle.script_lines.specs.declared.grammar.ScriptLine.{ScriptLine}
-use Rattle.script_lines.specs.declared.grammar.ScriptLine.TheVariants.{Open, Say, Settle, Blank, End}
-use Rattle.script_lines.specs.declared.grammar.Place.{Place}
-use Rattle.script_lines.specs.declared.grammar.Verdict.{Verdict}
-use Rattle.script_lines.specs.declared.grammar.Verdict.TheVariants.{Acts, Ends, Refused}
+use Rattle.script_lines.specs.Places.{Place}
+use Rattle.script_lines.specs.declared.saying.ScriptLine.{ScriptLine}
+use Rattle.script_lines.specs.declared.saying.ScriptLine.TheVariants.{Open, Say, Keys, Leave, Turn, Settle, Blank, End}
 
 -- the word before the first blank, and all that stands behind that blank
 abbrev pub split_word : List ℕ → Option (List ℕ × List ℕ)
 split_word text = cut_at 32 text
 
--- whether a number is there and is 1
-abbrev pub is_one : Option ℕ → Bool
-is_one None = false
-is_one (Some n) = n == 1
+-- a number that isn't 0
+abbrev pub not_zero : Option ℕ → Option ℕ
+not_zero None = None
+not_zero (Some n) = if n == 0 then None else Some n
 
--- whether the word is decimal digits whose value is 1, the one link of a script
-abbrev pub names_link : List ℕ → Bool
-names_link word = is_one (number 70000 1 word)
+-- decimal digits, any count that a line holds, with a value of 1 to the limit
+abbrev pub counted : ℕ → List ℕ → Option ℕ
+counted limit word = not_zero (number 70000 limit word)
 
--- `<file> rw`
-abbrev pub file_part : Option (List ℕ × List ℕ) → Option ScriptLine
-file_part None = None
-file_part (Some split) = if bytes_eq split.1 (codes "rw") then (if is_file_id split.0 then Some (Open split.0) else None) else None
+-- a link: 1 to 65,535
+abbrev pub link_of : List ℕ → Option ℕ
+link_of word = counted 65535 word
 
--- what stands behind `open`: the link, the file and the right to write
-abbrev pub open_part : Option (List ℕ × List ℕ) → Option ScriptLine
+-- a link, one blank, and all that stands behind it
+abbrev pub with_rest : Option ℕ → List ℕ → Option (ℕ × List ℕ)
+with_rest None rest = None
+with_rest (Some link) rest = Some (link, rest)
+
+abbrev pub linked_by : Option (List ℕ × List ℕ) → Option (ℕ × List ℕ)
+linked_by None = None
+linked_by (Some split) = with_rest (link_of split.0) split.1
+
+abbrev pub linked : List ℕ → Option (ℕ × List ℕ)
+linked text = linked_by (split_word text)
+
+-- `rw` lets the link write, `ro` doesn't
+abbrev pub rights_of : List ℕ → Option Bool
+rights_of word = if bytes_eq word (codes "rw") then Some true else (if bytes_eq word (codes "ro") then Some false else None)
+
+-- `<file> <rights>`
+abbrev pub opened_with : ℕ → List ℕ → Option Bool → Option ScriptLine
+opened_with link file None = None
+opened_with link file (Some writes) = if is_file_id file then Some (Open link file writes) else None
+
+abbrev pub file_part : ℕ → Option (List ℕ × List ℕ) → Option ScriptLine
+file_part link None = None
+file_part link (Some split) = opened_with link split.0 (rights_of split.1)
+
+-- what stands behind `open`: the link, the file and the rights
+abbrev pub open_part : Option (ℕ × List ℕ) → Option ScriptLine
 open_part None = None
-open_part (Some split) = if names_link split.0 then file_part (split_word split.1) else None
+open_part (Some part) = file_part part.0 (split_word part.1)
 
--- what stands behind `say`: the link, and then the message, which may be empty
-abbrev pub say_part : Option (List ℕ × List ℕ) → Option ScriptLine
+-- what stands behind `say`: the link and the message, which may be empty
+abbrev pub say_part : Option (ℕ × List ℕ) → Option ScriptLine
 say_part None = None
-say_part (Some split) = if names_link split.0 then Some (Say split.1) else None
+say_part (Some part) = Some (Say part.0 part.1)
 
--- `say <link> <rest>` and `open <link> <file> rw`
+-- what stands behind `type`: the link and the characters that are typed, as UTF-8
+abbrev pub keys_part : Option (ℕ × List ℕ) → Option ScriptLine
+keys_part None = None
+keys_part (Some part) = if is_utf8 part.1 then Some (Keys part.0 (chars part.1)) else None
+
+-- what stands behind `drop`: the link
+abbrev pub leave_part : Option ℕ → Option ScriptLine
+leave_part None = None
+leave_part (Some link) = Some (Leave link)
+
+-- what stands behind `turn`: the one poll, 0, and how many turns, 1 to 100,000
+abbrev pub turns_of : Option ℕ → Option ScriptLine
+turns_of None = None
+turns_of (Some count) = Some (Turn count)
+
+abbrev pub turn_part : Option (List ℕ × List ℕ) → Option ScriptLine
+turn_part None = None
+turn_part (Some split) = if is_some (number 70000 0 split.0) then turns_of (counted 100000 split.1) else None
+
+-- a line of more words, by its first word and all that stands behind it
+abbrev pub worded_by : List ℕ → List ℕ → Option ScriptLine
+worded_by word rest =
+    if bytes_eq word (codes "say") then say_part (linked rest)
+    else
+    (if bytes_eq word (codes "open") then open_part (linked rest)
+    else
+    (if bytes_eq word (codes "type") then keys_part (linked rest)
+    else
+    (if bytes_eq word (codes "drop") then leave_part (link_of rest)
+    else (if bytes_eq word (codes "turn") then turn_part (split_word rest) else None))))
+
 abbrev pub worded : Option (List ℕ × List ℕ) → Option ScriptLine
 worded None = None
-worded (Some split) =
-    if bytes_eq split.0 (codes "say") then say_part (split_word split.1)
-    else (if bytes_eq split.0 (codes "open") then open_part (split_word split.1) else None)
+worded (Some split) = worded_by split.0 split.1
 
 -- whether the line is a comment
 abbrev pub is_comment : List ℕ → Bool
@@ -63,34 +112,50 @@ line_of text =
     (if bytes_eq text (codes "end") then Some End
     else (if bytes_eq text (codes "settle") then Some Settle else worded (split_word text)))
 
--- how many keys were found
-abbrev pub count_keys : Option (List KeyPlace) → ℕ
-count_keys None = 0
-count_keys (Some keys) = length keys
+-- whether the link is among these
+abbrev pub has_link : List ℕ → ℕ → Bool
+has_link links link = list_any (is_at (nat_cmp link)) links
 
-abbrev pub tiles_read : Result ClientMessage MessageFault → ℕ
-tiles_read (Ok message) = count_keys (keys_of 1 message)
-tiles_read (Err why) = 0
+-- these links and one more, in order
+abbrev pub with_link : List ℕ → ℕ → List ℕ
+with_link links link = insert_key nat_cmp links link
 
--- how many tiles a message asks for: each position that an accepted `tile` or `tilecombine` names counts,
--- where all its keys are keys of the one part that a document of no bytes has; no other message asks for one
-unfoldable pub tiles_of : List ℕ → ℕ
-tiles_of message = tiles_read (reading message)
+-- a link is live from the line that opens it up to the line that drops it
+abbrev pub is_live : Place → ℕ → Bool
+is_live place link = has_link place.used link && not (has_link place.dropped link)
 
--- whether a script that stands there may say the message: behind `open`, as one of 64 messages, and as
--- long as all messages together ask for at most 64 tiles
-abbrev pub may_say : Place → List ℕ → Bool
-may_say place message = place.opened && nat_lt place.said 64 && nat_le (place.asked + tiles_of message) 64
+-- whether the file is the script's one, or its first
+abbrev pub is_one_file : Option (List ℕ) → List ℕ → Bool
+is_one_file None file = true
+is_one_file (Some first) file = bytes_eq first file
 
--- what a script's line does behind the lines before it: a document is opened once and before every message
+-- whether a link may be opened on the file: it was never used before, and the script has no other file
+abbrev pub may_open : Place → ℕ → List ℕ → Bool
+may_open place link file = not (has_link place.used link) && is_one_file place.file file
+
+-- what a line of a script does: it acts and the script then stands there, it ends the script, or no script
+-- has it there
+pub data Verdict : Type 0 where
+  Acts : (line : ScriptLine) (next : Place) → Verdict
+  Ends : Verdict
+  Refused : Verdict
+
+-- a line of a live link
+abbrev pub if_live : Place → ℕ → ScriptLine → Place → Verdict
+if_live place link line next = if is_live place link then Acts line next else Refused
+
+-- what a script's line does behind the lines before it
 abbrev pub judged : Place → Option ScriptLine → Verdict
 judged place None = Refused
 judged place (Some Blank) = Acts Blank place
 judged place (Some End) = Ends
 judged place (Some Settle) = Acts Settle place
-judged place (Some (Open file)) = if place.opened then Refused else Acts (Open file) (record place { opened = true })
-judged place (Some (Say message)) =
-    if may_say place message then Acts (Say message) (record place { said = place.said + 1; asked = place.asked + tiles_of message })
+judged place (Some (Turn count)) = Acts (Turn count) place
+judged place (Some (Say link message)) = if_live place link (Say link message) place
+judged place (Some (Keys link typed)) = if_live place link (Keys link typed) place
+judged place (Some (Leave link)) = if_live place link (Leave link) (record place { dropped = with_link place.dropped link })
+judged place (Some (Open link file writes)) =
+    if may_open place link file then Acts (Open link file writes) (record place { file = Some file; used = with_link place.used link })
     else Refused
 
 abbrev pub verdict : Place → List ℕ → Verdict
@@ -98,7 +163,7 @@ verdict place text = judged place (line_of text)
 
 -- a script before its first line
 abbrev pub start : Place
-start = record { opened = false; said = 0; asked = 0 }
+start = record { file = None; used = []; dropped = [] }
 
 -- what comes behind a line that acts, and None where it ends the script or is refused
 abbrev pub followed : Verdict → (Place → Option Place) → Option Place

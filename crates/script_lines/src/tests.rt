@@ -1,7 +1,6 @@
-// Lines, what they say and records, with ample memory.
+// Lines, what they say, where they may stand, and records, with ample memory.
 use crate::{
-    LineStep, Place, ScriptLine, Verdict, fault_text, judge, next_line, read_line, record_of,
-    tiles_of, write_whole,
+    Judged, LineStep, Place, ScriptLine, fault_text, next_line, read_line, record_of, write_whole,
 };
 use outside::{MemorySink, MemorySource};
 use std::alloc::Global;
@@ -10,8 +9,12 @@ use std::test::Fail;
 fn name_of(line: &Option<ScriptLine>) -> &'static str {
     match line {
         None => "none",
-        Some(ScriptLine::Open(_)) => "open",
-        Some(ScriptLine::Say(_)) => "say",
+        Some(ScriptLine::Open(_, _, true)) => "open",
+        Some(ScriptLine::Open(_, _, false)) => "look",
+        Some(ScriptLine::Say(_, _)) => "say",
+        Some(ScriptLine::Keys(_, _)) => "keys",
+        Some(ScriptLine::Leave(_)) => "leave",
+        Some(ScriptLine::Turn(_)) => "turn",
         Some(ScriptLine::Settle) => "settle",
         Some(ScriptLine::Blank) => "blank",
         Some(ScriptLine::End) => "end",
@@ -23,16 +26,33 @@ fn lines_say_what_the_grammar_says(rt: HostRuntime) -> Result<(), Fail> {
     let table = [
         ("open 1 d rw", "open"),
         ("open 001 a-Z_9 rw", "open"),
-        ("open 1 d ro", "none"),
-        ("open 2 d rw", "none"),
+        ("open 1 d ro", "look"),
+        ("open 65535 d rw", "open"),
+        ("open 65536 d rw", "none"),
+        ("open 0 d rw", "none"),
+        ("open 1 d r", "none"),
         ("open 1  d rw", "none"),
         ("open 1 d rw ", "none"),
         ("open 1 d. rw", "none"),
         ("open 1  rw", "none"),
+        ("open 1 d", "none"),
         ("say 1 ", "say"),
         ("say 01 a b", "say"),
         ("say 1", "none"),
         ("say 1x a", "none"),
+        ("type 1 ", "keys"),
+        ("type 7 a b", "keys"),
+        ("type 7", "none"),
+        ("drop 1", "leave"),
+        ("drop 1 ", "none"),
+        ("drop", "none"),
+        ("turn 0 1", "turn"),
+        ("turn 00 100000", "turn"),
+        ("turn 0 100001", "none"),
+        ("turn 0 0", "none"),
+        ("turn 1 1", "none"),
+        ("turn 0", "none"),
+        ("turn 0 1 ", "none"),
         ("settle", "settle"),
         ("settle ", "none"),
         ("end", "end"),
@@ -47,75 +67,62 @@ fn lines_say_what_the_grammar_says(rt: HostRuntime) -> Result<(), Fail> {
         let line = read_line(rt.alloc(), text.as_bytes())?;
         assert_eq!(rt; name_of(&line), wanted, "{text}");
     }
+    let line = read_line(rt.alloc(), b"type 1 \xff")?;
+    assert_eq!(rt; name_of(&line), "none");
+    match read_line(rt.alloc(), "type 1 aé€".as_bytes())? {
+        Some(ScriptLine::Keys(1, typed)) => {
+            assert_eq!(rt; typed.get(), ['a', 'é', '€'].as_slice());
+        }
+        _ => assert!(rt; false),
+    }
     Ok(())
 }
 
-// What a line does where a document was opened or not, and so many messages asked for so many tiles.
-fn judged(alloc: Global, opened: bool, said: u32, asked: u32, line: &str) -> Result<String, Fail> {
-    let place = Place {
-        opened,
-        said,
-        asked,
-    };
-    match judge(alloc, place, line.as_bytes())? {
-        Verdict::Acts(_, next) => {
-            let said = next.said;
-            let asked = next.asked;
-            Ok(format!(in alloc; "acts {said} {asked}")?)
-        }
-        Verdict::Ends => Ok(String::from_str(alloc, "ends")?),
-        Verdict::Refused => Ok(String::from_str(alloc, "refused")?),
+fn judgement(judged: &Judged) -> &'static str {
+    match judged {
+        Judged::Acts(_) => "acts",
+        Judged::Ends => "ends",
+        Judged::Refused => "refused",
     }
 }
 
-const TWO: &str =
-    "say 1 tilecombine part=0 width=8 height=8 tileposx=0,240 tileposy=0,0 tilewidth=240 tileheight=240";
+// What the last of these lines does behind the others.
+fn judged(alloc: Global, lines: &str) -> Result<&'static str, Fail> {
+    let mut place = Place::start(alloc);
+    let mut last = "none";
+    for line in lines.split(';') {
+        last = judgement(&place.judge(alloc, line.as_bytes())?);
+    }
+    Ok(last)
+}
 
 #[test]
 fn a_line_is_judged_where_it_stands(rt: HostRuntime) -> Result<(), Fail> {
     let table = [
-        (false, 0, 0, "say 1 a", "refused"),
-        (true, 64, 0, "say 1 a", "refused"),
-        (true, 63, 64, "say 1 a", "acts 64 64"),
-        (true, 0, 0, "open 1 d rw", "refused"),
-        (false, 0, 0, "open 1 d rw", "acts 0 0"),
-        (true, 64, 64, "end", "ends"),
-        (true, 64, 64, "# end", "acts 64 64"),
-        (true, 1, 62, TWO, "acts 2 64"),
-        (true, 1, 63, TWO, "refused"),
+        ("say 1 a", "refused"),
+        ("open 1 d rw;say 1 a", "acts"),
+        ("open 1 d rw;say 2 a", "refused"),
+        ("open 1 d rw;open 1 d rw", "refused"),
+        ("open 1 d rw;open 01 d ro", "refused"),
+        ("open 1 d rw;open 2 d ro", "acts"),
+        ("open 1 d rw;open 2 e rw", "refused"),
+        ("open 1 d rw;drop 1", "acts"),
+        ("drop 1", "refused"),
+        ("open 1 d rw;drop 1;drop 1", "refused"),
+        ("open 1 d rw;drop 1;say 1 a", "refused"),
+        ("open 1 d rw;drop 1;type 1 a", "refused"),
+        ("open 1 d rw;drop 1;open 1 d rw", "refused"),
+        ("open 1 d rw;drop 1;open 2 d rw", "acts"),
+        ("open 2 d rw;open 1 d rw;drop 2;type 1 a", "acts"),
+        ("type 1 a", "refused"),
+        ("turn 0 5", "acts"),
+        ("settle", "acts"),
+        ("# end", "acts"),
+        ("open 1 d rw;end", "ends"),
     ];
-    for (opened, said, asked, line, wanted) in table {
-        let text = judged(rt.alloc(), opened, said, asked, line)?;
-        assert_eq!(rt; text.as_str(), wanted, "{line}");
-    }
-    Ok(())
-}
-
-#[test]
-fn messages_ask_for_tiles(rt: HostRuntime) -> Result<(), Fail> {
-    let table = [
-        (
-            "tile part=0 width=8 height=8 tileposx=0 tileposy=0 tilewidth=240 tileheight=240",
-            1,
-        ),
-        (
-            "tile part=1 width=8 height=8 tileposx=0 tileposy=0 tilewidth=240 tileheight=240",
-            0,
-        ),
-        (
-            "tilecombine part=0 width=8 height=8 tileposx=0,0,0 tileposy=0,0,0 tilewidth=240 tileheight=240",
-            3,
-        ),
-        (
-            "tilecombine part=0 width=8 height=8 tileposx=0,7 tileposy=0,0 tilewidth=240 tileheight=240",
-            0,
-        ),
-        ("canceltiles", 0),
-        ("tile", 0),
-    ];
-    for (text, wanted) in table {
-        let tiles = tiles_of(rt.alloc(), text.as_bytes())?;
-        assert_eq!(rt; tiles, wanted, "{text}");
+    for (lines, wanted) in table {
+        let last = judged(rt.alloc(), lines)?;
+        assert_eq!(rt; last, wanted, "{lines}");
     }
     Ok(())
 }

@@ -4,9 +4,9 @@ use Rattle.std.specs.List.{AllByRecursion}
 use Rattle.std.proofs.lemmas.List.{append-nil}
 use Rattle.outside.specs.Causes.{Rose, HasCause}
 use Rattle.outside.specs.Streams.{IsAtEnd}
-use Rattle.script_lines.specs.declared.grammar.Place.{Place}
-use Rattle.script_lines.specs.declared.grammar.Verdict.{Verdict}
-use Rattle.script_lines.specs.declared.grammar.Verdict.TheVariants.{Acts, Ends, Refused}
+use Rattle.script_lines.specs.Places.{Place}
+use Rattle.script_lines.specs.Grammar.{Verdict}
+use Rattle.script_lines.specs.Grammar.{Acts, Ends, Refused}
 use Rattle.script_lines.specs.Grammar.{verdict, followed, place_after}
 use Rattle.script_lines.specs.Lines.{IsUnbroken, IsLine, joined}
 use Rattle.script_run.specs.declared.status.Status.{Status}

@@ -2,7 +2,7 @@
 use Rattle.std.proofs.Common.{◌≡◌, ◌∙◌, ℕ, ◌+◌, ◌<◌, inl, inr, List, [], ◌∷◌, ◌++◌, length, length-append, refl, ap, sym, subst, arith, Option, Some}
 use Rattle.std.specs.List.{AllByRecursion}
 use Rattle.outside.specs.Streams.{Takes, Adds, IsAtEnd}
-use Rattle.script_lines.specs.declared.grammar.Place.{Place}
+use Rattle.script_lines.specs.Places.{Place}
 use Rattle.script_lines.specs.Lines.{IsUnbroken, IsLine, joined}
 use Rattle.script_lines.specs.Records.{fault_text}
 use Rattle.script_run.specs.declared.status.Status.{Status}

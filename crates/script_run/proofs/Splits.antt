@@ -2,9 +2,9 @@
 use Rattle.std.proofs.Common.{◌≡◌, ◌∙◌, ℕ, List, [], ◌∷◌, ◌++◌, length, length-append, refl, ap, sym, subst, append_assoc, arith, Option, None, Some}
 use Rattle.std.specs.List.{AllByRecursion}
 use Rattle.std.proofs.lemmas.List.{append-nil}
-use Rattle.script_lines.specs.declared.grammar.Place.{Place}
-use Rattle.script_lines.specs.declared.grammar.Verdict.{Verdict}
-use Rattle.script_lines.specs.declared.grammar.Verdict.TheVariants.{Acts, Ends, Refused}
+use Rattle.script_lines.specs.Places.{Place}
+use Rattle.script_lines.specs.Grammar.{Verdict}
+use Rattle.script_lines.specs.Grammar.{Acts, Ends, Refused}
 use Rattle.script_lines.specs.Grammar.{verdict, followed, place_after}
 use Rattle.script_lines.specs.Lines.{IsUnbroken, IsLine, joined}
 

@@ -1,8 +1,8 @@
 -- Scripts that come to their end.
 use Rattle.std.specs.Prelude.{ℕ, ◌≡◌, ◌<◌, ◌≤◌, ◌+◌, List, [], ◌∷◌, ◌++◌, length, Option, Some, ◌⊎◌}
 use Rattle.std.specs.List.{AllByRecursion}
-use Rattle.script_lines.specs.declared.grammar.Place.{Place}
-use Rattle.script_lines.specs.declared.grammar.Verdict.TheVariants.{Ends}
+use Rattle.script_lines.specs.Places.{Place}
+use Rattle.script_lines.specs.Grammar.{Ends}
 use Rattle.script_lines.specs.Grammar.{verdict, place_after}
 use Rattle.script_lines.specs.Lines.{IsLine, joined}
 use Rattle.script_run.specs.Transcript.{budget}

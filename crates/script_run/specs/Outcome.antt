@@ -1,7 +1,7 @@
 -- How a script ended, with the counts of faults that show who failed.
 use Rattle.std.specs.Prelude.{ℕ, ◌≡◌, List, Option}
 use Rattle.outside.specs.Causes.{HasCause}
-use Rattle.script_lines.specs.declared.grammar.Place.{Place}
+use Rattle.script_lines.specs.Places.{Place}
 use Rattle.script_run.specs.declared.status.Status.{Status}
 use Rattle.script_run.specs.declared.status.Status.TheVariants.{ReadFault, WriteFault}
 use Rattle.script_run.specs.Transcript.{Ended}

@@ -1,8 +1,8 @@
 -- What a player of a script answers to one line.
 use Rattle.std.specs.Prelude.{ℕ, ◌≡◌, ◌<◌, List, ◌++◌, length, Option, None, Some, ◌⊎◌}
 use Rattle.outside.specs.Streams.{Adds}
-use Rattle.script_lines.specs.declared.grammar.Place.{Place}
-use Rattle.script_lines.specs.declared.grammar.Verdict.TheVariants.{Ends, Refused}
+use Rattle.script_lines.specs.Places.{Place}
+use Rattle.script_lines.specs.Grammar.{Ends, Refused}
 use Rattle.script_lines.specs.declared.output.Stop.{Stop}
 use Rattle.script_lines.specs.declared.output.Stop.TheVariants.{Sink, Memory as NoMemory}
 use Rattle.script_lines.specs.Grammar.{verdict}

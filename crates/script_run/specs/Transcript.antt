@@ -4,8 +4,8 @@
 use Rattle.std.specs.Prelude.{ℕ, ◌≡◌, ◌+◌, ◌<◌, List, [], ◌∷◌, ◌++◌, length, Option, ◌⊎◌}
 use Rattle.std.specs.List.{AllByRecursion}
 use Rattle.outside.specs.Streams.{Takes, Adds, IsAtEnd}
-use Rattle.script_lines.specs.declared.grammar.Place.{Place}
-use Rattle.script_lines.specs.declared.grammar.Verdict.TheVariants.{Ends, Refused}
+use Rattle.script_lines.specs.Places.{Place}
+use Rattle.script_lines.specs.Grammar.{Ends, Refused}
 use Rattle.script_lines.specs.Grammar.{verdict}
 use Rattle.script_lines.specs.Lines.{IsUnbroken, IsLine, joined}
 use Rattle.script_lines.specs.Records.{IsFront, fault_text}

@@ -1,7 +1,7 @@
 //! What plays the lines of a script.
 ghost use Rattle.std.specs.Prelude.{◌≡◌, ℕ, List, Some};
 ghost use Rattle.outside.specs.Causes.{HasCause};
-ghost use Rattle.script_lines.specs.declared.grammar.Place.{Place};
+ghost use Rattle.script_lines.specs.Places.{Place};
 ghost use Rattle.script_lines.specs.Grammar.{verdict, followed};
 ghost use Rattle.script_run.specs.Play.{Answers, Refuses};
 

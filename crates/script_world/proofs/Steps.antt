@@ -1,245 +1,110 @@
--- Events, turns and acknowledged tiles, as moves.
-use Rattle.std.proofs.Common.{◌≡◌, ◌∙◌, ℕ, ◌+◌, ◌<◌, Bool, true, false, cond, List, [], ◌∷◌, ◌++◌, length, length-append, refl, ap, sym, subst, arith, Option, None, Some}
-use Rattle.std.specs.Prelude.{IsSome, Result, IfErr}
+-- Poll turns as moves, with what they wrote, and what they leave to do.
+use Rattle.std.proofs.Common.{◌≡◌, ◌∙◌, ◌⊎◌, ℕ, zero, suc, ◌+◌, ◌<◌, ◌≤◌, Bool, true, false, cond, ◌||◌, List, [], ◌∷◌, ◌++◌, length, length-append, length-drop, drop, nat_eq, nat_lt, inl, inr, refl, ap, sym, subst, arith, Option, None, Some}
+use Rattle.std.specs.Prelude.{Result, Ok, Err, IfOk, IfErr}
+use Rattle.std.specs.List.{AllByRecursion}
 use Rattle.std.specs.Result.{IsErrAnd}
 use Rattle.std.proofs.lemmas.Result.{err_from_is_err_and}
-use Rattle.std.specs.Option.{ForSome, is_some, option_map_or}
-use Rattle.cool_base.specs.declared.ids.ViewId.{ViewId}
-use Rattle.cool_frame.specs.declared.frame.Frame.{Frame}
-use Rattle.document_machine.specs.AtOnce.{GoesAtOnce, GoesEmpty, Empties, WorksAtOnce}
-use Rattle.document_machine.specs.Event.{Joined, Said}
-use Rattle.document_machine.specs.Outputs.{frames_only}
-use Rattle.document_machine.specs.Quiet.{IsQuiet, left_to_do}
-use Rattle.document_machine.specs.State.{Document, opening, find_view}
-use Rattle.document_machine.specs.Step.{Goes, Rests}
+use Rattle.cool_message.specs.Reading.{reading}
+use Rattle.cool_message.specs.declared.message.ClientMessage.TheVariants.{TileProcessed}
+use Rattle.document_laws.proofs.Acknowledged.{said_acknowledges, acknowledging_adds_nothing}
+use Rattle.document_laws.proofs.Lower.{at_once_lowers}
+use Rattle.document_machine.specs.Message.{Acknowledges, took}
+use Rattle.document_machine.specs.Outputs.{nothing}
+use Rattle.document_machine.specs.Rank.{left_to_do}
+use Rattle.document_machine.specs.State.{Document}
+use Rattle.document_machine.specs.Step.{Rests}
+use Rattle.document_machine.specs.declared.outs.Outs.{Outs}
 use Rattle.kit_trait.specs.Rules.{Rules}
 use Rattle.kit_trait.specs.declared.values.Pixels.{Pixels}
-use Rattle.outside.specs.Causes.{HasCause}
 use Rattle.outside.specs.Streams.{Adds}
 use Rattle.script_lines.specs.Records.{AddsPart}
 use Rattle.script_lines.specs.declared.output.Stop.{Stop}
-use Rattle.script_lines.specs.declared.output.Stop.TheVariants.{Sink}
+use Rattle.script_lines.specs.declared.output.Stop.TheVariants.{Sink, Memory as NoMemory}
 use Rattle.script_run.specs.Play.{Stopped}
-use Rattle.script_run.proofs.Moves.{adds_nothing}
-use Rattle.script_world.specs.Moved.{Came, MadeFrom, EventWritten, TurnWritten, Emptied, RestsNow, left_of}
-use Rattle.script_world.specs.World.{Seen, Event, Work, Empty, Moves, writer, held, records, LoadsWhere, SaysWhere, TakesOne, TurnsOne, EventDone, IsAtRest, Settled, Begun}
+use Rattle.script_run.proofs.Moves.{adds_more, adds_nothing, adds_same}
+use Rattle.script_world.specs.House.{House, SaysAs, TakesOne, TakesFirst, seated, WorksAtOnce, TurnsDocument, PollTurn, IsSeated, IsHousedBy, IsHoused}
+use Rattle.script_world.specs.Moved.{Came, MadeFrom, TurnWritten, IsAcknowledgement, AllAcknowledge, MadeTurns, TurnedTo, left_of}
+use Rattle.script_world.specs.Seats.{Seats}
+use Rattle.script_world.specs.World.{Seen, Move, Turn, Acknowledge, Moves, Chain, RestsNow, IsIdle, turns, Turned, Begun}
 use Rattle.script_world.specs.declared.event.Waiting.{Waiting}
-use Rattle.script_world.specs.declared.event.Waiting.TheVariants.{Says}
-use Rattle.script_world.proofs.Chains.{came_one, came_joined, stopped_later, stopped_writing}
+use Rattle.script_world.specs.declared.event.Waiting.TheVariants.{Opened, Loads, Says, Gone}
+use Rattle.script_world.proofs.Chains.{came_one, came_joined, came_nowhere, chain_one, chain_joined, stopped_later, stopped_writing, stopped_here}
+use Rattle.script_world.proofs.Housed.{Keeps, first_housed, found_document, housed_at}
 
--- the view joined the document that was loaded
-pub loads_by : {C B S : Type 0} (rules : Rules C B) (paints : S → Pixels) (b : Bool) (old new : Option (Document S)) (frames : List (ViewId × Frame)) (out : List ℕ)
-    → b ≡ true → old ≡ Some (opening []) → Goes rules paints old (Joined writer) (frames_only frames) new → out ≡ records frames
-    → LoadsWhere b rules paints writer out new
-loads_by rules paints false old new frames out live is goes written = absurd (cc)
-loads_by rules paints true None new frames out live is goes written = absurd goes
-loads_by rules paints true (Some d) None frames out live is goes written = absurd goes
-loads_by rules paints true (Some d) (Some e) frames out live is goes written =
-    let same : d ≡ opening [] = (cc) in
-    (e, frames_only frames, subst (λ x. Goes rules paints (Some x) (Joined writer) (frames_only frames) (Some e)) same goes, written, refl)
+some_wait : (event : Waiting) (rest : List Waiting) → nat_lt 0 (length (event ∷ rest)) ≡ true
+some_wait event rest = grind arith
 
--- the kit refused
-pub refused_by : {C B S : Type 0} (rules : Rules C B) (paints : S → Pixels) (b : Bool) (new : Option (Document S)) (out : List ℕ)
-    → b ≡ false → LoadsWhere false rules paints writer out new → LoadsWhere b rules paints writer out new
-refused_by rules paints b new out lacks is = subst (λ x. LoadsWhere x rules paints writer out new) (sym lacks) is
-
-pub is_there : {S : Type 0} (old : Option (Document S)) → option_map_or (λ d. is_some (find_view d.views 0)) old false ≡ true → ForSome old (λ d. IsSome (find_view d.views 0))
-is_there old live = λ d is. let h : option_map_or (λ d. is_some (find_view d.views 0)) (Some d) false ≡ true = rw is at live in h
-
--- a message without a live view
-pub unsaid_by : {C B S : Type 0} (rules : Rules C B) (paints : S → Pixels) (text : List ℕ) (old new : Option (Document S)) (out : List ℕ)
-    → option_map_or (λ d. is_some (find_view d.views 0)) old false ≡ false → out ≡ [] → new ≡ old → TakesOne rules paints writer (Says text) old out new
-unsaid_by rules paints text None new out lacks nothing same = (nothing, same)
-unsaid_by rules paints text (Some d) new out lacks nothing same = subst (λ b. SaysWhere b rules paints text d out new) (sym lacks) (nothing, same)
-
--- a message of the live view
-pub said_by : {C B S : Type 0} (rules : Rules C B) (paints : S → Pixels) (text : List ℕ) (old new : Option (Document S)) (frames : List (ViewId × Frame)) (out : List ℕ)
-    → option_map_or (λ d. is_some (find_view d.views 0)) old false ≡ true → Goes rules paints old (Said 0 text) (frames_only frames) new → out ≡ records frames
-    → TakesOne rules paints writer (Says text) old out new
-said_by rules paints text None new frames out live goes written = absurd goes
-said_by rules paints text (Some d) None frames out live goes written = absurd goes
-said_by rules paints text (Some d) (Some e) frames out live goes written =
-    subst (λ b. SaysWhere b rules paints text d out (Some e)) (sym live) (e, frames_only frames, goes, written, refl)
-
--- a turn that works
-pub worked_by : {C B S : Type 0} (rules : Rules C B) (paints : S → Pixels) (old new : Option (Document S)) (frames : List (ViewId × Frame)) (out : List ℕ)
-    → GoesAtOnce rules paints old (Some frames) new → out ≡ records frames → TurnsOne rules paints old out true new
-worked_by rules paints None new frames out goes written = absurd goes
-worked_by rules paints (Some d) None frames out goes written = absurd goes
-worked_by rules paints (Some d) (Some e) frames out goes written = (e, frames, goes, written, refl)
-
--- a turn with nothing to do
-pub rested_by : {C B S : Type 0} (rules : Rules C B) (paints : S → Pixels) (old new : Option (Document S)) (out : List ℕ)
-    → GoesAtOnce rules paints old None new → out ≡ [] → TurnsOne rules paints old out false new
-rested_by rules paints None new out goes nothing = absurd goes
-rested_by rules paints (Some d) None out goes nothing = absurd goes
-rested_by rules paints (Some d) (Some e) out goes nothing = (nothing, goes.0, ap Some goes.1)
-
--- one more event
-pub event_more : {C B S : Type 0} (rules : Rules C B) (paints : S → Pixels) (start : Seen S) (event : Waiting) (waiting rest : List Waiting) (old new : Option (Document S)) (a b c : Option (List ℕ))
-    → waiting ≡ event ∷ rest
-    → Came (Moves rules paints writer) start (record { waiting = waiting; document = old }) a b → EventWritten rules paints writer event old new b c
-    → Came (Moves rules paints writer) start (record { waiting = rest; document = new }) a c
-event_more {C} {B} {S} rules paints start event waiting rest old new a b c is came written =
-    let mid : Seen S = record { waiting = waiting; document = old } in
-    let t : Seen S = record { waiting = rest; document = new } in
-    came_joined (Moves rules paints writer) start mid t a b c came (came_one (Moves rules paints writer) Event mid written.out t b c (event, is, written.done) written.added)
-
--- a turn as moves: one, or none where it did nothing
-pub turn_came : {C B S : Type 0} (rules : Rules C B) (paints : S → Pixels) (worked : Bool) (old new : Option (Document S)) (b c : Option (List ℕ))
-    → TurnWritten rules paints old worked new b c
-    → Came (Moves rules paints writer) (record { waiting = []; document = old }) (record { waiting = []; document = new }) b c
-turn_came rules paints true old new b c written =
-    came_one (Moves rules paints writer) Work (record { waiting = []; document = old }) written.out (record { waiting = []; document = new }) b c (refl, refl, written.done) written.added
-turn_came rules paints false None new b c written = record {
-  moves = [];
-  out = [];
-  chain = (refl, ap (λ d. record { waiting = []; document = d }) written.done.2);
-  added = subst (λ (o : List ℕ). Adds b o c) written.done.0 written.added;
-}
-turn_came rules paints false (Some d) new b c written = record {
-  moves = [];
-  out = [];
-  chain = (refl, ap (λ d. record { waiting = []; document = d }) written.done.2);
-  added = subst (λ (o : List ℕ). Adds b o c) written.done.0 written.added;
+-- an event and a turn behind it, as a poll turn
+pub event_turn_by : {C B S : Type 0} (rules : Rules C B) (paints : S → Pixels) (event : Waiting) (old mid new : House S) (here later out : List ℕ) (turned worked : Bool)
+    → TakesOne rules paints event old here mid → TurnsDocument rules paints mid.seats mid.document later turned new.document → new.seats ≡ mid.seats → out ≡ here ++ later → worked ≡ true
+    → (rest : List Waiting) → PollTurn rules paints (event ∷ rest) old out worked rest new
+event_turn_by rules paints event old mid new here later out turned worked takes goes stays is works = λ rest. record {
+  mid = mid;
+  here = here;
+  later = later;
+  turned = turned;
+  takes = (refl, takes);
+  turns = goes;
+  stays = stays;
+  worked_is = works ∙ ap (λ (b : Bool). b || turned) (sym (some_wait event rest));
+  is = is;
 }
 
--- with each turn that works less is left to do
-pub turn_left : {C B S : Type 0} (rules : Rules C B) (paints : S → Pixels) (worked : Bool) (old new : Option (Document S)) (b c : Option (List ℕ))
-    → TurnWritten rules paints old worked new b c → left_of new + cond worked 1 0 < left_of old + 1
-turn_left rules paints true None new b c written = let odd : true ≡ false = written.done.1 in absurd (cc)
-turn_left {C} {B} {S} rules paints true (Some d) new b c written =
-    let now : Document S = written.done.0 in
-    let works : WorksAtOnce rules paints d written.done.1 now = written.done.2 in
-    let less : left_to_do now < left_to_do d = works.less in
-    let same : left_of new ≡ left_to_do now = ap left_of written.done.4 in
-    omega (arith, less, same)
-turn_left rules paints false None new b c written = let same : left_of new ≡ 0 = ap left_of written.done.2 in omega (arith, same)
-turn_left rules paints false (Some d) new b c written = let same : left_of new ≡ left_to_do d = ap left_of written.done.2 in omega (arith, same)
-
--- where a turn did nothing, the next would do nothing either
-pub turn_rests : {C B S : Type 0} (rules : Rules C B) (paints : S → Pixels) (worked : Bool) (old new : Option (Document S)) (b c : Option (List ℕ))
-    → TurnWritten rules paints old worked new b c → worked ≡ false → RestsNow rules new
-turn_rests rules paints true old new b c written lacks = absurd (cc)
-turn_rests rules paints false None new b c written lacks = subst (RestsNow rules) (sym written.done.2) tt
-turn_rests rules paints false (Some d) new b c written lacks = subst (RestsNow rules) (sym written.done.2) written.done.1
-
--- what a broker was told to acknowledge
-pub emptied_by : {S : Type 0} (old new : Option (Document S)) (had : Bool) → GoesEmpty old had new → Emptied old had new
-emptied_by None new had goes = goes
-emptied_by (Some d) None had goes = absurd goes
-emptied_by (Some d) (Some e) had goes = (e, goes, refl)
-
--- acknowledged tiles as moves: one, or none where there was no tile
-pub emptied_came : {C B S : Type 0} (rules : Rules C B) (paints : S → Pixels) (had : Bool) (old new : Option (Document S)) (b : Option (List ℕ))
-    → Emptied old had new → RestsNow rules old
-    → Came (Moves rules paints writer) (record { waiting = []; document = old }) (record { waiting = []; document = new }) b b
-emptied_came rules paints had None new b emptied rests = record {
-  moves = [];
-  out = [];
-  chain = (refl, ap (λ d. record { waiting = []; document = d }) emptied.1);
-  added = adds_nothing b;
-}
-emptied_came {C} {B} {S} rules paints true (Some d) new b emptied rests =
-    came_one (Moves rules paints writer) Empty (record { waiting = []; document = Some d }) [] (record { waiting = []; document = new }) b b
-    (d, emptied.0, refl, rests, emptied.1, refl, ap (λ (o : Option (Document S)). record { waiting = []; document = o }) emptied.2) (adds_nothing b)
-emptied_came {C} {B} {S} rules paints false (Some d) new b emptied rests =
-    let e : Empties d false emptied.0 = emptied.1 in
-    record {
-      moves = [];
-      out = [];
-      chain = (refl, ap (λ (o : Option (Document S)). record { waiting = []; document = o }) (emptied.2 ∙ ap Some (e.same refl)));
-      added = adds_nothing b;
-    }
-
-pub emptied_left : {S : Type 0} (had : Bool) (old new : Option (Document S)) → Emptied old had new → left_of new + cond had 1 0 < left_of old + 1
-emptied_left had None new emptied =
-    let same : left_of new ≡ 0 = ap left_of emptied.1 in
-    let none : ◌≡◌ {A = ℕ} (cond had 1 0) 0 = ap (λ (b : Bool). cond {A = ℕ} b 1 0) emptied.0 in
-    omega (arith, same, none)
-emptied_left {S} true (Some d) new emptied =
-    let now : Document S = emptied.0 in
-    let e : Empties d true now = emptied.1 in
-    let less : left_to_do now < left_to_do d = e.less refl in
-    let same : left_of new ≡ left_to_do now = ap left_of emptied.2 in
-    omega (arith, less, same)
-emptied_left {S} false (Some d) new emptied =
-    let e : Empties d false emptied.0 = emptied.1 in
-    let same : left_of new ≡ left_to_do d = ap left_of (emptied.2 ∙ ap Some (e.same refl)) in
-    omega (arith, same)
-
--- a document that rests and had no tile to acknowledge is quiet
-pub emptied_rests : {C B S : Type 0} (rules : Rules C B) (had : Bool) (old new : Option (Document S)) → Emptied old had new → RestsNow rules old → had ≡ false → IsAtRest rules new
-emptied_rests rules had None new emptied rests lacks = subst (IsAtRest rules) (sym emptied.1) tt
-emptied_rests rules true (Some d) new emptied rests lacks = absurd (cc)
-emptied_rests {C} {B} {S} rules false (Some d) new emptied rests lacks =
-    let now : Document S = emptied.0 in
-    let e : Empties d false now = emptied.1 in
-    let quiet : IsQuiet rules now = record { rests = subst (Rests rules) (sym (e.same refl)) rests; no_job = e.none_out; empty = e.empty } in
-    subst (IsAtRest rules) (sym emptied.2) quiet
-
--- some moves, as what was begun
-pub begun_of : {C B S : Type 0} (rules : Rules C B) (paints : S → Pixels) (s : Seen S) (a b : Option (List ℕ)) (stop : Stop)
-    → Stopped stop (MadeFrom (Moves rules paints writer) s) a b → Stopped stop (Begun rules paints writer s) a b
-begun_of rules paints s a b stop x = record {
-  made = x.made;
-  part = x.part;
-  is_made = record { moves = x.is_made.0; mid = x.is_made.1; follows = x.is_made.2 };
-  cut = x.cut;
-  added = x.added;
-}
-
--- all events, and then up to rest, is settled
-pub settled_by : {C B S : Type 0} (rules : Rules C B) (paints : S → Pixels) (s mid t : Seen S) (a b c : Option (List ℕ))
-    → Came (Moves rules paints writer) s mid a b → Came (Moves rules paints writer) mid t b c → t.waiting ≡ [] → IsAtRest rules t.document
-    → (out : List ℕ) × Settled rules paints writer s out t × Adds a out c
-settled_by rules paints s mid t a b c first later none rests =
-    let all = came_joined (Moves rules paints writer) s mid t a b c first later in
-    (all.out, record { moves = all.moves; follows = all.chain; none_waits = none; rests = rests }, all.added)
-
--- stopped at an event, as stopped from the start
-pub event_stopped : {C B S : Type 0} (rules : Rules C B) (paints : S → Pixels) (start : Seen S) (event : Waiting) (waiting rest : List Waiting) (old : Option (Document S)) (a b c : Option (List ℕ)) (stop : Stop)
-    → waiting ≡ event ∷ rest
-    → Came (Moves rules paints writer) start (record { waiting = waiting; document = old }) a b
-    → ((others : List Waiting) → Stopped stop (MadeFrom (Moves rules paints writer) (record { waiting = event ∷ others; document = old })) b c)
-    → Stopped stop (MadeFrom (Moves rules paints writer) start) a c
-event_stopped {C} {B} {S} rules paints start event waiting rest old a b c stop is came stopped =
-    stopped_later (Moves rules paints writer) start (record { waiting = waiting; document = old }) a b c stop came
-    (subst (λ (w : List Waiting). Stopped stop (MadeFrom (Moves rules paints writer) (record { waiting = w; document = old })) b c) (sym is) (stopped rest))
-
--- a cause from the start
-pub cause_from : (a b c : ℕ) (Failed : Type 0) → b ≡ a → HasCause b c Failed → HasCause a c Failed
-cause_from a b c Failed same cause = subst (λ (n : ℕ). HasCause n c Failed) same cause
-
--- what is below as much with a step left is below it while there is one
-pub falls_busy : (busy : Bool) (n m : ℕ) → busy ≡ true → n < m + 1 → n < m + cond busy 1 0
-falls_busy true n m is lt = lt
-falls_busy false n m is lt = absurd (cc)
-
--- works up to the last, and then the acknowledged tiles
-pub emptied_more : {C B S : Type 0} (rules : Rules C B) (paints : S → Pixels) (had : Bool) (start : Seen S) (old still new : Option (Document S)) (a b c : Option (List ℕ))
-    → Came (Moves rules paints writer) start (record { waiting = []; document = old }) a b
-    → Came (Moves rules paints writer) (record { waiting = []; document = old }) (record { waiting = []; document = still }) b c
-    → RestsNow rules still → Emptied still had new
-    → Came (Moves rules paints writer) start (record { waiting = []; document = new }) a c
-emptied_more {C} {B} {S} rules paints had start old still new a b c first works rests emptied =
-    let s : Seen S = record { waiting = []; document = old } in
-    let t : Seen S = record { waiting = []; document = still } in
-    let u : Seen S = record { waiting = []; document = new } in
-    came_joined (Moves rules paints writer) start t u a c c (came_joined (Moves rules paints writer) start s t a b c first works)
-    (emptied_came rules paints had still new c emptied rests)
-
--- one turn more
-pub turn_more : {C B S : Type 0} (rules : Rules C B) (paints : S → Pixels) (worked : Bool) (start : Seen S) (old new : Option (Document S)) (a b c : Option (List ℕ))
-    → Came (Moves rules paints writer) start (record { waiting = []; document = old }) a b → TurnWritten rules paints old worked new b c
-    → Came (Moves rules paints writer) start (record { waiting = []; document = new }) a c
-turn_more {C} {B} {S} rules paints worked start old new a b c first written =
-    came_joined (Moves rules paints writer) start (record { waiting = []; document = old }) (record { waiting = []; document = new }) a b c first (turn_came rules paints worked old new b c written)
+-- a turn where no event waits
+pub bare_turn_by : {C B S : Type 0} (rules : Rules C B) (paints : S → Pixels) (waiting rest : List Waiting) (old new : House S) (out : List ℕ) (worked : Bool)
+    → waiting ≡ [] → rest ≡ [] → new.seats ≡ old.seats → TurnsDocument rules paints old.seats old.document out worked new.document
+    → PollTurn rules paints waiting old out worked rest new
+bare_turn_by {C} {B} {S} rules paints waiting rest old new out worked none still stays goes =
+    subst (λ (w : List Waiting). PollTurn rules paints w old out worked rest new) (sym none) (record {
+      mid = old;
+      here = [];
+      later = out;
+      turned = worked;
+      takes = (still, refl, refl);
+      turns = goes;
+      stays = stays;
+      worked_is = refl;
+      is = refl;
+    })
 
 -- a queue that gave nothing is empty
 pub none_left : {X : Type 0} (xs : List X) → (0 < length xs → ⊥) → xs ≡ []
 none_left [] lacks = refl
 none_left (x ∷ xs) lacks = absurd (lacks (omega arith))
+
+-- what leaves no more, with a step left, is below while there is one
+pub falls_busy : (busy : Bool) (n m : ℕ) → busy ≡ true → n ≤ m → n < m + cond busy 1 0
+falls_busy true n m is le = omega (arith, le)
+falls_busy false n m is le = absurd (cc)
+
+-- what a test for nothing tells
+none_is : (n : ℕ) → nat_eq n 0 ≡ true → n ≡ 0
+none_is n is = grind arith
+
+some_is : (n : ℕ) → nat_eq n 0 ≡ false → 0 < n
+some_is zero is = absurd (cc)
+some_is (suc n) is = omega arith
+
+pub is_none : (n : ℕ) (b : Bool) → b ≡ nat_eq n 0 → b ≡ true → n ≡ 0
+is_none n b is told = none_is n (sym is ∙ told)
+
+pub not_none : (n : ℕ) (b : Bool) → b ≡ nat_eq n 0 → b ≡ false → 0 < n
+not_none n b is told = some_is n (sym is ∙ told)
+
+-- a list that is its own tail is empty
+pub own_tail : {X : Type 0} (xs ys : List X) → xs ≡ ys → ys ≡ drop 1 xs → xs ≡ []
+own_tail xs ys same tail =
+    let size : length xs ≡ length (drop 1 xs) = ap length (same ∙ tail) in
+    none_left xs (λ some. omega (arith, size, length-drop 1 xs, some))
+
+-- from an answer to what follows from it
+pub on_ok : {T E : Type 0} (r : Result T E) (P Q : T → Type 0) → ((x : T) → P x → Q x) → IfOk r P → IfOk r Q
+on_ok (Ok x) P Q leads holds = leads x holds
+on_ok (Err e) P Q leads holds = tt
+
+pub on_err : {T E : Type 0} (r : Result T E) (P Q : E → Type 0) → ((x : E) → P x → Q x) → IfErr r P → IfErr r Q
+on_err (Ok x) P Q leads holds = tt
+on_err (Err e) P Q leads holds = leads e holds
 
 -- what a call answers that hands on another's fault
 pub handed_on : {T : Type 0} (result : Result T Stop) (stop : Stop) (P : Stop → Type 0) → IsErrAnd result (λ e. e ≡ stop) → P stop → IfErr result P
@@ -247,55 +112,251 @@ handed_on result stop P is holds =
     let p = err_from_is_err_and result is in
     subst (λ r. IfErr r P) (sym p.1) (subst P (sym p.2) holds)
 
--- the sink failed while an event's records were written
-pub event_cut : {C B S : Type 0} (rules : Rules C B) (paints : S → Pixels) (event : Waiting) (old new : Option (Document S)) (out shown : List ℕ) (a b : Option (List ℕ)) (stop : Stop)
-    → EventDone rules paints writer event old out new → shown ≡ out → stop ≡ Sink → AddsPart a shown b
-    → (rest : List Waiting) → Stopped stop (MadeFrom (Moves rules paints writer) (record { waiting = event ∷ rest; document = old })) a b
-event_cut rules paints event old new out shown a b stop done same is part =
-    λ rest. stopped_writing (Moves rules paints writer) Event (record { waiting = event ∷ rest; document = old }) out (record { waiting = rest; document = new }) a b stop
-    (event, refl, done) is (subst (λ (o : List ℕ). AddsPart a o b) same part)
-
 -- nothing can't be cut
 nothing_cut : (a b : Option (List ℕ)) → AddsPart a [] b → ⊥
 nothing_cut a b part =
     let size : length {A = ℕ} [] ≡ length (part.part ++ part.behind) = ap length part.is in
     omega (arith, size, part.more, length-append part.part part.behind)
 
+no_turn_made : {C B S : Type 0} (rules : Rules C B) (paints : S → Pixels) (seats : Seats) (document : Option (Document S)) (out : List ℕ) (turned : Bool) (new : Option (Document S)) → TurnsDocument rules paints seats document out turned new → turned ≡ false → out ≡ []
+no_turn_made rules paints seats None out turned new goes lacks = goes.0
+no_turn_made rules paints seats (Some d) out true new goes lacks = absurd (cc)
+no_turn_made rules paints seats (Some d) out false new goes lacks = goes.0
+
+idle_out : {C B S : Type 0} (rules : Rules C B) (paints : S → Pixels) (waiting : List Waiting) (old : House S) (out : List ℕ) (rest : List Waiting) (new : House S) → PollTurn rules paints waiting old out false rest new → out ≡ []
+idle_out rules paints [] old out rest new turn =
+    let lacks : turn.turned ≡ false = sym turn.worked_is in
+    turn.is ∙ ap (λ (o : List ℕ). o ++ turn.later) turn.takes.1 ∙ no_turn_made rules paints turn.mid.seats turn.mid.document turn.later turn.turned new.document turn.turns lacks
+idle_out rules paints (event ∷ events) old out rest new turn =
+    let odd : false ≡ true = turn.worked_is ∙ ap (λ (b : Bool). b || turn.turned) (some_wait event events) in absurd (cc)
+
 -- the sink failed while a turn's records were written
-pub turn_cut : {C B S : Type 0} (rules : Rules C B) (paints : S → Pixels) (worked : Bool) (old new : Option (Document S)) (out shown : List ℕ) (a b : Option (List ℕ)) (stop : Stop)
-    → TurnsOne rules paints old out worked new → shown ≡ out → stop ≡ Sink → AddsPart a shown b
-    → Stopped stop (MadeFrom (Moves rules paints writer) (record { waiting = []; document = old })) a b
-turn_cut rules paints true old new out shown a b stop done same is part =
-    stopped_writing (Moves rules paints writer) Work (record { waiting = []; document = old }) out (record { waiting = []; document = new }) a b stop
-    (refl, refl, done) is (subst (λ (o : List ℕ). AddsPart a o b) same part)
-turn_cut rules paints false None new out shown a b stop done same is part = absurd (nothing_cut a b (subst (λ (o : List ℕ). AddsPart a o b) (same ∙ done.0) part))
-turn_cut rules paints false (Some d) new out shown a b stop done same is part = absurd (nothing_cut a b (subst (λ (o : List ℕ). AddsPart a o b) (same ∙ done.0) part))
+pub turn_cut : {C B S : Type 0} (rules : Rules C B) (paints : S → Pixels) (waiting : List Waiting) (old : House S) (out : List ℕ) (worked : Bool) (rest : List Waiting) (new : House S) (shown : List ℕ) (a b : Option (List ℕ)) (stop : Stop)
+    → PollTurn rules paints waiting old out worked rest new → shown ≡ out → stop ≡ Sink → AddsPart a shown b
+    → Stopped stop (MadeFrom (Moves rules paints) (record { waiting = waiting; house = old })) a b
+turn_cut rules paints waiting old out true rest new shown a b stop turn same is part =
+    stopped_writing (Moves rules paints) Turn (record { waiting = waiting; house = old }) out (record { waiting = rest; house = new }) a b stop
+    turn is (subst (λ (o : List ℕ). AddsPart a o b) same part)
+turn_cut rules paints waiting old out false rest new shown a b stop turn same is part =
+    absurd (nothing_cut a b (subst (λ (o : List ℕ). AddsPart a o b) (same ∙ idle_out rules paints waiting old out rest new turn) part))
 
--- the world whose document was taken out of it
-same_world : {S : Type 0} (waiting : List Waiting) (taken inside : Option (Option (Document S))) (self : Seen S) → taken ≡ inside → record { waiting = waiting; document = held inside } ≡ self → record { waiting = waiting; document = held taken } ≡ self
-same_world {S} waiting taken inside self same is = ap (λ (b : Option (Option (Document S))). record { waiting = waiting; document = held b }) same ∙ is
+-- a turn that worked is one move; where it did nothing, all is as it was
+first_same : {C B S : Type 0} (rules : Rules C B) (paints : S → Pixels) (seats : Seats) (document : Option (Document S)) (out : List ℕ) (new : Option (Document S)) (turned : Bool) → TurnsDocument rules paints seats document out turned new → turned ≡ false → new ≡ document
+first_same rules paints seats None out new turned goes lacks = goes.2
+first_same rules paints seats (Some d) out new true goes lacks = absurd (cc)
+first_same rules paints seats (Some d) out new false goes lacks = goes.2
 
--- all events, and then up to rest, settles the world
-pub settles : {C B S : Type 0} (rules : Rules C B) (paints : S → Pixels) (waiting left : List Waiting) (taken inside : Option (Option (Document S))) (self : Seen S) (mid new : Option (Document S)) (a b c : Option (List ℕ))
-    → taken ≡ inside → record { waiting = waiting; document = held inside } ≡ self → left ≡ []
-    → Came (Moves rules paints writer) (record { waiting = waiting; document = held taken }) (record { waiting = []; document = mid }) a b
-    → Came (Moves rules paints writer) (record { waiting = []; document = mid }) (record { waiting = []; document = new }) b c
-    → IsAtRest rules new
-    → (out : List ℕ) × Settled rules paints writer self out (record { waiting = left; document = new }) × Adds a out c
-settles {C} {B} {S} rules paints waiting left taken inside self mid new a b c same is none first later rests =
-    let s : Seen S = record { waiting = waiting; document = held taken } in
-    let t : Seen S = record { waiting = []; document = new } in
-    let t_is : t ≡ record { waiting = left; document = new } = ap (λ (w : List Waiting). record { waiting = w; document = new }) (sym none) in
-    let all : (out : List ℕ) × Settled rules paints writer s out t × Adds a out c = settled_by rules paints s (record { waiting = []; document = mid }) t a b c first later refl rests in
-    (all.0, subst (λ (x : Seen S). Settled rules paints writer self all.0 x) t_is (subst (λ (x : Seen S). Settled rules paints writer x all.0 t) (same_world waiting taken inside self same is) all.1), all.2)
+same_house : {S : Type 0} (a b : House S) → a.seats ≡ b.seats → a.document ≡ b.document → a ≡ b
+same_house {S} a b seats document =
+    ap (λ (s : Seats). record { seats = s; document = a.document }) seats ∙ ap (λ (d : Option (Document S)). record { seats = b.seats; document = d }) document
 
--- stopped behind the events
-pub settle_stopped : {C B S : Type 0} (rules : Rules C B) (paints : S → Pixels) (waiting : List Waiting) (taken inside : Option (Option (Document S))) (self : Seen S) (mid : Option (Document S)) (a b c : Option (List ℕ)) (stop : Stop)
-    → taken ≡ inside → record { waiting = waiting; document = held inside } ≡ self
-    → Came (Moves rules paints writer) (record { waiting = waiting; document = held taken }) (record { waiting = []; document = mid }) a b
-    → Stopped stop (MadeFrom (Moves rules paints writer) (record { waiting = []; document = mid })) b c
-    → Stopped stop (Begun rules paints writer self) a c
-settle_stopped {C} {B} {S} rules paints waiting taken inside self mid a b c stop same is first later =
-    let s : Seen S = record { waiting = waiting; document = held taken } in
-    subst (λ (x : Seen S). Stopped stop (Begun rules paints writer x) a c) (same_world waiting taken inside self same is)
-    (begun_of rules paints s a c stop (stopped_later (Moves rules paints writer) s (record { waiting = []; document = mid }) a b c stop first later))
+idle_same : {C B S : Type 0} (rules : Rules C B) (paints : S → Pixels) (waiting : List Waiting) (old : House S) (out : List ℕ) (rest : List Waiting) (new : House S) → PollTurn rules paints waiting old out false rest new → (rest ≡ waiting) × (waiting ≡ []) × (new ≡ old)
+idle_same {C} {B} {S} rules paints [] old out rest new turn =
+    let lacks : turn.turned ≡ false = sym turn.worked_is in
+    let document : new.document ≡ turn.mid.document = first_same rules paints turn.mid.seats turn.mid.document turn.later new.document turn.turned turn.turns lacks in
+    let same : new ≡ turn.mid = same_house new turn.mid turn.stays document in
+    (turn.takes.0, refl, same ∙ turn.takes.2)
+idle_same rules paints (event ∷ events) old out rest new turn =
+    let odd : false ≡ true = turn.worked_is ∙ ap (λ (b : Bool). b || turn.turned) (some_wait event events) in absurd (cc)
+
+rests_by : {C B S : Type 0} (rules : Rules C B) (paints : S → Pixels) (seats : Seats) (document : Option (Document S)) (out : List ℕ) (new : Option (Document S)) (turned : Bool) → TurnsDocument rules paints seats document out turned new → turned ≡ false → RestsNow rules new
+rests_by rules paints seats None out new turned goes lacks = subst (RestsNow rules) (sym goes.2) tt
+rests_by rules paints seats (Some d) out new true goes lacks = absurd (cc)
+rests_by rules paints seats (Some d) out new false goes lacks = subst (RestsNow rules) (sym goes.2) goes.1
+
+-- where a poll turn did nothing, the next would do nothing either
+pub idle_rests : {C B S : Type 0} (rules : Rules C B) (paints : S → Pixels) (waiting : List Waiting) (old : House S) (worked : Bool) (rest : List Waiting) (new : House S) (b c : Option (List ℕ))
+    → TurnWritten rules paints waiting old worked rest new b c → worked ≡ false → (rest ≡ []) × RestsNow rules new.document
+idle_rests rules paints waiting old true rest new b c written lacks = absurd (cc)
+idle_rests rules paints [] old false rest new b c written lacks =
+    let turn = written.done in
+    (turn.takes.0, rests_by rules paints turn.mid.seats turn.mid.document turn.later new.document turn.turned turn.turns (sym turn.worked_is))
+idle_rests rules paints (event ∷ events) old false rest new b c written lacks =
+    let turn = written.done in
+    let odd : false ≡ true = turn.worked_is ∙ ap (λ (b : Bool). b || turn.turned) (some_wait event events) in absurd (cc)
+
+pub turn_came : {C B S : Type 0} (rules : Rules C B) (paints : S → Pixels) (waiting : List Waiting) (old : House S) (worked : Bool) (rest : List Waiting) (new : House S) (b c : Option (List ℕ))
+    → TurnWritten rules paints waiting old worked rest new b c → Came (Moves rules paints) (record { waiting = waiting; house = old }) (record { waiting = rest; house = new }) b c
+turn_came rules paints waiting old true rest new b c written =
+    came_one (Moves rules paints) Turn (record { waiting = waiting; house = old }) written.out (record { waiting = rest; house = new }) b c written.done written.added
+turn_came {C} {B} {S} rules paints waiting old false rest new b c written =
+    let same = idle_same rules paints waiting old written.out rest new written.done in
+    let none : written.out ≡ [] = idle_out rules paints waiting old written.out rest new written.done in
+    record {
+      moves = [];
+      out = written.out;
+      chain = (none, ap (λ (w : List Waiting). record { waiting = w; house = new }) same.0 ∙ ap (λ (h : House S). record { waiting = waiting; house = h }) same.2);
+      added = written.added;
+    }
+
+-- one turn more
+pub turn_more : {C B S : Type 0} (rules : Rules C B) (paints : S → Pixels) (start : Seen S) (waiting : List Waiting) (old : House S) (worked : Bool) (rest : List Waiting) (new : House S) (a b c : Option (List ℕ))
+    → Came (Moves rules paints) start (record { waiting = waiting; house = old }) a b → TurnWritten rules paints waiting old worked rest new b c
+    → Came (Moves rules paints) start (record { waiting = rest; house = new }) a c
+turn_more rules paints start waiting old worked rest new a b c first written =
+    came_joined (Moves rules paints) start (record { waiting = waiting; house = old }) (record { waiting = rest; house = new }) a b c first (turn_came rules paints waiting old worked rest new b c written)
+
+-- fewer events wait
+pub turn_fewer : {C B S : Type 0} (rules : Rules C B) (paints : S → Pixels) (waiting : List Waiting) (old : House S) (worked : Bool) (rest : List Waiting) (new : House S) (b c : Option (List ℕ))
+    → TurnWritten rules paints waiting old worked rest new b c → 0 < length waiting → length rest < length waiting
+turn_fewer rules paints [] old worked rest new b c written some = absurd (omega (arith, some))
+turn_fewer rules paints (event ∷ events) old worked rest new b c written some = let same : length rest ≡ length events = ap length written.done.takes.0 in omega (arith, same)
+
+-- what a turn of the document leaves to do
+pub document_left : {C B S : Type 0} (rules : Rules C B) (paints : S → Pixels) (seats : Seats) (old : Option (Document S)) (out : List ℕ) (worked : Bool) (new : Option (Document S))
+    → IsHousedBy rules seats old → TurnsDocument rules paints seats old out worked new → left_of rules new + cond worked 1 0 ≤ left_of rules old
+document_left rules paints seats None out worked new housed goes =
+    let same : left_of rules new ≡ 0 = ap (left_of rules) goes.2 in
+    let none : ◌≡◌ {A = ℕ} (cond worked 1 0) 0 = ap (λ (b : Bool). cond {A = ℕ} b 1 0) goes.1 in
+    omega (arith, same, none)
+document_left {C} {B} {S} rules paints seats (Some d) out true new housed goes =
+    let now : Document S = goes.0 in
+    let works : WorksAtOnce rules paints d goes.1 now = goes.2 in
+    let less : left_to_do rules now < left_to_do rules d = (at_once_lowers rules paints d works.mid now works.first works.later works.works housed.none_out housed.whole.kept works.answered).1 in
+    let same : left_of rules new ≡ left_to_do rules now = ap (left_of rules) goes.4 in
+    omega (arith, less, same)
+document_left rules paints seats (Some d) out false new housed goes = let same : left_of rules new ≡ left_to_do rules d = ap (left_of rules) goes.2 in omega (arith, same)
+
+-- where no event waits, a poll turn that works leaves less to do
+pub bare_left : {C B S : Type 0} (rules : Rules C B) (paints : S → Pixels) (waiting : List Waiting) (old : House S) (worked : Bool) (rest : List Waiting) (new : House S) (b c : Option (List ℕ))
+    → waiting ≡ [] → IsHoused rules old → TurnWritten rules paints waiting old worked rest new b c → (rest ≡ []) × (left_of rules new.document + cond worked 1 0 ≤ left_of rules old.document)
+bare_left {C} {B} {S} rules paints [] old worked rest new b c none housed written =
+    let turn = written.done in
+    let mid : IsHoused rules turn.mid = subst (IsHoused rules) (sym turn.takes.2) housed in
+    let less : left_of rules new.document + cond turn.turned 1 0 ≤ left_of rules turn.mid.document = document_left rules paints turn.mid.seats turn.mid.document turn.later turn.turned new.document mid turn.turns in
+    let was : left_of rules turn.mid.document ≡ left_of rules old.document = ap (λ (h : House S). left_of rules h.document) turn.takes.2 in
+    let same : ◌≡◌ {A = ℕ} (cond worked 1 0) (cond turn.turned 1 0) = ap (λ (b : Bool). cond {A = ℕ} b 1 0) turn.worked_is in
+    (turn.takes.0, omega (arith, less, was, same))
+bare_left rules paints (event ∷ events) old worked rest new b c none housed written = absurd (cc)
+
+-- an acknowledgement never leaves more to do
+said_left : {C B S : Type 0} (rules : Rules C B) (paints : S → Pixels) (old : House S) (link : ℕ) (text : List ℕ) (found : Option (Document S × ℕ)) (out : List ℕ) (new : House S) (wids : List ℕ)
+    → seated old link ≡ found → reading text ≡ Ok (TileProcessed wids) → SaysAs rules paints old link text found out new → left_of rules new.document ≤ left_of rules old.document
+said_left {C} {B} {S} rules paints old link text None out new wids is read says =
+    let same : left_of rules new.document ≡ left_of rules old.document = ap (λ (h : House S). left_of rules h.document) says.1 in omega (arith, same)
+said_left {C} {B} {S} rules paints old link text (Some seat) out new wids is read says =
+    let d : Document S = seat.0 in
+    let acknowledged = said_acknowledges rules d seat.1 wids text says.1 says.0 read says.2 in
+    let less : left_to_do rules (took rules d seat.1 (Acknowledges wids)) ≤ left_to_do rules d = acknowledging_adds_nothing rules d seat.1 wids in
+    let now : left_to_do rules says.0 ≡ left_to_do rules (took rules d seat.1 (Acknowledges wids)) = ap (left_to_do rules) acknowledged.1 in
+    let new_is : left_of rules new.document ≡ left_to_do rules says.0 = ap (λ (h : House S). left_of rules h.document) says.3 in
+    let was : left_of rules old.document ≡ left_to_do rules d = ap (left_of rules) (found_document old.document _ seat is).0 in
+    omega (arith, less, now, new_is, was)
+
+event_left : {C B S : Type 0} (rules : Rules C B) (paints : S → Pixels) (event : Waiting) (old : House S) (out : List ℕ) (new : House S)
+    → IsAcknowledgement event → TakesOne rules paints event old out new → left_of rules new.document ≤ left_of rules old.document
+event_left rules paints (Opened link) old out new acks takes = absurd acks
+event_left rules paints (Loads link file writes) old out new acks takes = absurd acks
+event_left rules paints (Gone link) old out new acks takes = absurd acks
+event_left rules paints (Says link text) old out new acks takes = said_left rules paints old link text (seated old link) out new acks.0 refl acks.1 takes
+
+pub acks_left : {C B S : Type 0} (rules : Rules C B) (paints : S → Pixels) (keeps : Keeps rules paints) (waiting : List Waiting) (old : House S) (worked : Bool) (rest : List Waiting) (new : House S) (b c : Option (List ℕ))
+    → IsHoused rules old → AllAcknowledge waiting → TurnWritten rules paints waiting old worked rest new b c → AllAcknowledge rest × (left_of rules new.document ≤ left_of rules old.document)
+acks_left rules paints keeps [] old worked rest new b c housed acks written =
+    let less = bare_left rules paints [] old worked rest new b c refl housed written in
+    (subst AllAcknowledge (sym less.0) tt, omega (arith, less.1))
+acks_left rules paints keeps (event ∷ events) old worked rest new b c housed acks written =
+    let turn = written.done in
+    let mid : IsHoused rules turn.mid = first_housed rules paints keeps (event ∷ events) old turn.here rest turn.mid housed turn.takes in
+    let first : left_of rules turn.mid.document ≤ left_of rules old.document = event_left rules paints event old turn.here turn.mid acks.0 turn.takes.1 in
+    let later = document_left rules paints turn.mid.seats turn.mid.document turn.later turn.turned new.document mid turn.turns in
+    (subst AllAcknowledge (sym turn.takes.0) acks.1, omega (arith, first, later))
+
+append-nil-moves : (ms : List Move) → ms ++ [] ≡ ms
+append-nil-moves [] = refl
+append-nil-moves (m ∷ ms) = ap (λ (xs : List Move). m ∷ xs) (append-nil-moves ms)
+
+-- the same where no event waits
+pub bare_more : {C B S : Type 0} (rules : Rules C B) (paints : S → Pixels) (start : Seen S) (waiting : List Waiting) (old : House S) (worked : Bool) (rest : List Waiting) (new : House S) (a b c : Option (List ℕ))
+    → waiting ≡ [] → rest ≡ [] → Came (Moves rules paints) start (record { waiting = []; house = old }) a b → TurnWritten rules paints waiting old worked rest new b c
+    → Came (Moves rules paints) start (record { waiting = []; house = new }) a c
+bare_more {C} {B} {S} rules paints start waiting old worked rest new a b c none still first written =
+    subst (λ (w : List Waiting). Came (Moves rules paints) start (record { waiting = w; house = new }) a c) still
+    (turn_more rules paints start waiting old worked rest new a b c (subst (λ (w : List Waiting). Came (Moves rules paints) start (record { waiting = w; house = old }) a b) (sym none) first) written)
+
+pub bare_stopped : {C B S : Type 0} (rules : Rules C B) (paints : S → Pixels) (start : Seen S) (waiting : List Waiting) (old : House S) (a b c : Option (List ℕ)) (stop : Stop)
+    → waiting ≡ [] → Came (Moves rules paints) start (record { waiting = []; house = old }) a b → Stopped stop (MadeFrom (Moves rules paints) (record { waiting = waiting; house = old })) b c
+    → Stopped stop (MadeFrom (Moves rules paints) start) a c
+bare_stopped {C} {B} {S} rules paints start waiting old a b c stop none first later =
+    stopped_later (Moves rules paints) start (record { waiting = waiting; house = old }) a b c stop
+    (subst (λ (w : List Waiting). Came (Moves rules paints) start (record { waiting = w; house = old }) a b) (sym none) first) later
+
+-- so many turns and one more
+turns_more : (n : ℕ) → turns (suc n) ≡ turns n ++ Turn ∷ []
+turns_more zero = refl
+turns_more (suc n) = ap (λ (ms : List Move). Turn ∷ ms) (turns_more n)
+
+pub made_none : {C B S : Type 0} (rules : Rules C B) (paints : S → Pixels) (s : Seen S) (a : Option (List ℕ)) → MadeTurns rules paints 0 s s a a
+made_none rules paints s a = record { out = []; chain = (refl, refl); added = adds_nothing a }
+
+pub made_more : {C B S : Type 0} (rules : Rules C B) (paints : S → Pixels) (made : ℕ) (start : Seen S) (waiting : List Waiting) (old : House S) (worked : Bool) (rest : List Waiting) (new : House S) (a b c : Option (List ℕ))
+    → worked ≡ true → MadeTurns rules paints made start (record { waiting = waiting; house = old }) a b → TurnWritten rules paints waiting old worked rest new b c
+    → MadeTurns rules paints (suc made) start (record { waiting = rest; house = new }) a c
+made_more rules paints made start waiting old false rest new a b c works first written = absurd (cc)
+made_more {C} {B} {S} rules paints made start waiting old true rest new a b c works first written =
+    let t : Seen S = record { waiting = rest; house = new } in
+    let s : Seen S = record { waiting = waiting; house = old } in
+    record {
+      out = first.out ++ written.out;
+      chain = subst (λ (ms : List Move). Chain (Moves rules paints) ms start (first.out ++ written.out) t) (sym (turns_more made))
+          (chain_joined (Moves rules paints) start (turns made) first.out s (Turn ∷ []) written.out t first.chain (chain_one (Moves rules paints) Turn s written.out t written.done));
+      added = adds_more a b c first.out written.out first.added written.added;
+    }
+
+-- all turns are made
+pub made_all : {C B S : Type 0} (rules : Rules C B) (paints : S → Pixels) (made count : ℕ) (s t : Seen S) (a b : Option (List ℕ)) → made ≡ count → MadeTurns rules paints made s t a b → TurnedTo rules paints count s t a b
+made_all rules paints made count s t a b is turned = record { out = turned.out; done = record { made = made; follows = turned.chain; all = inl is }; added = turned.added }
+
+-- a turn did nothing
+pub made_some : {C B S : Type 0} (rules : Rules C B) (paints : S → Pixels) (made count : ℕ) (start : Seen S) (waiting : List Waiting) (old : House S) (worked : Bool) (rest : List Waiting) (new : House S) (a b c : Option (List ℕ))
+    → made < count → worked ≡ false → MadeTurns rules paints made start (record { waiting = waiting; house = old }) a b → TurnWritten rules paints waiting old worked rest new b c
+    → TurnedTo rules paints count start (record { waiting = rest; house = new }) a c
+made_some rules paints made count start waiting old true rest new a b c below idle first written = absurd (cc)
+made_some {C} {B} {S} rules paints made count start waiting old false rest new a b c below idle first written =
+    let same = idle_same rules paints waiting old written.out rest new written.done in
+    let none : written.out ≡ [] = idle_out rules paints waiting old written.out rest new written.done in
+    let t : Seen S = record { waiting = rest; house = new } in
+    let s : Seen S = record { waiting = waiting; house = old } in
+    let t_is : t ≡ s = ap (λ (w : List Waiting). record { waiting = w; house = new }) same.0 ∙ ap (λ (h : House S). record { waiting = waiting; house = h }) same.2 in
+    record {
+      out = first.out ++ written.out;
+      done = record {
+        made = made;
+        follows = subst (λ (ms : List Move). Chain (Moves rules paints) ms start (first.out ++ written.out) t) (append-nil-moves (turns made))
+            (chain_joined (Moves rules paints) start (turns made) first.out s [] written.out t first.chain (none, t_is));
+        all = inr (below, idle_rests rules paints waiting old false rest new b c written refl);
+      };
+      added = adds_more a b c first.out written.out first.added written.added;
+    }
+
+pub made_stopped : {C B S : Type 0} (rules : Rules C B) (paints : S → Pixels) (made : ℕ) (start s : Seen S) (a b c : Option (List ℕ)) (stop : Stop)
+    → MadeTurns rules paints made start s a b → Stopped stop (MadeFrom (Moves rules paints) s) b c → Stopped stop (MadeFrom (Moves rules paints) start) a c
+made_stopped rules paints made start s a b c stop turned later =
+    stopped_later (Moves rules paints) start s a b c stop (record { moves = turns made; out = turned.out; chain = turned.chain; added = turned.added }) later
+
+pub made_further : {C B S : Type 0} (rules : Rules C B) (paints : S → Pixels) (made : ℕ) (start : Seen S) (waiting : List Waiting) (old : House S) (worked : Bool) (rest : List Waiting) (new : House S) (a b c : Option (List ℕ))
+    → worked ≡ true → MadeTurns rules paints made start (record { waiting = waiting; house = old }) a b → TurnWritten rules paints waiting old worked rest new b c
+    → MadeTurns rules paints (made + 1) start (record { waiting = rest; house = new }) a c
+made_further {C} {B} {S} rules paints made start waiting old worked rest new a b c works first written =
+    let one : suc made ≡ made + 1 = omega arith in
+    subst (λ (n : ℕ). MadeTurns rules paints n start (record { waiting = rest; house = new }) a c) one (made_more rules paints made start waiting old worked rest new a b c works first written)
+
+-- one turn more of acknowledgements
+pub acks_more : {C B S : Type 0} (rules : Rules C B) (paints : S → Pixels) (keeps : Keeps rules paints) (all waiting : List Waiting) (start : ℕ) (old : House S) (worked : Bool) (rest : List Waiting) (new : House S) (b c : Option (List ℕ))
+    → IsHoused rules old → (AllAcknowledge all → AllAcknowledge waiting × (left_of rules old.document ≤ start)) → TurnWritten rules paints waiting old worked rest new b c
+    → AllAcknowledge all → AllAcknowledge rest × (left_of rules new.document ≤ start)
+acks_more rules paints keeps all waiting start old worked rest new b c housed so_far written acks =
+    let was = so_far acks in
+    let now = acks_left rules paints keeps waiting old worked rest new b c housed was.0 written in
+    (now.0, omega (arith, was.1, now.1))
+
+-- some moves, as what was begun
+pub begun_of : {C B S : Type 0} (rules : Rules C B) (paints : S → Pixels) (s : Seen S) (a b : Option (List ℕ)) (stop : Stop)
+    → Stopped stop (MadeFrom (Moves rules paints) s) a b → Stopped stop (Begun rules paints s) a b
+begun_of rules paints s a b stop x = record {
+  made = x.made;
+  part = x.part;
+  is_made = record { moves = x.is_made.0; mid = x.is_made.1; follows = x.is_made.2 };
+  cut = x.cut;
+  added = x.added;
+}

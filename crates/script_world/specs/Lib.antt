@@ -1,2 +1,7 @@
+pub mod Seats
+pub mod House
+pub mod Taken
+pub mod Answered
 pub mod World
+
 pub mod Moved

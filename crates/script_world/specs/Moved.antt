@@ -1,15 +1,17 @@
 -- Moves that were made, with what they wrote to a sink.
-use Rattle.std.specs.Prelude.{ℕ, ◌≡◌, List, Option, None, Some, Bool, false}
-use Rattle.document_machine.specs.AtOnce.{Empties}
-use Rattle.document_machine.specs.Quiet.{left_to_do}
+use Rattle.std.specs.Prelude.{ℕ, ◌≡◌, ◌<◌, ◌^◌, List, [], Option, None, Some, Bool, Result, Ok, Err}
+use Rattle.std.specs.List.{AllByRecursion}
+use Rattle.cool_message.specs.Reading.{reading}
+use Rattle.cool_message.specs.declared.message.ClientMessage.TheVariants.{TileProcessed}
+use Rattle.document_machine.specs.Rank.{left_to_do}
 use Rattle.document_machine.specs.State.{Document}
-use Rattle.document_machine.specs.Step.{Rests}
-use Rattle.document_machine.specs.declared.rights.Rights.{Rights}
 use Rattle.kit_trait.specs.Rules.{Rules}
 use Rattle.kit_trait.specs.declared.values.Pixels.{Pixels}
 use Rattle.outside.specs.Streams.{Adds}
-use Rattle.script_world.specs.World.{Chain, EventDone, TurnsOne}
+use Rattle.script_world.specs.House.{House, PollTurn, window_in}
+use Rattle.script_world.specs.World.{Seen, Chain, Moves, turns, Turned}
 use Rattle.script_world.specs.declared.event.Waiting.{Waiting}
+use Rattle.script_world.specs.declared.event.Waiting.TheVariants.{Opened, Loads, Says, Gone}
 
 -- the moves so far, and all that they wrote is in the sink
 pub record Came {M X : Type 0} (step : M → X → List ℕ → X → Type 0) (s : X) (t : X) (old new : Option (List ℕ)) : Type 0 where
@@ -22,29 +24,40 @@ pub record Came {M X : Type 0} (step : M → X → List ℕ → X → Type 0) (s
 abbrev pub MadeFrom : {M X : Type 0} → (M → X → List ℕ → X → Type 0) → X → List ℕ → Type 0
 MadeFrom {M} {X} step s out = (moves : List M) × (t : X) × Chain step moves s out t
 
--- an event with its turn is done and written
-pub record EventWritten {C B S : Type 0} (rules : Rules C B) (paints : S → Pixels) (rights : Rights) (event : Waiting) (old new : Option (Document S)) (before now : Option (List ℕ)) : Type 0 where
+-- a poll turn is done and written
+pub record TurnWritten {C B S : Type 0} (rules : Rules C B) (paints : S → Pixels) (waiting : List Waiting) (old : House S) (worked : Bool) (rest : List Waiting) (new : House S) (before now : Option (List ℕ)) : Type 0 where
   pub out : List ℕ
-  pub done : EventDone rules paints rights event old out new
+  pub done : PollTurn rules paints waiting old out worked rest new
   pub added : Adds before out now
 
--- a turn is done and written
-pub record TurnWritten {C B S : Type 0} (rules : Rules C B) (paints : S → Pixels) (old : Option (Document S)) (worked : Bool) (new : Option (Document S)) (before now : Option (List ℕ)) : Type 0 where
-  pub out : List ℕ
-  pub done : TurnsOne rules paints old out worked new
-  pub added : Adds before out now
-
--- the view, if there is one, acknowledged its tiles
-abbrev pub Emptied : {S : Type 0} → Option (Document S) → Bool → Option (Document S) → Type 0
-Emptied None had new = (had ≡ false) × (new ≡ None)
-Emptied {S} (Some old) had new = (d : Document S) × Empties old had d × (new ≡ Some d)
-
--- a turn would do nothing
-abbrev pub RestsNow : {C B S : Type 0} → Rules C B → Option (Document S) → Type 0
-RestsNow rules None = Unit {0}
-RestsNow rules (Some d) = Rests rules d
+-- the event is a text that acknowledges tiles
+abbrev pub IsAcknowledgement : Waiting → Type 0
+IsAcknowledgement (Opened link) = ⊥
+IsAcknowledgement (Loads link file writes) = ⊥
+IsAcknowledgement (Says link text) = (wids : List ℕ) × (reading text ≡ Ok (TileProcessed wids))
+IsAcknowledgement (Gone link) = ⊥
 
 -- how much the document has left to do
-abbrev pub left_of : {S : Type 0} → Option (Document S) → ℕ
-left_of None = 0
-left_of (Some d) = left_to_do d
+abbrev pub left_of : {C B S : Type 0} → Rules C B → Option (Document S) → ℕ
+left_of rules None = 0
+left_of rules (Some d) = left_to_do rules d
+
+-- all these events are
+abbrev pub AllAcknowledge : List Waiting → Type 0
+AllAcknowledge events = AllByRecursion IsAcknowledgement events
+
+-- so many poll turns that work, and all that they wrote is in the sink
+pub record MadeTurns {C B S : Type 0} (rules : Rules C B) (paints : S → Pixels) (made : ℕ) (s t : Seen S) (old new : Option (List ℕ)) : Type 0 where
+  pub out : List ℕ
+  pub chain : Chain (Moves rules paints) (turns made) s out t
+  pub added : Adds old out new
+
+-- so many poll turns, or fewer up to one that would do nothing, are done and written
+pub record TurnedTo {C B S : Type 0} (rules : Rules C B) (paints : S → Pixels) (count : ℕ) (s t : Seen S) (old new : Option (List ℕ)) : Type 0 where
+  pub out : List ℕ
+  pub done : Turned rules paints count s out t
+  pub added : Adds old out new
+
+-- the windows of these seats hold numbers below 2^64
+abbrev pub AreSmall : {S : Type 0} → Option (Document S) → List (ℕ × ℕ) → Type 0
+AreSmall document views = AllByRecursion (λ seat. AllByRecursion (λ n. n < 2 ^ 64) (window_in document seat.1)) views

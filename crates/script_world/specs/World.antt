@@ -1,104 +1,56 @@
--- The world of a script: one link, at most one document, and the events that wait. It is said by the
--- document machine's steps, for any kit.
-use Rattle.std.specs.Prelude.{ℕ, ◌≡◌, List, [], ◌∷◌, ◌++◌, codes, Option, None, Some, Bool, true, false}
-use Rattle.std.specs.List.{flat_map}
-use Rattle.std.specs.Option.{is_some}
-use Rattle.cool_base.specs.declared.ids.ViewId.{ViewId}
-use Rattle.cool_frame.specs.Frames.{frame_bytes}
-use Rattle.cool_frame.specs.declared.frame.Frame.{Frame}
-use Rattle.cool_frame.specs.declared.frame.Frame.TheVariants.{Server, Error}
-use Rattle.cool_frame.specs.declared.kind.ErrorKind.TheVariants.{BadFile}
-use Rattle.script_world.specs.declared.event.Waiting.{Waiting}
-use Rattle.script_world.specs.declared.event.Waiting.TheVariants.{Opened, Greets, Loads, Says}
-use Rattle.document_machine.specs.AtOnce.{TurnsAtOnce, Empties}
-use Rattle.document_machine.specs.Event.{Joined, Said}
-use Rattle.document_machine.specs.Quiet.{IsQuiet}
-use Rattle.document_machine.specs.State.{Document, opening, find_view}
-use Rattle.document_machine.specs.Step.{Step, Rests}
-use Rattle.document_machine.specs.declared.outs.Outs.{Outs}
-use Rattle.document_machine.specs.declared.rights.Rights.{Rights}
+-- The world of a script: one poll, and the events that wait.
+use Rattle.std.specs.Prelude.{ℕ, zero, suc, ◌≡◌, ◌<◌, List, [], ◌∷◌, ◌++◌, length, map, codes, Bool, Option, None, Some, ◌⊎◌, true}
+use Rattle.std.specs.Fmt.{decimal}
+use Rattle.document_machine.specs.Quiet.{IsQuiet, AllRight}
+use Rattle.document_machine.specs.State.{Document}
+use Rattle.document_machine.specs.Step.{Rests}
 use Rattle.kit_trait.specs.Rules.{Rules}
 use Rattle.kit_trait.specs.declared.values.Pixels.{Pixels}
-use Rattle.script_lines.specs.Records.{record_of}
+use Rattle.script_world.specs.House.{House, PollTurn, acknowledgements}
+use Rattle.script_world.specs.Seats.{nobody}
+use Rattle.script_world.specs.declared.event.Waiting.{Waiting}
+use Rattle.script_world.specs.declared.event.Waiting.TheVariants.{Opened, Loads, Says}
 
--- what waits in the order of its coming, and the document once its load was taken
+-- what waits in the order of its coming, and who and what is there
 pub record Seen (S : Type 0) : Type 0 where
   pub waiting : List Waiting
-  pub document : Option (Document S)
+  pub house : House S
 
--- nothing waits, and no document is loaded
+-- nothing waits, nobody is there, and no document is loaded
 abbrev pub unopened : {S : Type 0} → Seen S
-unopened = record { waiting = []; document = None }
+unopened = record { waiting = []; house = record { seats = nobody; document = None } }
 
--- the one link may write
-abbrev pub writer : Rights
-writer = record { can_write = true }
+-- what `open` lets come: the link is there, greets, and loads the file
+abbrev pub opening_events : ℕ → List ℕ → Bool → List Waiting
+opening_events link file writes = Opened link ∷ Says link (codes "coolclient 0.1") ∷ Loads link file writes ∷ []
 
--- a broker that was given up shows no document
-abbrev pub held : {S : Type 0} → Option (Option (Document S)) → Option (Document S)
-held None = None
-held (Some document) = document
+-- the message of a key for a character
+abbrev pub key_text : ℕ → List ℕ
+key_text character = codes "key type=input char=" ++ (decimal character ++ codes " key=0")
 
--- the records of frames to the one link
-abbrev pub records : List (ViewId × Frame) → List ℕ
-records frames = flat_map (λ frame. record_of 1 (frame_bytes frame.1)) frames
+-- what `type` lets come: one message of a key for each character
+abbrev pub typed_events : ℕ → List ℕ → List Waiting
+typed_events link typed = map (λ character. Says link (key_text character)) typed
 
--- a file that the kit refuses
-abbrev pub bad_file : Frame
-bad_file = Error (codes "load") BadFile None
+-- a turn of the document, if there is one, would do nothing
+abbrev pub RestsNow : {C B S : Type 0} → Rules C B → Option (Document S) → Type 0
+RestsNow rules None = Unit {0}
+RestsNow rules (Some d) = Rests rules d
 
--- A load begins the document over no bytes, and the view joins it; or the kit refuses no bytes as a file.
-abbrev pub LoadsWhere : {C B S : Type 0} → Bool → Rules C B → (S → Pixels) → Rights → List ℕ → Option (Document S) → Type 0
-LoadsWhere {C} {B} {S} true rules paints rights out new = (d : Document S) × (outs : Outs S)
-    × Step rules paints (opening []) (Joined rights) outs d × (out ≡ records outs.frames) × (new ≡ Some d)
-LoadsWhere false rules paints rights out new = (out ≡ record_of 1 (frame_bytes bad_file)) × (new ≡ None)
+-- a poll turn would do nothing
+abbrev pub IsIdle : {C B S : Type 0} → Rules C B → Seen S → Type 0
+IsIdle rules s = (s.waiting ≡ []) × RestsNow rules s.house.document
 
--- A message is that of the live view; without one it changes nothing.
-abbrev pub SaysWhere : {C B S : Type 0} → Bool → Rules C B → (S → Pixels) → List ℕ → Document S → List ℕ → Option (Document S) → Type 0
-SaysWhere {C} {B} {S} true rules paints text old out new = (d : Document S) × (outs : Outs S)
-    × Step rules paints old (Said 0 text) outs d × (out ≡ records outs.frames) × (new ≡ Some d)
-SaysWhere false rules paints text old out new = (out ≡ []) × (new ≡ Some old)
-
--- Taking one event: the greeting is answered, a load begins the document, a message is the view's. Without
--- a document a message changes nothing.
-abbrev pub TakesOne : {C B S : Type 0} → Rules C B → (S → Pixels) → Rights → Waiting → Option (Document S) → List ℕ → Option (Document S) → Type 0
-TakesOne rules paints rights Opened old out new = (out ≡ []) × (new ≡ old)
-TakesOne rules paints rights Greets old out new = (out ≡ record_of 1 (frame_bytes Server)) × (new ≡ old)
-TakesOne rules paints rights (Loads file) old out new = LoadsWhere (rules.accepts []) rules paints rights out new
-TakesOne rules paints rights (Says text) None out new = (out ≡ []) × (new ≡ None)
-TakesOne rules paints rights (Says text) (Some old) out new = SaysWhere (is_some (find_view old.views 0)) rules paints text old out new
-
--- One turn of the document, its jobs painted and answered at once: what it wrote and that it worked; or it
--- rests, and so does a world without a document.
-abbrev pub TurnsOne : {C B S : Type 0} → Rules C B → (S → Pixels) → Option (Document S) → List ℕ → Bool → Option (Document S) → Type 0
-TurnsOne rules paints None out worked new = (out ≡ []) × (worked ≡ false) × (new ≡ None)
-TurnsOne {C} {B} {S} rules paints (Some old) out true new = (d : Document S) × (frames : List (ViewId × Frame))
-    × TurnsAtOnce rules paints old (Some frames) d × (out ≡ records frames) × (new ≡ Some d)
-TurnsOne rules paints (Some old) out false new = (out ≡ []) × Rests rules old × (new ≡ Some old)
-
--- an event and directly behind it one turn
-pub record EventDone {C B S : Type 0} (rules : Rules C B) (paints : S → Pixels) (rights : Rights) (event : Waiting) (old : Option (Document S)) (out : List ℕ) (new : Option (Document S)) : Type 0 where
-  pub mid : Option (Document S)
-  pub here : List ℕ
-  pub later : List ℕ
-  pub worked : Bool
-  pub takes : TakesOne rules paints rights event old here mid
-  pub turns : TurnsOne rules paints mid later worked new
-  pub is : out ≡ here ++ later
-
--- What settling does next: the first event that waits and then one turn; or, where none waits, a turn that
--- works; or, where the document rests, the view acknowledges its tiles.
+-- A move: a poll turn that works; or, where a poll turn would do nothing, the acknowledgements of all tiles come to
+-- wait, where there are some.
 pub data Move : Type 0 where
-  Event : Move
-  Work : Move
-  Empty : Move
+  Turn : Move
+  Acknowledge : Move
 
-abbrev pub Moves : {C B S : Type 0} → Rules C B → (S → Pixels) → Rights → Move → Seen S → List ℕ → Seen S → Type 0
-Moves rules paints rights Event s out t = (event : Waiting)
-    × (s.waiting ≡ event ∷ t.waiting) × EventDone rules paints rights event s.document out t.document
-Moves rules paints rights Work s out t = (s.waiting ≡ []) × (t.waiting ≡ []) × TurnsOne rules paints s.document out true t.document
-Moves {C} {B} {S} rules paints rights Empty s out t = (old : Document S) × (new : Document S)
-    × (s ≡ record { waiting = []; document = Some old }) × Rests rules old × Empties old true new × (out ≡ []) × (t ≡ record { waiting = []; document = Some new })
+abbrev pub Moves : {C B S : Type 0} → Rules C B → (S → Pixels) → Move → Seen S → List ℕ → Seen S → Type 0
+Moves rules paints Turn s out t = PollTurn rules paints s.waiting s.house out true t.waiting t.house
+Moves rules paints Acknowledge s out t =
+    IsIdle rules s × (0 < length (acknowledgements s.house)) × (out ≡ []) × (t ≡ record s { waiting = acknowledgements s.house })
 
 -- moves one after the other, and what they wrote
 abbrev pub Chain : {M X : Type 0} → (M → X → List ℕ → X → Type 0) → List M → X → List ℕ → X → Type 0
@@ -106,23 +58,31 @@ Chain step [] s out t = (out ≡ []) × (t ≡ s)
 Chain {M} {X} step (move ∷ moves) s out t = (mid : X) × (here : List ℕ) × (later : List ℕ)
     × step move s here mid × Chain step moves mid later t × (out ≡ here ++ later)
 
-abbrev pub Follows : {C B S : Type 0} → Rules C B → (S → Pixels) → Rights → List Move → Seen S → List ℕ → Seen S → Type 0
-Follows rules paints rights moves s out t = Chain (Moves rules paints rights) moves s out t
+-- so many poll turns that work
+abbrev pub turns : ℕ → List Move
+turns zero = []
+turns (suc n) = Turn ∷ turns n
 
--- the document, if there is one, is quiet
+-- So many poll turns are made, or fewer up to one that would do nothing.
+pub record Turned {C B S : Type 0} (rules : Rules C B) (paints : S → Pixels) (count : ℕ) (s : Seen S) (out : List ℕ) (t : Seen S) : Type 0 where
+  pub made : ℕ
+  pub follows : Chain (Moves rules paints) (turns made) s out t
+  pub all : (made ≡ count) ⊎ ((made < count) × IsIdle rules t)
+
+-- the document, if there is one, is quiet, and all that its views see or asked for is right
 abbrev pub IsAtRest : {C B S : Type 0} → Rules C B → Option (Document S) → Type 0
 IsAtRest rules None = Unit {0}
-IsAtRest rules (Some d) = IsQuiet rules d
+IsAtRest rules (Some d) = IsQuiet rules d × AllRight rules d
 
--- All that waits is done: nothing waits, and the document, if any, is quiet.
-pub record Settled {C B S : Type 0} (rules : Rules C B) (paints : S → Pixels) (rights : Rights) (s : Seen S) (out : List ℕ) (t : Seen S) : Type 0 where
+-- All that waits is done: moves up to where nothing waits and the document, if any, is quiet and right.
+pub record Settled {C B S : Type 0} (rules : Rules C B) (paints : S → Pixels) (s : Seen S) (out : List ℕ) (t : Seen S) : Type 0 where
   pub moves : List Move
-  pub follows : Follows rules paints rights moves s out t
+  pub follows : Chain (Moves rules paints) moves s out t
   pub none_waits : t.waiting ≡ []
-  pub rests : IsAtRest rules t.document
+  pub rests : IsAtRest rules t.house.document
 
 -- Some of it is done: moves from this state on write these bytes.
-pub record Begun {C B S : Type 0} (rules : Rules C B) (paints : S → Pixels) (rights : Rights) (s : Seen S) (out : List ℕ) : Type 0 where
+pub record Begun {C B S : Type 0} (rules : Rules C B) (paints : S → Pixels) (s : Seen S) (out : List ℕ) : Type 0 where
   pub moves : List Move
   pub mid : Seen S
-  pub follows : Follows rules paints rights moves s out mid
+  pub follows : Chain (Moves rules paints) moves s out mid

@@ -1,15 +1,15 @@
-//! What waits in the world until it settles.
+//! What waits in the world until a poll takes it.
 use cool_base::{FileId, ListOf};
 
-/// An event of the one link, in the order of its coming.
+/// An event of a link, in the one order of coming.
 #[derive(Drop)]
 pub enum Waiting {
     /// The link was opened.
-    Opened,
-    /// The link says `coolclient`.
-    Greets,
-    /// The link says `load` of the file.
-    Loads(FileId),
+    Opened(u32),
+    /// The link loads the file, and may write or not.
+    Loads(u32, FileId, bool),
     /// The link says the message.
-    Says(ListOf<u8>),
+    Says(u32, ListOf<u8>),
+    /// The link is gone.
+    Gone(u32),
 }

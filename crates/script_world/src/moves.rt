@@ -1,48 +1,83 @@
-//! The moves of settling: events with their turns, turns that work, and acknowledged tiles.
-ghost use Rattle.std.specs.Prelude.{◌≡◌, ◌≤◌, [], ◌∷◌, List, ℕ, IfOk, IfErr, Err, true, false};
+//! Poll turns, one after the other, with what they write.
+ghost use Rattle.std.specs.Prelude.{◌≡◌, ◌≤◌, [], ◌∷◌, List, IfOk, IfErr, Err};
 ghost use Rattle.outside.specs.Causes.{HasCause};
-ghost use Rattle.outside.specs.Streams.{Adds};
 ghost use Rattle.script_run.specs.Play.{Stopped};
-ghost use Rattle.script_world.specs.Moved.{Came, MadeFrom, EventWritten, TurnWritten, Emptied, RestsNow, left_of};
-ghost use Rattle.script_world.specs.World.{writer, held, Moves, IsAtRest};
+ghost use Rattle.script_world.specs.House.{held, IsHoused, PollTurn};
+ghost use Rattle.script_world.specs.Moved.{Came, MadeFrom, TurnedTo, TurnWritten, AllAcknowledge, left_of};
+ghost use Rattle.script_world.specs.World.{Moves, RestsNow};
 
 use crate::event::Waiting;
-use crate::takes::{Step, Turn, does, turns};
+use crate::seats::Seats;
+use crate::takes::{Step, takes};
+use crate::turning::{Turn, turns};
+use broker_core::Broker;
+use cool_base::Memory;
+use document_laws::steps_keep;
 use kit_trait::Kit;
 use outside::Sink;
 use script_lines::{Stop, write_whole};
-use solo_broker::Broker;
 use std::alloc::Global;
 use std::collections::VecDeque;
 
-/// The first event, with one turn behind it, and the records of both.
-fn one_event<K: Kit, T: Sink>(
+/// One event, and behind it one turn of the document, if there is one.
+fn event_turn<K: Kit>(
     alloc: Global,
     broker: Option<Broker<K>>,
+    seats: &mut Seats,
     event: Waiting,
-    sink: &mut T,
-) -> Result<Option<Broker<K>>, Stop>
-    ensures ok { IfOk result (λ new. EventWritten K.rules K.Scene.paints writer event (held broker) (held new) (T.written sink.old) (T.written sink.new)) }
-    ensures stop { IfErr result (λ stop. (rest : List Waiting) → Stopped stop (MadeFrom (Moves K.rules K.Scene.paints writer) (record { waiting = event ∷ rest; document = held broker })) (T.written sink.old) (T.written sink.new)) }
-    ensures cause { HasCause (T.faults sink.old) (T.faults sink.new) (result ≡ Err Stop.Sink) }
+) -> Result<Turn<K>, Memory>
+    requires { IsHoused K.rules (record { seats = seats.old; document = held broker }) }
+    ensures { IfOk result (λ turn. (rest : List Waiting) → PollTurn K.rules K.Scene.paints (event ∷ rest) (record { seats = seats.old; document = held broker }) turn.bytes.items turn.worked rest (record { seats = seats.new; document = held turn.broker })) }
 {
-    let done = does(alloc, broker, event)?;
-    let Step { broker, bytes } = done;
-    write_whole(sink, &bytes)?;
-    Ok(broker)
+    steps_keep::<K>();
+    let taken = takes(alloc, broker, seats, event)?;
+    let Step { broker, mut bytes } = taken;
+    let turned = turns(alloc, broker, seats)?;
+    let Turn {
+        broker,
+        bytes: later,
+        worked: _,
+    } = turned;
+    bytes.extend_from_slice(&later)?;
+    Ok(Turn {
+        broker,
+        bytes,
+        worked: true,
+    })
 }
 
-/// One turn, if there is a document and it has something to do, and its records.
-fn one_turn<K: Kit, T: Sink>(
+/// One poll turn: the first event that waits, if one does, and one turn of the document.
+fn poll_turn<K: Kit>(
     alloc: Global,
     broker: Option<Broker<K>>,
+    seats: &mut Seats,
+    waiting: &mut VecDeque<Waiting>,
+) -> Result<Turn<K>, Memory>
+    requires { IsHoused K.rules (record { seats = seats.old; document = held broker }) }
+    ensures { IfOk result (λ turn. PollTurn K.rules K.Scene.paints waiting.old.items (record { seats = seats.old; document = held broker }) turn.bytes.items turn.worked waiting.new.items (record { seats = seats.new; document = held turn.broker })) }
+{
+    match waiting.pop_front() {
+        Some(event) => event_turn(alloc, broker, seats, event),
+        None => turns(alloc, broker, seats),
+    }
+}
+
+/// One poll turn, and its records.
+pub(crate) fn one_turn<K: Kit, T: Sink>(
+    alloc: Global,
+    broker: Option<Broker<K>>,
+    seats: &mut Seats,
+    waiting: &mut VecDeque<Waiting>,
     sink: &mut T,
 ) -> Result<(Option<Broker<K>>, bool), Stop>
-    ensures ok { IfOk result (λ new. TurnWritten K.rules K.Scene.paints (held broker) new.1 (held new.0) (T.written sink.old) (T.written sink.new)) }
-    ensures stop { IfErr result (λ stop. Stopped stop (MadeFrom (Moves K.rules K.Scene.paints writer) (record { waiting = []; document = held broker })) (T.written sink.old) (T.written sink.new)) }
+    requires { IsHoused K.rules (record { seats = seats.old; document = held broker }) }
+    ensures ok { IfOk result (λ new. TurnWritten K.rules K.Scene.paints waiting.old.items (record { seats = seats.old; document = held broker }) new.1 waiting.new.items (record { seats = seats.new; document = held new.0 }) (T.written sink.old) (T.written sink.new)) }
+    ensures housed { IfOk result (λ new. IsHoused K.rules (record { seats = seats.new; document = held new.0 })) }
+    ensures stop { IfErr result (λ stop. Stopped stop (MadeFrom (Moves K.rules K.Scene.paints) (record { waiting = waiting.old.items; house = record { seats = seats.old; document = held broker } })) (T.written sink.old) (T.written sink.new)) }
     ensures cause { HasCause (T.faults sink.old) (T.faults sink.new) (result ≡ Err Stop.Sink) }
 {
-    let turned = turns(alloc, broker)?;
+    steps_keep::<K>();
+    let turned = poll_turn(alloc, broker, seats, waiting)?;
     let Turn {
         broker,
         bytes,
@@ -52,76 +87,81 @@ fn one_turn<K: Kit, T: Sink>(
     Ok((broker, worked))
 }
 
-/// The view acknowledges all that was sent to it, if there is a document. Whether there was something.
-fn empties<K: Kit>(broker: Option<Broker<K>>) -> (Option<Broker<K>>, bool)
-    ensures { Emptied (held broker) result.1 (held result.0) }
-{
-    let Some(mut broker) = broker else {
-        return (None, false);
-    };
-    let had = broker.empty_window();
-    (Some(broker), had)
-}
-
-/// Each event that waits, with one turn behind it.
+/// Poll turns up to the one that takes the last event.
 pub(crate) fn all_events<K: Kit, T: Sink>(
     alloc: Global,
     broker: Option<Broker<K>>,
+    seats: &mut Seats,
     waiting: &mut VecDeque<Waiting>,
     sink: &mut T,
 ) -> Result<Option<Broker<K>>, Stop>
-    ensures ok { IfOk result (λ new. Came (Moves K.rules K.Scene.paints writer) (record { waiting = waiting.old.items; document = held broker }) (record { waiting = []; document = held new }) (T.written sink.old) (T.written sink.new)) }
+    requires { IsHoused K.rules (record { seats = seats.old; document = held broker }) }
+    ensures ok { IfOk result (λ new. Came (Moves K.rules K.Scene.paints) (record { waiting = waiting.old.items; house = record { seats = seats.old; document = held broker } }) (record { waiting = []; house = record { seats = seats.new; document = held new } }) (T.written sink.old) (T.written sink.new)) }
     ensures none { IfOk result (λ _. waiting.new.items ≡ []) }
-    ensures stop { IfErr result (λ stop. Stopped stop (MadeFrom (Moves K.rules K.Scene.paints writer) (record { waiting = waiting.old.items; document = held broker })) (T.written sink.old) (T.written sink.new)) }
+    ensures less { IfOk result (λ new. AllAcknowledge waiting.old.items → left_of K.rules (held new) ≤ left_of K.rules (held broker)) }
+    ensures housed { IfOk result (λ new. IsHoused K.rules (record { seats = seats.new; document = held new })) }
+    ensures stop { IfErr result (λ stop. Stopped stop (MadeFrom (Moves K.rules K.Scene.paints) (record { waiting = waiting.old.items; house = record { seats = seats.old; document = held broker } })) (T.written sink.old) (T.written sink.new)) }
     ensures cause { HasCause (T.faults sink.old) (T.faults sink.new) (result ≡ Err Stop.Sink) }
 {
+    steps_keep::<K>();
     let mut broker = broker;
-    while let Some(event) = waiting.pop_front() {
-        broker = one_event(alloc, broker, event, sink)?;
+    'events: while !waiting.is_empty() {
+        let (next, _) = one_turn(alloc, broker, seats, waiting, sink)?;
+        broker = next;
     }
     Ok(broker)
 }
 
-/// Turns up to the last that works.
-fn works<K: Kit, T: Sink>(
+/// Poll turns where no event waits, up to the last that works.
+pub(crate) fn works<K: Kit, T: Sink>(
     alloc: Global,
     broker: Option<Broker<K>>,
+    seats: &mut Seats,
+    waiting: &mut VecDeque<Waiting>,
     sink: &mut T,
 ) -> Result<Option<Broker<K>>, Stop>
-    ensures ok { IfOk result (λ new. Came (Moves K.rules K.Scene.paints writer) (record { waiting = []; document = held broker }) (record { waiting = []; document = held new }) (T.written sink.old) (T.written sink.new)) }
+    requires housed { IsHoused K.rules (record { seats = seats.old; document = held broker }) }
+    requires none { waiting.old.items ≡ [] }
+    ensures ok { IfOk result (λ new. Came (Moves K.rules K.Scene.paints) (record { waiting = []; house = record { seats = seats.old; document = held broker } }) (record { waiting = []; house = record { seats = seats.new; document = held new } }) (T.written sink.old) (T.written sink.new)) }
+    ensures none_still { IfOk result (λ _. waiting.new.items ≡ []) }
+    ensures housed_still { IfOk result (λ new. IsHoused K.rules (record { seats = seats.new; document = held new })) }
     ensures rests { IfOk result (λ new. RestsNow K.rules (held new)) }
-    ensures less { IfOk result (λ new. left_of (held new) ≤ left_of (held broker)) }
-    ensures stop { IfErr result (λ stop. Stopped stop (MadeFrom (Moves K.rules K.Scene.paints writer) (record { waiting = []; document = held broker })) (T.written sink.old) (T.written sink.new)) }
+    ensures less { IfOk result (λ new. left_of K.rules (held new) ≤ left_of K.rules (held broker)) }
+    ensures stop { IfErr result (λ stop. Stopped stop (MadeFrom (Moves K.rules K.Scene.paints) (record { waiting = []; house = record { seats = seats.old; document = held broker } })) (T.written sink.old) (T.written sink.new)) }
     ensures cause { HasCause (T.faults sink.old) (T.faults sink.new) (result ≡ Err Stop.Sink) }
 {
     let mut broker = broker;
     let mut busy = true;
-    while busy {
-        let (next, worked) = one_turn(alloc, broker, sink)?;
+    'turns: while busy {
+        let (next, worked) = one_turn(alloc, broker, seats, waiting, sink)?;
         broker = next;
         busy = worked;
     }
     Ok(broker)
 }
 
-/// Turns up to the last that works, then the acknowledged tiles, and anew while there were some.
-pub(crate) fn comes_to_rest<K: Kit, T: Sink>(
+/// So many poll turns, or fewer up to one that would do nothing.
+pub(crate) fn turns_up_to<K: Kit, T: Sink>(
     alloc: Global,
     broker: Option<Broker<K>>,
+    seats: &mut Seats,
+    waiting: &mut VecDeque<Waiting>,
     sink: &mut T,
+    count: u32,
 ) -> Result<Option<Broker<K>>, Stop>
-    ensures ok { IfOk result (λ new. Came (Moves K.rules K.Scene.paints writer) (record { waiting = []; document = held broker }) (record { waiting = []; document = held new }) (T.written sink.old) (T.written sink.new)) }
-    ensures rests { IfOk result (λ new. IsAtRest K.rules (held new)) }
-    ensures stop { IfErr result (λ stop. Stopped stop (MadeFrom (Moves K.rules K.Scene.paints writer) (record { waiting = []; document = held broker })) (T.written sink.old) (T.written sink.new)) }
+    requires { IsHoused K.rules (record { seats = seats.old; document = held broker }) }
+    ensures ok { IfOk result (λ new. TurnedTo K.rules K.Scene.paints count (record { waiting = waiting.old.items; house = record { seats = seats.old; document = held broker } }) (record { waiting = waiting.new.items; house = record { seats = seats.new; document = held new } }) (T.written sink.old) (T.written sink.new)) }
+    ensures housed { IfOk result (λ new. IsHoused K.rules (record { seats = seats.new; document = held new })) }
+    ensures stop { IfErr result (λ stop. Stopped stop (MadeFrom (Moves K.rules K.Scene.paints) (record { waiting = waiting.old.items; house = record { seats = seats.old; document = held broker } })) (T.written sink.old) (T.written sink.new)) }
     ensures cause { HasCause (T.faults sink.old) (T.faults sink.new) (result ≡ Err Stop.Sink) }
 {
     let mut broker = broker;
-    let mut busy = true;
-    while busy {
-        let still = works(alloc, broker, sink)?;
-        let (next, had) = empties(still);
+    'turns: for made in 0..count {
+        let (next, worked) = one_turn(alloc, broker, seats, waiting, sink)?;
         broker = next;
-        busy = had;
+        if !worked {
+            return Ok(broker);
+        }
     }
     Ok(broker)
 }

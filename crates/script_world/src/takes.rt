@@ -1,18 +1,17 @@
-//! One event of the link and one turn of the document, as the records that they write.
-ghost use Rattle.std.specs.Prelude.{◌≡◌, [], IfOk, true, Some};
-ghost use Rattle.cool_frame.specs.Frames.{frame_bytes};
-ghost use Rattle.script_lines.specs.Records.{record_of as record_bytes};
-ghost use Rattle.document_machine.specs.State.{opening};
-ghost use Rattle.script_world.specs.World.{writer, held, records, bad_file, LoadsWhere, TakesOne, TurnsOne, EventDone};
+//! One event, as the records that taking it writes.
+ghost use Rattle.std.specs.Prelude.{◌≡◌, [], IfOk};
+ghost use Rattle.std.specs.Option.{ForSome, option_map};
+ghost use Rattle.script_world.specs.House.{held, seated_at, SaysAs, LeavesAs, TakesOne};
+ghost use Rattle.script_world.specs.Seats.{view_of};
+ghost use Rattle.script_world.specs.Taken.{LeavesDocument};
 
 use crate::event::Waiting;
-use bytes::Bytes;
-use cool_base::{Memory, TextOf, ViewId};
-use cool_frame::{ErrorKind, Frame, write_frame};
-use document_machine::Rights;
-use kit_trait::{Kit, LoadFault};
-use script_lines::record_of;
-use solo_broker::Broker;
+use crate::joining::loads;
+use crate::lobby::lobby_record;
+use crate::seats::{Seats, records};
+use broker_core::Broker;
+use cool_base::{Memory, ViewId};
+use kit_trait::Kit;
 use std::alloc::Global;
 
 /// A document, if there is one, and the records that a step wrote.
@@ -22,92 +21,38 @@ pub(crate) struct Step<K: Kit> {
     pub(crate) bytes: Vec<u8>,
 }
 
-/// The same of a turn, and whether it did a work.
-#[derive(Drop)]
-pub(crate) struct Turn<K: Kit> {
-    pub(crate) broker: Option<Broker<K>>,
-    pub(crate) bytes: Vec<u8>,
-    pub(crate) worked: bool,
-}
-
-/// The record of a frame to the one link.
-fn record(alloc: Global, frame: &Frame) -> Result<Vec<u8>, Memory>
-    ensures { IfOk result (λ bytes. bytes.items ≡ record_bytes 1 (frame_bytes frame.now)) }
+/// The id of the view that the link is, where the document has it.
+fn live_view<K: Kit>(broker: &Broker<K>, seats: &Seats, link: u32) -> Option<u32>
+    ensures { result ≡ option_map (λ seat. seat.1) (seated_at broker.now (view_of seats.now link)) }
 {
-    let frame = write_frame(alloc, frame)?;
-    record_of(alloc, 1, &frame)
-}
-
-/// The records of frames to the one link, in order.
-fn records(alloc: Global, frames: &[(ViewId, Frame)]) -> Result<Vec<u8>, Memory>
-    ensures { IfOk result (λ bytes. bytes.items ≡ records frames.now) }
-{
-    let mut bytes = Vec::new(alloc);
-    for pair in frames {
-        let one = record(alloc, &pair.1)?;
-        bytes.extend_from_slice(&one)?;
-    }
-    Ok(bytes)
-}
-
-/// The record of the frame that refuses a file.
-fn refusal(alloc: Global) -> Result<Vec<u8>, Memory>
-    ensures { IfOk result (λ bytes. bytes.items ≡ record_bytes 1 (frame_bytes bad_file)) }
-{
-    let cmd = TextOf::of(String::from_str(alloc, "load")?);
-    record(
-        alloc,
-        &Frame::Error {
-            cmd,
-            kind: ErrorKind::BadFile,
-            code: None,
-        },
-    )
-}
-
-/// The view joins the document that was loaded over no bytes.
-fn joins<K: Kit>(alloc: Global, mut broker: Broker<K>) -> Result<Step<K>, Memory>
-    requires loaded { broker ≡ Some (opening []) }
-    requires accepted { K.rules.accepts [] ≡ true }
-    ensures { IfOk result (λ step. LoadsWhere (K.rules.accepts []) K.rules K.Scene.paints writer step.bytes.items (held step.broker)) }
-{
-    let frames = broker.join(alloc, Rights { can_write: true })?;
-    let bytes = records(alloc, frames.get())?;
-    Ok(Step {
-        broker: Some(broker),
-        bytes,
-    })
-}
-
-/// A load: the document begins over no bytes, or the kit refuses them.
-fn loads<K: Kit>(alloc: Global) -> Result<Step<K>, Memory>
-    ensures { IfOk result (λ step. LoadsWhere (K.rules.accepts []) K.rules K.Scene.paints writer step.bytes.items (held step.broker)) }
-{
-    match Broker::start(alloc, Bytes::new()) {
-        Ok(broker) => joins(alloc, broker),
-        Err(LoadFault::BadFile) => {
-            let bytes = refusal(alloc)?;
-            Ok(Step {
-                broker: None,
-                bytes,
-            })
-        }
-        Err(LoadFault::Memory) => Err(Memory),
+    let view = seats.view_of(link)?;
+    if broker.is_live(ViewId(view)) {
+        Some(view)
+    } else {
+        None
     }
 }
 
-/// A message to a document.
-fn says_to<K: Kit>(alloc: Global, mut broker: Broker<K>, text: &[u8]) -> Result<Step<K>, Memory>
-    ensures { IfOk result (λ step. TakesOne K.rules K.Scene.paints writer (Waiting.Says text.now) broker step.bytes.items (held step.broker)) }
+/// A message, where there is a document.
+fn says_to<K: Kit>(
+    alloc: Global,
+    mut broker: Broker<K>,
+    seats: &Seats,
+    link: u32,
+    text: &[u8],
+) -> Result<Step<K>, Memory>
+    requires { ForSome broker (λ d. d.jobs ≡ []) }
+    ensures { IfOk result (λ step. SaysAs K.rules K.Scene.paints (record { seats = seats.now; document = broker }) link text.now (seated_at broker (view_of seats.now link)) step.bytes.items (record { seats = seats.now; document = held step.broker })) }
 {
-    if !broker.is_live(ViewId(0)) {
+    let Some(view) = live_view(&broker, seats, link) else {
+        let bytes = lobby_record(alloc, seats, link, text)?;
         return Ok(Step {
             broker: Some(broker),
-            bytes: Vec::new(alloc),
+            bytes,
         });
-    }
-    let frames = broker.message(alloc, ViewId(0), text)?;
-    let bytes = records(alloc, frames.get())?;
+    };
+    let outs = broker.message(alloc, ViewId(view), text)?;
+    let bytes = records(alloc, seats, outs.frames.get())?;
     Ok(Step {
         broker: Some(broker),
         bytes,
@@ -115,91 +60,80 @@ fn says_to<K: Kit>(alloc: Global, mut broker: Broker<K>, text: &[u8]) -> Result<
 }
 
 /// A message.
-fn says<K: Kit>(alloc: Global, broker: Option<Broker<K>>, text: &[u8]) -> Result<Step<K>, Memory>
-    ensures { IfOk result (λ step. TakesOne K.rules K.Scene.paints writer (Waiting.Says text.now) (held broker) step.bytes.items (held step.broker)) }
+fn says<K: Kit>(
+    alloc: Global,
+    broker: Option<Broker<K>>,
+    seats: &Seats,
+    link: u32,
+    text: &[u8],
+) -> Result<Step<K>, Memory>
+    requires { ForSome (held broker) (λ d. d.jobs ≡ []) }
+    ensures { IfOk result (λ step. SaysAs K.rules K.Scene.paints (record { seats = seats.now; document = held broker }) link text.now (seated_at (held broker) (view_of seats.now link)) step.bytes.items (record { seats = seats.now; document = held step.broker })) }
 {
     match broker {
-        Some(broker) => says_to(alloc, broker, text),
-        None => Ok(Step {
-            broker: None,
-            bytes: Vec::new(alloc),
-        }),
+        Some(broker) => says_to(alloc, broker, seats, link, text),
+        None => {
+            let bytes = lobby_record(alloc, seats, link, text)?;
+            Ok(Step {
+                broker: None,
+                bytes,
+            })
+        }
+    }
+}
+
+/// The link's view leaves the document, if it is one of its views.
+fn leaves_it<K: Kit>(mut broker: Broker<K>, seats: &Seats, link: u32) -> Broker<K>
+    requires { ForSome broker (λ d. d.jobs ≡ []) }
+    ensures { LeavesDocument K.rules K.Scene.paints broker (seated_at broker (view_of seats.now link)) result }
+{
+    if let Some(view) = live_view(&broker, seats, link) {
+        broker.leave(ViewId(view));
+    }
+    broker
+}
+
+/// A link is gone.
+fn leaves<K: Kit>(
+    alloc: Global,
+    broker: Option<Broker<K>>,
+    seats: &mut Seats,
+    link: u32,
+) -> Step<K>
+    requires { ForSome (held broker) (λ d. d.jobs ≡ []) }
+    ensures { LeavesAs K.rules K.Scene.paints (record { seats = seats.old; document = held broker }) link (seated_at (held broker) (view_of seats.old link)) result.bytes.items (record { seats = seats.new; document = held result.broker }) }
+{
+    let broker = match broker {
+        Some(broker) => Some(leaves_it(broker, seats, link)),
+        None => None,
+    };
+    seats.leave(link);
+    Step {
+        broker,
+        bytes: Vec::new(alloc),
     }
 }
 
 /// Takes one event.
-fn takes<K: Kit>(
+pub(crate) fn takes<K: Kit>(
     alloc: Global,
     broker: Option<Broker<K>>,
+    seats: &mut Seats,
     event: Waiting,
 ) -> Result<Step<K>, Memory>
-    ensures { IfOk result (λ step. TakesOne K.rules K.Scene.paints writer event (held broker) step.bytes.items (held step.broker)) }
+    requires { ForSome (held broker) (λ d. d.jobs ≡ []) }
+    ensures { IfOk result (λ step. TakesOne K.rules K.Scene.paints event (record { seats = seats.old; document = held broker }) step.bytes.items (record { seats = seats.new; document = held step.broker })) }
 {
     match event {
-        Waiting::Opened => Ok(Step {
-            broker,
-            bytes: Vec::new(alloc),
-        }),
-        Waiting::Greets => {
-            let bytes = record(alloc, &Frame::Server)?;
-            Ok(Step { broker, bytes })
-        }
-        Waiting::Loads(_) => loads(alloc),
-        Waiting::Says(text) => says(alloc, broker, text.get()),
-    }
-}
-
-/// One turn of a document.
-fn turns_one<K: Kit>(alloc: Global, mut broker: Broker<K>) -> Result<Turn<K>, Memory>
-    ensures { IfOk result (λ turn. TurnsOne K.rules K.Scene.paints broker turn.bytes.items turn.worked (held turn.broker)) }
-{
-    match broker.turn_and_paint(alloc)? {
-        Some(frames) => {
-            let bytes = records(alloc, frames.get())?;
-            Ok(Turn {
-                broker: Some(broker),
-                bytes,
-                worked: true,
+        Waiting::Opened(link) => {
+            seats.enter(link)?;
+            Ok(Step {
+                broker,
+                bytes: Vec::new(alloc),
             })
         }
-        None => Ok(Turn {
-            broker: Some(broker),
-            bytes: Vec::new(alloc),
-            worked: false,
-        }),
+        Waiting::Loads(link, file, writes) => loads(alloc, broker, seats, link, &file, writes),
+        Waiting::Says(link, text) => says(alloc, broker, seats, link, text.get()),
+        Waiting::Gone(link) => Ok(leaves(alloc, broker, seats, link)),
     }
-}
-
-/// One turn of the document, if there is one.
-pub(crate) fn turns<K: Kit>(alloc: Global, broker: Option<Broker<K>>) -> Result<Turn<K>, Memory>
-    ensures { IfOk result (λ turn. TurnsOne K.rules K.Scene.paints (held broker) turn.bytes.items turn.worked (held turn.broker)) }
-{
-    match broker {
-        Some(broker) => turns_one(alloc, broker),
-        None => Ok(Turn {
-            broker: None,
-            bytes: Vec::new(alloc),
-            worked: false,
-        }),
-    }
-}
-
-/// One event and directly behind it one turn.
-pub(crate) fn does<K: Kit>(
-    alloc: Global,
-    broker: Option<Broker<K>>,
-    event: Waiting,
-) -> Result<Step<K>, Memory>
-    ensures { IfOk result (λ step. EventDone K.rules K.Scene.paints writer event (held broker) step.bytes.items (held step.broker)) }
-{
-    let taken = takes(alloc, broker, event)?;
-    let Step { broker, mut bytes } = taken;
-    let turned = turns(alloc, broker)?;
-    let Turn {
-        broker,
-        bytes: later,
-        worked: _,
-    } = turned;
-    bytes.extend_from_slice(&later)?;
-    Ok(Step { broker, bytes })
 }

@@ -1,25 +1,38 @@
 use Rattle.std.proofs.Common.{[], ◌∙◌, arith}
 use Rattle.script_run.specs.Play.{Stopped}
+use Rattle.script_world.specs.House.{held}
 use Rattle.script_world.specs.Moved.{MadeFrom}
-use Rattle.script_world.specs.World.{Moves, writer, held}
+use Rattle.script_world.specs.World.{Moves}
 use Rattle.script_world.proofs.Chains.{stopped_later}
-use Rattle.script_world.proofs.Steps.{handed_on, turn_more, turn_rests, turn_left}
+use Rattle.script_world.proofs.Steps.{handed_on, bare_more, bare_left, bare_stopped, idle_rests, falls_busy}
 use Rattle.script_world.proofs.moves.works.Goals as goal
 
 pub returns-in_err-next-clause-stop : goal.returns-in_err-next-clause-stop
 returns-in_err-next-clause-stop g c =
     handed_on c.from_residual.result c.in_err-next.field-0.0
-    (λ stop. Stopped stop (MadeFrom (Moves g.K.Kit.rules g.K.Scene.Scene.paints writer) (record { waiting = []; document = held c.args.broker })) (g.T.Sink.written c.args.sink.now) (g.T.Sink.written c.one_turn.new.sink))
+    (λ stop. Stopped stop (MadeFrom (Moves g.K.Kit.rules g.K.Scene.Scene.paints) (record { waiting = []; house = record { seats = c.args.seats.now; document = held c.args.broker } })) (g.T.Sink.written c.args.sink.now) (g.T.Sink.written c.one_turn.new.sink))
     c.from_residual.ensures.1
-    (stopped_later (Moves g.K.Kit.rules g.K.Scene.Scene.paints writer) (record { waiting = []; document = held c.args.broker }) (record { waiting = []; document = held c.loop-busy.broker })
-    (g.T.Sink.written c.args.sink.now) (g.T.Sink.written c.loop-busy.sink) (g.T.Sink.written c.one_turn.new.sink) c.in_err-next.field-0.0
-    c.loop-busy.invariant.came c.in_err-next.ensures.stop)
+    (bare_stopped g.K.Kit.rules g.K.Scene.Scene.paints (record { waiting = []; house = record { seats = c.args.seats.now; document = held c.args.broker } }) c.turns.waiting.items (record { seats = c.turns.seats; document = held c.turns.broker })
+    (g.T.Sink.written c.args.sink.now) (g.T.Sink.written c.turns.sink) (g.T.Sink.written c.one_turn.new.sink) c.in_err-next.field-0.0
+    c.turns.invariant.none c.turns.invariant.came c.in_err-next.ensures.stop)
 
-pub loop-busy-preserved : goal.loop-busy-preserved
-loop-busy-preserved g c = record {
-  came = turn_more g.K.Kit.rules g.K.Scene.Scene.paints c.in_ok-next.worked (record { waiting = []; document = held c.args.broker }) (held c.loop-busy.broker) (held c.in_ok-next.next)
-      (g.T.Sink.written c.args.sink.now) (g.T.Sink.written c.loop-busy.sink) (g.T.Sink.written c.one_turn.new.sink) c.loop-busy.invariant.came c.in_ok-next.ensures.ok;
-  faults = c.in_ok-next.ensures.cause.kept (λ e. cc) ∙ c.loop-busy.invariant.faults;
-  rests = turn_rests g.K.Kit.rules g.K.Scene.Scene.paints c.in_ok-next.worked (held c.loop-busy.broker) (held c.in_ok-next.next) (g.T.Sink.written c.loop-busy.sink) (g.T.Sink.written c.one_turn.new.sink) c.in_ok-next.ensures.ok;
-  less = omega (arith, c.loop-busy.invariant.less, turn_left g.K.Kit.rules g.K.Scene.Scene.paints c.in_ok-next.worked (held c.loop-busy.broker) (held c.in_ok-next.next) (g.T.Sink.written c.loop-busy.sink) (g.T.Sink.written c.one_turn.new.sink) c.in_ok-next.ensures.ok);
-}
+pub turns-smaller : goal.turns-smaller
+turns-smaller g c =
+    falls_busy c.turns.busy _ _ c.turns-test.true
+    (bare_left g.K.Kit.rules g.K.Scene.Scene.paints c.turns.waiting.items (record { seats = c.turns.seats; document = held c.turns.broker }) c.in_ok-next.worked c.one_turn.new.waiting.items (record { seats = c.one_turn.new.seats; document = held c.in_ok-next.next })
+    (g.T.Sink.written c.turns.sink) (g.T.Sink.written c.one_turn.new.sink) c.turns.invariant.none c.turns.invariant.housed c.in_ok-next.ensures.ok).1
+
+pub turns-preserved : goal.turns-preserved
+turns-preserved g c =
+    let left = bare_left g.K.Kit.rules g.K.Scene.Scene.paints c.turns.waiting.items (record { seats = c.turns.seats; document = held c.turns.broker }) c.in_ok-next.worked c.one_turn.new.waiting.items (record { seats = c.one_turn.new.seats; document = held c.in_ok-next.next })
+        (g.T.Sink.written c.turns.sink) (g.T.Sink.written c.one_turn.new.sink) c.turns.invariant.none c.turns.invariant.housed c.in_ok-next.ensures.ok in
+    record {
+      came = bare_more g.K.Kit.rules g.K.Scene.Scene.paints (record { waiting = []; house = record { seats = c.args.seats.now; document = held c.args.broker } }) c.turns.waiting.items (record { seats = c.turns.seats; document = held c.turns.broker }) c.in_ok-next.worked c.one_turn.new.waiting.items (record { seats = c.one_turn.new.seats; document = held c.in_ok-next.next })
+          (g.T.Sink.written c.args.sink.now) (g.T.Sink.written c.turns.sink) (g.T.Sink.written c.one_turn.new.sink) c.turns.invariant.none left.0 c.turns.invariant.came c.in_ok-next.ensures.ok;
+      none = left.0;
+      housed = c.in_ok-next.ensures.housed;
+      faults = c.in_ok-next.ensures.cause.kept (λ e. cc) ∙ c.turns.invariant.faults;
+      rests = λ idle. (idle_rests g.K.Kit.rules g.K.Scene.Scene.paints c.turns.waiting.items (record { seats = c.turns.seats; document = held c.turns.broker }) c.in_ok-next.worked c.one_turn.new.waiting.items (record { seats = c.one_turn.new.seats; document = held c.in_ok-next.next })
+          (g.T.Sink.written c.turns.sink) (g.T.Sink.written c.one_turn.new.sink) c.in_ok-next.ensures.ok idle).1;
+      less = omega (arith, left.1, c.turns.invariant.less);
+    }

@@ -1,0 +1,204 @@
+-- What a house keeps: its document is whole, no job of it is out, and each of its views has a link.
+use Rattle.std.proofs.Common.{◌≡◌, ◌≢◌, ◌∙◌, ℕ, ◌<◌, Bool, true, false, cond, ◌&&◌, List, [], ◌∷◌, ◌++◌, map, length, nat_lt, Option, None, Some, inl, inr, refl, sym, ap, subst, arith}
+use Rattle.std.specs.BTreeMap.{insert_entry, is_at}
+use Rattle.std.specs.List.{AllByRecursion, list_any}
+use Rattle.std.specs.Map.{lookup, remove_entry}
+use Rattle.std.specs.Option.{is_some, is_none, ForSome}
+use Rattle.std.specs.Ordering.{nat_cmp}
+use Rattle.document_laws.specs.Whole.{IsWhole}
+use Rattle.document_laws.proofs.Lower.{at_once_lowers}
+use Rattle.document_laws.proofs.Whole.{opening_is_whole}
+use Rattle.document_machine.specs.Event.{Event, Joined, Left, Said, Turned}
+use Rattle.document_machine.specs.Message.{effect}
+use Rattle.document_machine.specs.Outputs.{nothing}
+use Rattle.document_machine.specs.Rank.{left_to_do}
+use Rattle.document_machine.specs.Run.{Segment}
+use Rattle.document_machine.specs.State.{View, Document, opening, opening_view, find_view, without_view}
+use Rattle.document_machine.specs.Step.{Step, Works, JoinsWhere as MachineJoins}
+use Rattle.document_machine.specs.declared.outs.Outs.{Outs}
+use Rattle.document_machine.specs.declared.rights.Rights.{Rights}
+use Rattle.kit_trait.specs.Rules.{Rules}
+use Rattle.kit_trait.specs.declared.jobs.PaintJob.{PaintJob}
+use Rattle.kit_trait.specs.declared.values.Pixels.{Pixels}
+use Rattle.script_world.specs.House.{House, rights, JoinsWhere, JoinsOne, BeginsWhere, LoadsOne, LoadsWhere, seated_at, seated, SaysAs, LeavesAs, TakesOne, TakesFirst, painted_all, WorksAtOnce, TurnsDocument, PollTurn, ids_of, IsSeated, IsHousedBy, IsHoused}
+use Rattle.script_world.specs.Seats.{Seats, view_of, is_waiting, enters, sits, without, link_in, link_of}
+use Rattle.script_world.specs.declared.event.Waiting.{Waiting}
+use Rattle.script_world.specs.declared.event.Waiting.TheVariants.{Opened, Loads, Says, Gone}
+use Rattle.script_world.proofs.Saying.{one_if}
+use Rattle.script_world.proofs.Ids.{HasLink, ids-took, jobs-took, ids-works, ids-answers, sits_others, sits_new, gone_others, gone_none, ids_without, ids_stay, ids_lack, all_by, all_more, all_on, ids-append}
+
+-- every step leaves a whole document whole
+abbrev pub Keeps : {C B S : Type 0} → Rules C B → (S → Pixels) → Type 0
+Keeps {C} {B} {S} rules paints = (old new : Document S) (event : Event S) (outs : Outs S) → Step rules paints old event outs new → IsWhole rules old → IsWhole rules new
+
+-- no job is out
+pub none_out_of : {C B S : Type 0} (rules : Rules C B) (seats : Seats) (document : Option (Document S)) → IsHousedBy rules seats document → ForSome document (λ d. d.jobs ≡ [])
+none_out_of rules seats None housed = λ d is. absurd (cc)
+none_out_of {C} {B} {S} rules seats (Some e) housed = λ d is. let same : e ≡ d = cc in subst (λ (x : Document S). x.jobs ≡ []) same housed.none_out
+
+and_right : (a b : Bool) → (a && b) ≡ true → b ≡ true
+and_right true b is = is
+and_right false b is = absurd (cc)
+
+none_is : (o : Option ℕ) → is_none o ≡ true → o ≡ None
+none_is None is = refl
+none_is (Some n) is = absurd (cc)
+
+-- a link of the lobby is no view
+no_view : (seats : Seats) (link : ℕ) → is_waiting seats link ≡ true → view_of seats link ≡ None
+no_view seats link waits = none_is (view_of seats link) (and_right (list_any (is_at (nat_cmp link)) seats.lobby) (is_none (view_of seats link)) waits)
+
+-- a view that joined
+joined : {C B S : Type 0} (rules : Rules C B) (paints : S → Pixels) (keeps : Keeps rules paints) (seats : Seats) (link : ℕ) (given : Rights) (d e : Document S) (outs : Outs S) (b : Bool)
+    → nat_lt (length d.views) 64 ≡ b → b ≡ true → view_of seats link ≡ None → IsSeated rules seats d → Step rules paints d (Joined given) outs e
+    → IsSeated rules (sits seats link d.next_view) e
+joined {C} {B} {S} rules paints keeps seats link given d e outs b room is none housed step =
+    let joins : MachineJoins true rules d given outs e = subst (λ (x : Bool). MachineJoins x rules d given outs e) (room ∙ is) step in
+    let views : e.views ≡ d.views ++ opening_view d.next_view given ∷ [] = ap (λ (x : Document S). x.views) joins.1 in
+    let kept : AllByRecursion (HasLink (sits seats link d.next_view).views) (ids_of d.views) = all_on (HasLink seats.views) (HasLink (sits seats link d.next_view).views) (ids_of d.views) (λ id h. sits_others seats.views link d.next_view id none h) housed.linked in
+    let all : AllByRecursion (HasLink (sits seats link d.next_view).views) (ids_of d.views ++ d.next_view ∷ []) = all_more (HasLink (sits seats link d.next_view).views) (ids_of d.views) d.next_view kept (sits_new seats.views link d.next_view) in
+    record {
+      whole = keeps d e (Joined given) outs step housed.whole;
+      none_out = ap (λ (x : Document S). x.jobs) joins.1 ∙ housed.none_out;
+      linked = subst (AllByRecursion (HasLink (sits seats link d.next_view).views)) (sym (ap ids_of views ∙ ids-append d.views (opening_view d.next_view given))) all;
+    }
+
+joins_by : {C B S : Type 0} (rules : Rules C B) (paints : S → Pixels) (keeps : Keeps rules paints) (seats : Seats) (link : ℕ) (given : Rights) (d : Document S) (out : List ℕ) (new : House S) (b : Bool)
+    → nat_lt (length d.views) 64 ≡ b → view_of seats link ≡ None → IsSeated rules seats d → JoinsWhere b rules paints seats link given d out new → IsHoused rules new
+joins_by {C} {B} {S} rules paints keeps seats link given d out new true room none housed joins =
+    subst (IsHoused rules) (sym joins.3) (joined rules paints keeps seats link given d joins.0 joins.1 true room refl none housed joins.2)
+joins_by rules paints keeps seats link given d out new false room none housed joins = subst (IsHoused rules) (sym joins.1) housed
+
+begins_by : {C B S : Type 0} (rules : Rules C B) (paints : S → Pixels) (keeps : Keeps rules paints) (seats : Seats) (link : ℕ) (file : List ℕ) (given : Rights) (out : List ℕ) (new : House S) (b : Bool)
+    → rules.accepts [] ≡ b → view_of seats link ≡ None → BeginsWhere b rules paints seats link file given out new → IsHoused rules new
+begins_by {C} {B} {S} rules paints keeps seats link file given out new true accepted none begins =
+    joins_by rules paints keeps seats link given (opening file []) out new true refl none
+    (record { whole = opening_is_whole S rules file [] accepted; none_out = refl; linked = tt }) begins
+begins_by rules paints keeps seats link file given out new false accepted none begins = subst (IsHoused rules) (sym begins.1) tt
+
+loads_by : {C B S : Type 0} (rules : Rules C B) (paints : S → Pixels) (keeps : Keeps rules paints) (seats : Seats) (document : Option (Document S)) (link : ℕ) (file : List ℕ) (given : Rights) (out : List ℕ) (new : House S)
+    → view_of seats link ≡ None → IsHousedBy rules seats document → LoadsOne rules paints seats document link file given out new → IsHoused rules new
+loads_by rules paints keeps seats None link file given out new none housed loads = begins_by rules paints keeps seats link file given out new (rules.accepts []) refl none loads
+loads_by rules paints keeps seats (Some d) link file given out new none housed loads = joins_by rules paints keeps seats link given d out new (nat_lt (length d.views) 64) refl none housed loads
+
+load_by : {C B S : Type 0} (rules : Rules C B) (paints : S → Pixels) (keeps : Keeps rules paints) (old : House S) (link : ℕ) (file : List ℕ) (given : Rights) (out : List ℕ) (new : House S) (b : Bool)
+    → is_waiting old.seats link ≡ b → IsHoused rules old → LoadsWhere b rules paints old link file given out new → IsHoused rules new
+load_by rules paints keeps old link file given out new true waits housed loads =
+    loads_by rules paints keeps old.seats old.document link file given out new (no_view old.seats link waits) housed loads
+load_by rules paints keeps old link file given out new false waits housed loads = subst (IsHoused rules) (sym loads.1) housed
+
+-- a seat that was found is the document's
+pub found_document : {S : Type 0} (document : Option (Document S)) (seat : Option ℕ) (found : Document S × ℕ) → seated_at document seat ≡ Some found → (document ≡ Some found.0) × (seat ≡ Some found.1)
+found_document None seat found is = absurd (cc)
+found_document (Some d) None found is = absurd (cc)
+found_document {S} (Some d) (Some id) found is =
+    elim (is_some (find_view d.views id)) as (λ b. cond b (Some (d, id)) None ≡ Some found → (Some d ≡ Some found.0) × (Some id ≡ Some found.1)) [
+      | true ↦ λ e. let same : (d, id) ≡ found = cc in (ap (λ (x : Document S × ℕ). Some x.0) same, ap (λ (x : Document S × ℕ). Some x.1) same)
+      | false ↦ λ e. absurd (cc)
+    ] is
+
+pub housed_at : {C B S : Type 0} (rules : Rules C B) (seats : Seats) (document : Option (Document S)) (d : Document S) → document ≡ Some d → IsHousedBy rules seats document → IsSeated rules seats d
+housed_at {C} {B} {S} rules seats document d is housed = subst (IsHousedBy rules seats) is housed
+
+-- a message
+says_by : {C B S : Type 0} (rules : Rules C B) (paints : S → Pixels) (keeps : Keeps rules paints) (old : House S) (link : ℕ) (text : List ℕ) (found : Option (Document S × ℕ)) (out : List ℕ) (new : House S)
+    → seated old link ≡ found → IsHoused rules old → SaysAs rules paints old link text found out new → IsHoused rules new
+says_by rules paints keeps old link text None out new is housed says = subst (IsHoused rules) (sym says.1) housed
+says_by {C} {B} {S} rules paints keeps old link text (Some seat) out new is housed says =
+    let there : IsSeated rules old.seats seat.0 = housed_at rules old.seats old.document seat.0 (found_document old.document (view_of old.seats link) seat is).0 housed in
+    let step : Step rules paints seat.0 (Said seat.1 text) says.1 says.0 = says.2 in
+    subst (IsHoused rules) (sym says.3) (record {
+      whole = keeps seat.0 says.0 (Said seat.1 text) says.1 step there.whole;
+      none_out = ap (λ (x : Document S). x.jobs) step.new_is ∙ jobs-took rules seat.0 seat.1 (effect rules seat.0 step.view text) ∙ there.none_out;
+      linked = subst (AllByRecursion (HasLink old.seats.views)) (sym (ap (λ (x : Document S). ids_of x.views) step.new_is ∙ ids-took rules seat.0 seat.1 (effect rules seat.0 step.view text))) there.linked;
+    })
+
+lacks_view : {S : Type 0} (d : Document S) (view : ℕ) (b : Bool) → None ≡ one_if b d view → b ≡ false
+lacks_view d view true e = absurd (cc)
+lacks_view d view false e = refl
+
+-- a link that is gone
+gone_by : {S : Type 0} (seats : Seats) (d : Document S) (link : ℕ) (view : Option ℕ) → view_of seats link ≡ view → None ≡ seated_at (Some d) view
+    → AllByRecursion (HasLink seats.views) (ids_of d.views) → AllByRecursion (HasLink (without seats link).views) (ids_of d.views)
+gone_by seats d link None none lacks all = all_on (HasLink seats.views) (HasLink (without seats link).views) (ids_of d.views) (λ id h. gone_none (is_at (nat_cmp link)) seats.views id none h) all
+gone_by {S} seats d link (Some view) is lacks all =
+    let not_there : is_some (find_view d.views view) ≡ false =
+        lacks_view d view (is_some (find_view d.views view)) lacks
+    in
+    all_by (λ (n : ℕ). n ≢ view) (HasLink seats.views) (HasLink (without seats link).views) (ids_of d.views)
+    (λ id apart h. gone_others (is_at (nat_cmp link)) seats.views view id is apart h) (ids_lack d.views view not_there) all
+
+leaves_none : {C B S : Type 0} (rules : Rules C B) (seats : Seats) (document : Option (Document S)) (link : ℕ) → None ≡ seated_at document (view_of seats link) → IsHousedBy rules seats document → IsHousedBy rules (without seats link) document
+leaves_none rules seats None link lacks housed = tt
+leaves_none rules seats (Some d) link lacks housed = record {
+  whole = housed.whole;
+  none_out = housed.none_out;
+  linked = gone_by seats d link (view_of seats link) refl lacks housed.linked;
+}
+
+leaves_by : {C B S : Type 0} (rules : Rules C B) (paints : S → Pixels) (keeps : Keeps rules paints) (old : House S) (link : ℕ) (found : Option (Document S × ℕ)) (out : List ℕ) (new : House S)
+    → seated old link ≡ found → IsHoused rules old → LeavesAs rules paints old link found out new → IsHoused rules new
+leaves_by rules paints keeps old link None out new is housed leaves = subst (IsHoused rules) (sym leaves.1) (leaves_none rules old.seats old.document link (sym is) housed)
+leaves_by {C} {B} {S} rules paints keeps old link (Some seat) out new is housed leaves =
+    let at = found_document old.document (view_of old.seats link) seat is in
+    let there : IsSeated rules old.seats seat.0 = housed_at rules old.seats old.document seat.0 at.0 housed in
+    let new_is : leaves.0 ≡ record seat.0 { views = without_view seat.0.views seat.1 } = leaves.1.1 in
+    let apart : AllByRecursion (λ (n : ℕ). n ≢ seat.1) (ids_of (without_view seat.0.views seat.1)) = ids_without seat.0.views seat.1 there.whole.kept.ids in
+    let stay : AllByRecursion (HasLink old.seats.views) (ids_of (without_view seat.0.views seat.1)) = ids_stay (HasLink old.seats.views) seat.0.views seat.1 there.linked in
+    let links : AllByRecursion (HasLink (without old.seats link).views) (ids_of (without_view seat.0.views seat.1)) =
+        all_by (λ (n : ℕ). n ≢ seat.1) (HasLink old.seats.views) (HasLink (without old.seats link).views) (ids_of (without_view seat.0.views seat.1))
+        (λ id other h. gone_others (is_at (nat_cmp link)) old.seats.views seat.1 id at.1 other h) apart stay
+    in
+    subst (IsHoused rules) (sym leaves.3) (record {
+      whole = keeps seat.0 leaves.0 (Left seat.1) nothing leaves.1 there.whole;
+      none_out = ap (λ (x : Document S). x.jobs) new_is ∙ there.none_out;
+      linked = subst (AllByRecursion (HasLink (without old.seats link).views)) (sym (ap (λ (x : Document S). ids_of x.views) new_is)) links;
+    })
+
+-- a link that comes
+enters_by : {C B S : Type 0} (rules : Rules C B) (seats : Seats) (link : ℕ) (document : Option (Document S)) → IsHousedBy rules seats document → IsHousedBy rules (enters seats link) document
+enters_by rules seats link None housed = tt
+enters_by rules seats link (Some d) housed = record { whole = housed.whole; none_out = housed.none_out; linked = housed.linked }
+
+-- an event
+pub takes_housed : {C B S : Type 0} (rules : Rules C B) (paints : S → Pixels) (keeps : Keeps rules paints) (event : Waiting) (old : House S) (out : List ℕ) (new : House S)
+    → IsHoused rules old → TakesOne rules paints event old out new → IsHoused rules new
+takes_housed rules paints keeps (Opened link) old out new housed takes = subst (IsHoused rules) (sym takes.1) (enters_by rules old.seats link old.document housed)
+takes_housed rules paints keeps (Loads link file writes) old out new housed takes = load_by rules paints keeps old link file (rights writes) out new (is_waiting old.seats link) refl housed takes
+takes_housed rules paints keeps (Says link text) old out new housed takes = says_by rules paints keeps old link text (seated old link) out new refl housed takes
+takes_housed rules paints keeps (Gone link) old out new housed takes = leaves_by rules paints keeps old link (seated old link) out new refl housed takes
+
+-- a turn that did a work, its jobs answered
+works_seated : {C B S : Type 0} (rules : Rules C B) (paints : S → Pixels) (keeps : Keeps rules paints) (runs : (events : List (Event S)) (old new : Document S) (outs : Outs S) → Segment rules paints old events outs new → IsWhole rules old → IsWhole rules new)
+    (seats : Seats) (d e : Document S) (mid : Document S) (first later : Outs S) → Works rules paints d first mid → Segment rules paints mid (painted_all first.jobs) later e → IsSeated rules seats d → IsSeated rules seats e
+works_seated {C} {B} {S} rules paints keeps runs seats d e mid first later works answered housed = record {
+  whole = runs (painted_all first.jobs) mid e later answered (keeps d mid Turned first (inl works) housed.whole);
+  none_out = (at_once_lowers rules paints d mid e first later works housed.none_out housed.whole.kept answered).0;
+  linked = subst (AllByRecursion (HasLink seats.views)) (sym (ids-answers rules paints mid e first.jobs later answered ∙ ids-works rules paints d mid first works)) housed.linked;
+}
+
+whole_runs : {C B S : Type 0} (rules : Rules C B) (paints : S → Pixels) (keeps : Keeps rules paints) (events : List (Event S)) (old new : Document S) (outs : Outs S) → Segment rules paints old events outs new → IsWhole rules old → IsWhole rules new
+whole_runs rules paints keeps [] old new outs run whole = subst (IsWhole rules) (sym run.1) whole
+whole_runs rules paints keeps (event ∷ events) old new outs run whole = whole_runs rules paints keeps events run.0 new run.2 run.4 (keeps old run.0 event run.1 run.3 whole)
+
+-- a turn of the document
+pub turns_housed : {C B S : Type 0} (rules : Rules C B) (paints : S → Pixels) (keeps : Keeps rules paints) (seats : Seats) (old : Option (Document S)) (out : List ℕ) (worked : Bool) (new : Option (Document S))
+    → IsHousedBy rules seats old → TurnsDocument rules paints seats old out worked new → IsHousedBy rules seats new
+turns_housed rules paints keeps seats None out worked new housed turns = subst (IsHousedBy rules seats) (sym turns.2) tt
+turns_housed {C} {B} {S} rules paints keeps seats (Some d) out true new housed turns =
+    let works : WorksAtOnce rules paints d turns.1 turns.0 = turns.2 in
+    subst (IsHousedBy rules seats) (sym turns.4) (works_seated rules paints keeps (whole_runs rules paints keeps) seats d turns.0 works.mid works.first works.later works.works works.answered housed)
+turns_housed rules paints keeps seats (Some d) out false new housed turns = subst (IsHousedBy rules seats) (sym turns.2) housed
+
+pub first_housed : {C B S : Type 0} (rules : Rules C B) (paints : S → Pixels) (keeps : Keeps rules paints) (waiting : List Waiting) (old : House S) (out : List ℕ) (rest : List Waiting) (new : House S)
+    → IsHoused rules old → TakesFirst rules paints waiting old out rest new → IsHoused rules new
+first_housed rules paints keeps [] old out rest new housed takes = subst (IsHoused rules) (sym takes.2) housed
+first_housed rules paints keeps (event ∷ events) old out rest new housed takes = takes_housed rules paints keeps event old out new housed takes.1
+
+-- a poll turn
+pub poll_housed : {C B S : Type 0} (rules : Rules C B) (paints : S → Pixels) (keeps : Keeps rules paints) (waiting : List Waiting) (old : House S) (out : List ℕ) (worked : Bool) (rest : List Waiting) (new : House S)
+    → IsHoused rules old → PollTurn rules paints waiting old out worked rest new → IsHoused rules new
+poll_housed rules paints keeps waiting old out worked rest new housed turn =
+    let mid = first_housed rules paints keeps waiting old turn.here rest turn.mid housed turn.takes in
+    subst (λ (seats : Seats). IsHousedBy rules seats new.document) (sym turn.stays)
+    (turns_housed rules paints keeps turn.mid.seats turn.mid.document turn.later turn.turned new.document mid turn.turns)

@@ -1,0 +1,180 @@
+-- What one poll holds: links and at most one document; and what one turn of it does. It is said by the document
+-- machine's steps, for any kit.
+use Rattle.std.specs.Prelude.{ℕ, ◌≡◌, ◌<◌, nat_lt, List, [], ◌∷◌, ◌++◌, length, map, codes, Option, None, Some, is_some, Bool, true, false, ◌||◌, if◌then◌else◌}
+use Rattle.std.specs.List.{flat_map, AllByRecursion}
+use Rattle.cool_base.specs.declared.ids.ViewId.{ViewId}
+use Rattle.cool_frame.specs.declared.frame.Frame.{Frame}
+use Rattle.cool_message.specs.Writing.{written}
+use Rattle.cool_message.specs.declared.message.ClientMessage.TheVariants.{TileProcessed}
+use Rattle.document_laws.specs.Whole.{IsWhole}
+use Rattle.document_machine.specs.Event.{Event, Joined, Left, Said, Painted}
+use Rattle.document_machine.specs.Outputs.{nothing}
+use Rattle.document_machine.specs.Run.{Segment}
+use Rattle.document_machine.specs.State.{View, Document, opening, find_view}
+use Rattle.document_machine.specs.Step.{Step, Works, Rests}
+use Rattle.document_machine.specs.declared.outs.Outs.{Outs}
+use Rattle.document_machine.specs.declared.rights.Rights.{Rights}
+use Rattle.kit_trait.specs.Rules.{Rules}
+use Rattle.kit_trait.specs.declared.jobs.PaintJob.{PaintJob}
+use Rattle.kit_trait.specs.declared.values.Pixels.{Pixels}
+use Rattle.script_world.specs.Seats.{Seats, nobody, is_waiting, view_of, enters, sits, without, link_of, tells, records, lobby_frame, bad_file, views_full}
+use Rattle.script_world.specs.declared.event.Waiting.{Waiting}
+use Rattle.script_world.specs.declared.event.Waiting.TheVariants.{Opened, Loads, Says, Gone}
+
+-- who is there, and the document once a load of it was taken
+pub record House (S : Type 0) : Type 0 where
+  pub seats : Seats
+  pub document : Option (Document S)
+
+-- a broker that was given up shows no document
+abbrev pub held : {S : Type 0} → Option (Option (Document S)) → Option (Document S)
+held None = None
+held (Some document) = document
+
+-- the rights of a link that writes, and of one that only looks, with their tokens
+abbrev pub rights : Bool → Rights
+rights true = record { can_write = true; token = codes "t-rw" }
+rights false = record { can_write = false; token = codes "t-ro" }
+
+-- A load of a document that is there: the link is a new view of it, or, where it has 64 views, is refused and stays
+-- in the lobby.
+abbrev pub JoinsWhere : {C B S : Type 0} → Bool → Rules C B → (S → Pixels) → Seats → ℕ → Rights → Document S → List ℕ → House S → Type 0
+JoinsWhere {C} {B} {S} true rules paints seats link given old out new = (d : Document S) × (outs : Outs S)
+    × Step rules paints old (Joined given) outs d
+    × (new ≡ record { seats = sits seats link old.next_view; document = Some d })
+    × (out ≡ records (sits seats link old.next_view) outs.frames)
+JoinsWhere false rules paints seats link given old out new =
+    (out ≡ tells link views_full) × (new ≡ record { seats = seats; document = Some old })
+
+abbrev pub JoinsOne : {C B S : Type 0} → Rules C B → (S → Pixels) → Seats → ℕ → Rights → Document S → List ℕ → House S → Type 0
+JoinsOne rules paints seats link given old out new =
+    JoinsWhere (nat_lt (length old.views) 64) rules paints seats link given old out new
+
+-- The first load begins the document over no bytes, unless the kit refuses no bytes as a file.
+abbrev pub BeginsWhere : {C B S : Type 0} → Bool → Rules C B → (S → Pixels) → Seats → ℕ → List ℕ → Rights → List ℕ → House S → Type 0
+BeginsWhere true rules paints seats link file given out new = JoinsOne rules paints seats link given (opening file []) out new
+BeginsWhere false rules paints seats link file given out new =
+    (out ≡ tells link bad_file) × (new ≡ record { seats = seats; document = None })
+
+abbrev pub LoadsOne : {C B S : Type 0} → Rules C B → (S → Pixels) → Seats → Option (Document S) → ℕ → List ℕ → Rights → List ℕ → House S → Type 0
+LoadsOne rules paints seats None link file given out new = BeginsWhere (rules.accepts []) rules paints seats link file given out new
+LoadsOne rules paints seats (Some old) link file given out new = JoinsOne rules paints seats link given old out new
+
+-- only a link of the lobby loads
+abbrev pub LoadsWhere : {C B S : Type 0} → Bool → Rules C B → (S → Pixels) → House S → ℕ → List ℕ → Rights → List ℕ → House S → Type 0
+LoadsWhere true rules paints old link file given out new = LoadsOne rules paints old.seats old.document link file given out new
+LoadsWhere false rules paints old link file given out new = (out ≡ []) × (new ≡ old)
+
+-- the view with this id, where the document has it
+abbrev pub seated_at : {S : Type 0} → Option (Document S) → Option ℕ → Option (Document S × ℕ)
+seated_at None seat = None
+seated_at (Some d) None = None
+seated_at (Some d) (Some id) = if is_some (find_view d.views id) then Some (d, id) else None
+
+-- the document with the view that the link is
+abbrev pub seated : {S : Type 0} → House S → ℕ → Option (Document S × ℕ)
+seated house link = seated_at house.document (view_of house.seats link)
+
+-- A message of a view is a step of its document; one of the lobby is answered there; one of a link that isn't held
+-- changes nothing.
+abbrev pub lobby_tells : Bool → ℕ → List ℕ → List ℕ
+lobby_tells true link text = tells link (lobby_frame text)
+lobby_tells false link text = []
+
+abbrev pub SaysAs : {C B S : Type 0} → Rules C B → (S → Pixels) → House S → ℕ → List ℕ → Option (Document S × ℕ) → List ℕ → House S → Type 0
+SaysAs rules paints old link text None out new = (out ≡ lobby_tells (is_waiting old.seats link) link text) × (new ≡ old)
+SaysAs {C} {B} {S} rules paints old link text (Some seat) out new = (d : Document S) × (outs : Outs S)
+    × Step rules paints seat.0 (Said seat.1 text) outs d
+    × (new ≡ record old { document = Some d }) × (out ≡ records old.seats outs.frames)
+
+-- A view that leaves is a step of its document; then the link is no longer held.
+abbrev pub LeavesAs : {C B S : Type 0} → Rules C B → (S → Pixels) → House S → ℕ → Option (Document S × ℕ) → List ℕ → House S → Type 0
+LeavesAs rules paints old link None out new = (out ≡ []) × (new ≡ record old { seats = without old.seats link })
+LeavesAs {C} {B} {S} rules paints old link (Some seat) out new = (d : Document S)
+    × Step rules paints seat.0 (Left seat.1) nothing d
+    × (out ≡ []) × (new ≡ record { seats = without old.seats link; document = Some d })
+
+-- taking one event
+abbrev pub TakesOne : {C B S : Type 0} → Rules C B → (S → Pixels) → Waiting → House S → List ℕ → House S → Type 0
+TakesOne rules paints (Opened link) old out new = (out ≡ []) × (new ≡ record old { seats = enters old.seats link })
+TakesOne rules paints (Loads link file writes) old out new =
+    LoadsWhere (is_waiting old.seats link) rules paints old link file (rights writes) out new
+TakesOne rules paints (Says link text) old out new = SaysAs rules paints old link text (seated old link) out new
+TakesOne rules paints (Gone link) old out new = LeavesAs rules paints old link (seated old link) out new
+
+-- taking the first event that waits, if one does
+abbrev pub TakesFirst : {C B S : Type 0} → Rules C B → (S → Pixels) → List Waiting → House S → List ℕ → List Waiting → House S → Type 0
+TakesFirst rules paints [] old out rest new = (rest ≡ []) × (out ≡ []) × (new ≡ old)
+TakesFirst rules paints (event ∷ events) old out rest new = (rest ≡ events) × TakesOne rules paints event old out new
+
+-- these jobs come back painted, in order
+abbrev pub painted_all : {S : Type 0} → List (PaintJob S) → List (Event S)
+painted_all jobs = map (λ job. Painted job.ticket.0 job.scene) jobs
+
+-- a turn that does a work, and directly behind it the answers to the jobs that it cut; these are all the frames
+pub record WorksAtOnce {C B S : Type 0} (rules : Rules C B) (paints : S → Pixels) (old : Document S) (frames : List (ViewId × Frame)) (new : Document S) : Type 0 where
+  pub mid : Document S
+  pub first : Outs S
+  pub later : Outs S
+  pub works : Works rules paints old first mid
+  pub answered : Segment rules paints mid (painted_all first.jobs) later new
+  pub frames_are : frames ≡ first.frames ++ later.frames
+
+-- One turn of the document, its jobs painted and answered at once: what it wrote and that it worked; or it rests, and
+-- so does a house without a document.
+abbrev pub TurnsDocument : {C B S : Type 0} → Rules C B → (S → Pixels) → Seats → Option (Document S) → List ℕ → Bool → Option (Document S) → Type 0
+TurnsDocument rules paints seats None out worked new = (out ≡ []) × (worked ≡ false) × (new ≡ None)
+TurnsDocument {C} {B} {S} rules paints seats (Some old) out true new = (d : Document S) × (frames : List (ViewId × Frame))
+    × WorksAtOnce rules paints old frames d × (out ≡ records seats frames) × (new ≡ Some d)
+TurnsDocument rules paints seats (Some old) out false new = (out ≡ []) × Rests rules old × (new ≡ Some old)
+
+-- A poll turn takes the first event that waits, if one does, and then the document makes one turn. It worked where it
+-- took an event or where the document's turn worked.
+pub record PollTurn {C B S : Type 0} (rules : Rules C B) (paints : S → Pixels) (waiting : List Waiting) (old : House S) (out : List ℕ) (worked : Bool) (rest : List Waiting) (new : House S) : Type 0 where
+  pub mid : House S
+  pub here : List ℕ
+  pub later : List ℕ
+  pub turned : Bool
+  pub takes : TakesFirst rules paints waiting old here rest mid
+  pub turns : TurnsDocument rules paints mid.seats mid.document later turned new.document
+  pub stays : new.seats ≡ mid.seats
+  pub worked_is : worked ≡ (nat_lt 0 (length waiting) || turned)
+  pub is : out ≡ here ++ later
+
+-- the numbers of the tiles that a view has not acknowledged, in order
+abbrev pub wids_of : Option View → List ℕ
+wids_of None = []
+wids_of (Some view) = map (λ tile. tile.wid) view.window
+
+-- the link acknowledges tiles with these numbers, if there are some
+abbrev pub acknowledges : ℕ → List ℕ → List Waiting
+acknowledges link [] = []
+acknowledges link (wid ∷ wids) = Says link (written (TileProcessed (wid ∷ wids))) ∷ []
+
+abbrev pub window_in : {S : Type 0} → Option (Document S) → ℕ → List ℕ
+window_in None view = []
+window_in (Some d) view = wids_of (find_view d.views view)
+
+-- each view whose window isn't empty acknowledges all its tiles, in order of links
+abbrev pub acknowledgements_by : {S : Type 0} → Option (Document S) → List (ℕ × ℕ) → List Waiting
+acknowledgements_by document views = flat_map (λ seat. acknowledges seat.0 (window_in document seat.1)) views
+
+abbrev pub acknowledgements : {S : Type 0} → House S → List Waiting
+acknowledgements house = acknowledgements_by house.document house.seats.views
+
+-- the ids of views
+abbrev pub ids_of : List View → List ℕ
+ids_of views = map (λ view. view.id) views
+
+-- a document and who is there: it is whole, no job is out, and each of its views has a link
+pub record IsSeated {C B S : Type 0} (rules : Rules C B) (seats : Seats) (d : Document S) : Type 0 where
+  pub whole : IsWhole rules d
+  pub none_out : d.jobs ≡ []
+  pub linked : AllByRecursion (λ id. is_some (link_of seats id) ≡ true) (ids_of d.views)
+
+abbrev pub IsHousedBy : {C B S : Type 0} → Rules C B → Seats → Option (Document S) → Type 0
+IsHousedBy rules seats None = Unit {0}
+IsHousedBy rules seats (Some d) = IsSeated rules seats d
+
+abbrev pub IsHoused : {C B S : Type 0} → Rules C B → House S → Type 0
+IsHoused rules house = IsHousedBy rules house.seats house.document
