@@ -27,7 +27,7 @@ use std::time::Instant;
 const LAST: u8 = b'Z';
 
 fn main(rt: HostRuntime) -> ExitCode {
-    let texts = [("numbers", " 12345"), ("texts", " some words here"), ("formulas", " =A1+1")];
+    let texts = [("numbers", " 12345"), ("texts", " some words"), ("formulas", " =IV1+1")];
     for (what, text) in texts {
         if timed(&rt, what, text).is_none() {
             return ExitCode::FAILURE;
