@@ -74,7 +74,10 @@ impl Place {
             ScriptLine::Settle => Ok(Judged::Acts(ScriptLine::Settle)),
             ScriptLine::Blank => Ok(Judged::Acts(ScriptLine::Blank)),
             ScriptLine::Turn(count) => Ok(Judged::Acts(ScriptLine::Turn(count))),
-            ScriptLine::Say(link, message) => Ok(self.if_live(link, ScriptLine::Say(link, message))),
+            ScriptLine::Say(link, message) => Ok(self.if_live(
+                link,
+                ScriptLine::Say(link, message),
+            )),
             ScriptLine::Keys(link, typed) => Ok(self.if_live(link, ScriptLine::Keys(link, typed))),
             ScriptLine::Leave(link) => self.leave(link),
             ScriptLine::Open(link, file, writes) => self.open(link, file, writes),

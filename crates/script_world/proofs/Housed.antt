@@ -123,7 +123,7 @@ gone_by : {S : Type 0} (seats : Seats) (d : Document S) (link : ℕ) (view : Opt
 gone_by seats d link None none lacks all = all_on (HasLink seats.views) (HasLink (without seats link).views) (ids_of d.views) (λ id h. gone_none (is_at (nat_cmp link)) seats.views id none h) all
 gone_by {S} seats d link (Some view) is lacks all =
     let not_there : is_some (find_view d.views view) ≡ false =
-        lacks_view d view (is_some (find_view d.views view)) lacks
+    lacks_view d view (is_some (find_view d.views view)) lacks
     in
     all_by (λ (n : ℕ). n ≢ view) (HasLink seats.views) (HasLink (without seats link).views) (ids_of d.views)
     (λ id apart h. gone_others (is_at (nat_cmp link)) seats.views view id is apart h) (ids_lack d.views view not_there) all
@@ -146,8 +146,8 @@ leaves_by {C} {B} {S} rules paints keeps old link (Some seat) out new is housed 
     let apart : AllByRecursion (λ (n : ℕ). n ≢ seat.1) (ids_of (without_view seat.0.views seat.1)) = ids_without seat.0.views seat.1 there.whole.kept.ids in
     let stay : AllByRecursion (HasLink old.seats.views) (ids_of (without_view seat.0.views seat.1)) = ids_stay (HasLink old.seats.views) seat.0.views seat.1 there.linked in
     let links : AllByRecursion (HasLink (without old.seats link).views) (ids_of (without_view seat.0.views seat.1)) =
-        all_by (λ (n : ℕ). n ≢ seat.1) (HasLink old.seats.views) (HasLink (without old.seats link).views) (ids_of (without_view seat.0.views seat.1))
-        (λ id other h. gone_others (is_at (nat_cmp link)) old.seats.views seat.1 id at.1 other h) apart stay
+    all_by (λ (n : ℕ). n ≢ seat.1) (HasLink old.seats.views) (HasLink (without old.seats link).views) (ids_of (without_view seat.0.views seat.1))
+    (λ id other h. gone_others (is_at (nat_cmp link)) old.seats.views seat.1 id at.1 other h) apart stay
     in
     subst (IsHoused rules) (sym leaves.3) (record {
       whole = keeps seat.0 leaves.0 (Left seat.1) nothing leaves.1 there.whole;

@@ -164,12 +164,12 @@ first_less {C} {B} {S} rules paints old (Some d) event out new is housed first t
     let text : List ℕ = written (TileProcessed (first.wid ∷ first.wids)) in
     let says : SaysAs rules paints old first.link text (seated old first.link) out new = subst (λ (e : Waiting). TakesOne rules paints e old out new) first.is takes in
     let found : seated old first.link ≡ Some (d, first.id) =
-        ap (λ (o : Option (Document S)). seated_at o (view_of old.seats first.link)) is ∙ ap (λ (v : Option ℕ). seated_at (Some d) v) first.at ∙ seated_is d first.id tiles.view tiles.live in
+    ap (λ (o : Option (Document S)). seated_at o (view_of old.seats first.link)) is ∙ ap (λ (v : Option ℕ). seated_at (Some d) v) first.at ∙ seated_is d first.id tiles.view tiles.live in
     let said : SaysAs rules paints old first.link text (Some (d, first.id)) out new = subst (λ (f : Option (Document S × ℕ)). SaysAs rules paints old first.link text f out new) found says in
     let some : tiles.view.window ≢ [] = some_window tiles.view first.wid first.wids tiles.window in
     let read : reading text ≡ Ok (TileProcessed (numbers tiles.view)) =
-        window_read rules d first.id (find_view d.views first.id) first.wid first.wids housed.whole.kept.each refl first.window first.small
-        ∙ ap (λ (w : List ℕ). Ok (TileProcessed w)) (sym tiles.window) in
+    window_read rules d first.id (find_view d.views first.id) first.wid first.wids housed.whole.kept.each refl first.window first.small
+    ∙ ap (λ (w : List ℕ). Ok (TileProcessed w)) (sym tiles.window) in
     let gone : IsAcknowledged rules d first.id tiles.view said.1 said.0 = said_lowers rules d first.id tiles.view text said.1 said.0 tiles.live some read said.2 in
     let less : left_to_do rules said.0 < left_to_do rules d = gone.less in
     let new_is : left_of rules new.document ≡ left_to_do rules said.0 = ap (λ (h : House S). left_of rules h.document) said.3 in

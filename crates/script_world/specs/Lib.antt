@@ -3,5 +3,4 @@ pub mod House
 pub mod Taken
 pub mod Answered
 pub mod World
-
 pub mod Moved

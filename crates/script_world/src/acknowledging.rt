@@ -18,8 +18,7 @@ use std::collections::VecDeque;
 /// A number of 64 bits is below 2^64.
 fn are_small(wids: &[u64])
     ensures { AllByRecursion (λ n. n < 2 ^ 64) wids.now }
-{
-}
+{}
 
 /// The numbers of the tiles that the view has not acknowledged, in order.
 fn window_to<K: Kit>(alloc: Global, broker: &Broker<K>, view: u32) -> Result<Vec<u64>, Memory>

@@ -94,12 +94,7 @@ fn leaves_it<K: Kit>(mut broker: Broker<K>, seats: &Seats, link: u32) -> Broker<
 }
 
 /// A link is gone.
-fn leaves<K: Kit>(
-    alloc: Global,
-    broker: Option<Broker<K>>,
-    seats: &mut Seats,
-    link: u32,
-) -> Step<K>
+fn leaves<K: Kit>(alloc: Global, broker: Option<Broker<K>>, seats: &mut Seats, link: u32) -> Step<K>
     requires { ForSome (held broker) (λ d. d.jobs ≡ []) }
     ensures { LeavesAs K.rules K.Scene.paints (record { seats = seats.old; document = held broker }) link (seated_at (held broker) (view_of seats.old link)) result.bytes.items (record { seats = seats.new; document = held result.broker }) }
 {

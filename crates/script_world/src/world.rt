@@ -66,8 +66,10 @@ impl<K: Kit> World<K> {
         let greeting = greeting(alloc)?;
         self.waiting.reserve(3)?;
         self.waiting.push_back_reserved(Waiting::Opened(link));
-        self.waiting.push_back_reserved(Waiting::Says(link, greeting));
-        self.waiting.push_back_reserved(Waiting::Loads(link, file, writes));
+        self.waiting
+            .push_back_reserved(Waiting::Says(link, greeting));
+        self.waiting
+            .push_back_reserved(Waiting::Loads(link, file, writes));
         Ok(())
     }
 
@@ -105,7 +107,14 @@ impl<K: Kit> World<K> {
         ensures cause { HasCause (T.faults sink.old) (T.faults sink.new) (result ≡ Err Stop.Sink) }
     {
         let broker = self.broker.take();
-        self.broker = turns_up_to(alloc, broker, &mut self.seats, &mut self.waiting, sink, count)?;
+        self.broker = turns_up_to(
+            alloc,
+            broker,
+            &mut self.seats,
+            &mut self.waiting,
+            sink,
+            count,
+        )?;
         Ok(())
     }
 

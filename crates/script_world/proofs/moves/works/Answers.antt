@@ -25,7 +25,7 @@ turns-smaller g c =
 pub turns-preserved : goal.turns-preserved
 turns-preserved g c =
     let left = bare_left g.K.Kit.rules g.K.Scene.Scene.paints c.turns.waiting.items (record { seats = c.turns.seats; document = held c.turns.broker }) c.in_ok-next.worked c.one_turn.new.waiting.items (record { seats = c.one_turn.new.seats; document = held c.in_ok-next.next })
-        (g.T.Sink.written c.turns.sink) (g.T.Sink.written c.one_turn.new.sink) c.turns.invariant.none c.turns.invariant.housed c.in_ok-next.ensures.ok in
+    (g.T.Sink.written c.turns.sink) (g.T.Sink.written c.one_turn.new.sink) c.turns.invariant.none c.turns.invariant.housed c.in_ok-next.ensures.ok in
     record {
       came = bare_more g.K.Kit.rules g.K.Scene.Scene.paints (record { waiting = []; house = record { seats = c.args.seats.now; document = held c.args.broker } }) c.turns.waiting.items (record { seats = c.turns.seats; document = held c.turns.broker }) c.in_ok-next.worked c.one_turn.new.waiting.items (record { seats = c.one_turn.new.seats; document = held c.in_ok-next.next })
           (g.T.Sink.written c.args.sink.now) (g.T.Sink.written c.turns.sink) (g.T.Sink.written c.one_turn.new.sink) c.turns.invariant.none left.0 c.turns.invariant.came c.in_ok-next.ensures.ok;

@@ -31,7 +31,7 @@ pub passes-preserved : goal.passes-preserved
 passes-preserved g c = record {
   came = came_joined (Moves g.K.Kit.rules g.K.Scene.Scene.paints) (record { waiting = []; house = record { seats = c.args.seats.now; document = held c.args.broker } }) (record { waiting = c.acknowledge_all.new.waiting.items; house = record { seats = c.works.new.seats; document = held c.in_ok-still.still } }) (record { waiting = []; house = record { seats = c.acknowledged.new.seats; document = held c.in_ok-broker.broker } }) (g.T.Sink.written c.args.sink.now) (g.T.Sink.written c.works.new.sink) (g.T.Sink.written c.acknowledged.new.sink)
       (acks_came g.K.Kit.rules g.K.Scene.Scene.paints (record { waiting = []; house = record { seats = c.args.seats.now; document = held c.args.broker } }) (record { seats = c.works.new.seats; document = held c.in_ok-still.still }) c.acknowledge_all.new.waiting.items (g.T.Sink.written c.args.sink.now) (g.T.Sink.written c.passes.sink) (g.T.Sink.written c.works.new.sink) (record { seats = c.passes.seats; document = held c.passes.broker })
-    c.passes.invariant.came c.in_ok-still.ensures.ok c.in_ok-still.ensures.rests (c.in_ok-acknowledge_all.ensures.ok ∙ ap (λ w. w ++ acknowledgements (record { seats = c.works.new.seats; document = held c.in_ok-still.still })) c.in_ok-still.ensures.none_still) (let some : 0 < c.acknowledge_all.new.waiting.len = not_none c.acknowledge_all.new.waiting.len c.is_empty.result c.is_empty.ensures c.if-is_empty.false in omega (arith, some))) c.in_ok-broker.ensures.ok;
+      c.passes.invariant.came c.in_ok-still.ensures.ok c.in_ok-still.ensures.rests (c.in_ok-acknowledge_all.ensures.ok ∙ ap (λ w. w ++ acknowledgements (record { seats = c.works.new.seats; document = held c.in_ok-still.still })) c.in_ok-still.ensures.none_still) (let some : 0 < c.acknowledge_all.new.waiting.len = not_none c.acknowledge_all.new.waiting.len c.is_empty.result c.is_empty.ensures c.if-is_empty.false in omega (arith, some))) c.in_ok-broker.ensures.ok;
   none = c.in_ok-broker.ensures.none;
   housed = c.in_ok-broker.ensures.housed_still;
   faults = c.in_ok-broker.ensures.cause.kept (λ e. cc) ∙ c.in_ok-still.ensures.cause.kept (λ e. cc) ∙ c.passes.invariant.faults;
