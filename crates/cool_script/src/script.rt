@@ -9,6 +9,7 @@ use outside::Sink;
 use script_lines::{Judged, Place, ScriptLine, Stop};
 use script_run::{Play, Status, refuse};
 use script_world::World;
+use sheet_kit::SheetKit;
 use std::alloc::Global;
 use std::marker::Model;
 
@@ -109,7 +110,7 @@ impl Play for Script<PatchKit> {
     ghost use Rattle.kit_trait.specs.Patch.{patch_rules};
     ghost use Rattle.kit_trait.specs.PatchSeen.{scene_picture};
     ghost use Rattle.kit_trait.specs.declared.patch_scene.PatchScene.{PatchScene};
-        ghost use Rattle.cool_script.specs.Script.{Standing, Acting, UnderWay};
+    ghost use Rattle.cool_script.specs.Script.{Standing, Acting, UnderWay};
     ghost use Rattle.cool_script.specs.Follows.{acting_follows};
 
     ghost State = { Standing PatchScene };
@@ -133,4 +134,34 @@ impl Play for Script<PatchKit> {
     }
 
     ghost follows = { acting_follows patch_rules scene_picture };
+}
+
+impl Play for Script<SheetKit> {
+    ghost use Rattle.sheet_kit.specs.Seen.{scene_picture};
+    ghost use Rattle.sheet_kit.specs.SheetKind.{sheet_kind};
+    ghost use Rattle.sheet_kit.specs.declared.scene.SheetScene.{SheetScene};
+    ghost use Rattle.cool_script.specs.Script.{Standing, Acting, UnderWay};
+    ghost use Rattle.cool_script.specs.Follows.{acting_follows};
+
+    ghost State = { Standing SheetScene };
+
+    ghost state = { λ s. s };
+
+    ghost place = { λ s. s.place };
+
+    ghost step = { Acting sheet_kind scene_picture };
+
+    ghost under = { UnderWay sheet_kind scene_picture };
+
+    fn answer<T: Sink>(
+        &mut self,
+        alloc: Global,
+        sink: &mut T,
+        line: &[u8],
+        number: u64,
+    ) -> Option<Status> {
+        self.take_line(alloc, sink, line, number)
+    }
+
+    ghost follows = { acting_follows sheet_kind scene_picture };
 }

@@ -39,9 +39,19 @@ fn words(rt: &HostRuntime, text: &str) -> Result<Vec<String>, Fail> {
     Ok(words)
 }
 
-// The status of a script and what it wrote, with room for so many bytes.
+// The status of a script on a patch document and what it wrote, with room for so many bytes.
 fn played(rt: &HostRuntime, script: &str, room: usize) -> Result<(u8, Vec<u8>), Fail> {
-    let words = words(rt, "replay patch")?;
+    played_as(rt, "replay patch", script, room)
+}
+
+// The same for these words.
+fn played_as(
+    rt: &HostRuntime,
+    form: &str,
+    script: &str,
+    room: usize,
+) -> Result<(u8, Vec<u8>), Fail> {
+    let words = words(rt, form)?;
     let mut source = MemorySource::new(script.as_bytes());
     let mut sink = MemorySink::new(rt.alloc(), room)?;
     let status = replay(rt.alloc(), &words, &mut source, &mut sink);
@@ -110,7 +120,8 @@ fn count_of(bytes: &[u8], text: &str) -> usize {
     count
 }
 
-const Z: &str = "clientzoom tilepixelwidth=8 tilepixelheight=8 tiletwipwidth=240 tiletwipheight=240";
+const Z: &str =
+    "clientzoom tilepixelwidth=8 tilepixelheight=8 tiletwipwidth=240 tiletwipheight=240";
 
 // What of these texts doesn't stand so often in the transcript of the script: nothing where all do.
 fn wrong(rt: &HostRuntime, script: &str, wanted: &[(&str, usize)]) -> Result<String, Fail> {
@@ -138,8 +149,14 @@ fn a_window_holds_tiles_back(rt: HostRuntime) -> Result<(), Fail> {
         &script,
         &[
             ("\ntile: ", 65),
-            ("tileposx=0 tileposy=960 tilewidth=240 tileheight=240 ver=0 wid=53\n", 1),
-            ("tileposx=2880 tileposy=960 tilewidth=240 tileheight=240 ver=0 wid=65\n", 1),
+            (
+                "tileposx=0 tileposy=960 tilewidth=240 tileheight=240 ver=0 wid=53\n",
+                1,
+            ),
+            (
+                "tileposx=2880 tileposy=960 tilewidth=240 tileheight=240 ver=0 wid=65\n",
+                1,
+            ),
         ],
     )?;
     assert_eq!(rt; bad.as_str(), "");
@@ -151,7 +168,10 @@ fn a_window_holds_tiles_back(rt: HostRuntime) -> Result<(), Fail> {
         &script,
         &[
             ("\ntile: ", 65),
-            ("tileposx=1920 tileposy=960 tilewidth=240 tileheight=240 ver=0 wid=65\n", 1),
+            (
+                "tileposx=1920 tileposy=960 tilewidth=240 tileheight=240 ver=0 wid=65\n",
+                1,
+            ),
         ],
     )?;
     assert_eq!(rt; bad.as_str(), "");
@@ -184,7 +204,10 @@ fn too_small_a_zoom(rt: HostRuntime) -> Result<(), Fail> {
         "open 1 d rw\nsay 1 tile part=0 width=8 height=8 tileposx=7 tileposy=0 tilewidth=240 tileheight=240\nsay 1 clientvisiblearea x=0 y=0 width=3840 height=3840\nsay 1 clientzoom tilepixelwidth=1 tilepixelheight=1 tiletwipwidth=15 tiletwipheight=15\nturn 0 9\nend\n",
         &[
             ("1 28\nerror: cmd=tile kind=badtile\n", 1),
-            ("\ntile: part=0 width=256 height=256 tileposx=0 tileposy=0 tilewidth=3840 tileheight=3840 ver=0 wid=1\n", 1),
+            (
+                "\ntile: part=0 width=256 height=256 tileposx=0 tileposy=0 tilewidth=3840 tileheight=3840 ver=0 wid=1\n",
+                1,
+            ),
             ("\ntile: ", 1),
             ("error: cmd=clientzoom kind=toolarge\n", 1),
         ],
@@ -246,14 +269,22 @@ fn links_come_and_go(rt: HostRuntime) -> Result<(), Fail> {
         let line = format!(in alloc; "open {link} d rw\n")?;
         script.push_str(&line)?;
     }
-    script.push_str("say 65 canceltiles\nsay 65 load url=x\nsay 65 coolclient 0.1\nsay 65 hop\nsettle\ndrop 1\nopen 66 d ro\nsettle\nturn 0 100000\nend\n")?;
+    script.push_str(
+        "say 65 canceltiles\nsay 65 load url=x\nsay 65 coolclient 0.1\nsay 65 hop\nsettle\ndrop 1\nopen 66 d ro\nsettle\nturn 0 100000\nend\n",
+    )?;
     let bad = wrong(
         &rt,
         &script,
         &[
-            ("65 30\nerror: cmd=load kind=viewsfull\n65 37\nerror: cmd=canceltiles kind=notloaded\n65 31\nerror: cmd=load kind=badmessage\n65 51\ncoolserver", 1),
+            (
+                "65 30\nerror: cmd=load kind=viewsfull\n65 37\nerror: cmd=canceltiles kind=notloaded\n65 31\nerror: cmd=load kind=badmessage\n65 51\ncoolserver",
+                1,
+            ),
             ("65 30\nerror: cmd=hop kind=badmessage\n", 1),
-            ("66 80\nstatus: type=patch parts=1 current=0 width=3840 height=3840 viewid=64 readonly=1\n", 1),
+            (
+                "66 80\nstatus: type=patch parts=1 current=0 width=3840 height=3840 viewid=64 readonly=1\n",
+                1,
+            ),
             ("kind=", 4),
             ("\nstatus: ", 65),
         ],
@@ -264,7 +295,10 @@ fn links_come_and_go(rt: HostRuntime) -> Result<(), Fail> {
         "open 1 d rw\nsettle\ntype 1 ab\ndrop 1\nsettle\nopen 2 d rw\nsettle\nend\n",
         &[
             ("1 52\ninvalidatetiles", 2),
-            ("2 79\nstatus: type=patch parts=1 current=0 width=3840 height=3840 viewid=1 readonly=0\n", 1),
+            (
+                "2 79\nstatus: type=patch parts=1 current=0 width=3840 height=3840 viewid=1 readonly=0\n",
+                1,
+            ),
             ("kind=", 0),
         ],
     )?;
@@ -285,13 +319,68 @@ fn three_views_settle(rt: HostRuntime) -> Result<(), Fail> {
             ("tilewidth=240 tileheight=240 ver=0", 16),
             ("tilewidth=480 tileheight=480 ver=0", 4),
             ("tilewidth=960 tileheight=960 ver=0", 1),
-            ("tileposx=720 tileposy=720 tilewidth=240 tileheight=240 ver=1 wid=17\n", 1),
-            ("tileposx=480 tileposy=480 tilewidth=480 tileheight=480 ver=1 wid=5\n", 1),
+            (
+                "tileposx=720 tileposy=720 tilewidth=240 tileheight=240 ver=1 wid=17\n",
+                1,
+            ),
+            (
+                "tileposx=480 tileposy=480 tilewidth=480 tileheight=480 ver=1 wid=5\n",
+                1,
+            ),
             ("tilewidth=960 tileheight=960 ver=1 wid=2\n", 1),
             ("ver=1", 3),
         ],
     )?;
     assert_eq!(rt; bad.as_str(), "");
+    Ok(())
+}
+
+const CELLS: &str =
+    "open 1 d rw\nsay 1 mouse type=buttondown x=10 y=10\ntype 1 =B1+1\nsay 1 mouse type=buttondown x=970 y=10\ntype 1 =A1\nsettle\nsay 1 mouse type=buttondown x=970 y=10\ntype 1 4\nsay 1 tile part=0 width=6 height=8 tileposx=0 tileposy=0 tilewidth=90 tileheight=120\nsettle\nend\n";
+
+#[test]
+fn two_cells_of_a_sheet(rt: HostRuntime) -> Result<(), Fail> {
+    let (status, bytes) = played_as(&rt, "replay sheet", CELLS, 100_000)?;
+    let mut wanted = Vec::from_slice(
+        rt.alloc(),
+        b"\ninvalidatetiles: part=0 x=0 y=0 width=1920 height=240\n1 285\ntile: part=0 width=6 height=8 tileposx=0 tileposy=0 tilewidth=90 tileheight=120 ver=12 wid=1\n",
+    )?;
+    for point in b"WWWWWWWWWWWWWWWWWWWWWWWWWWBBBBWWBWWWWWBBBBWWWWWW" {
+        let shade = if *point == b'W' { 255 } else { 0 };
+        wanted.extend_from_slice(&[shade, shade, shade, 255])?;
+    }
+    wanted.extend_from_slice(b"\n")?;
+    assert_eq!(rt; status, 0);
+    assert!(rt; bytes.ends_with(wanted.as_slice()));
+    Ok(())
+}
+
+#[test]
+fn three_views_of_a_sheet(rt: HostRuntime) -> Result<(), Fail> {
+    let script =
+        "open 1 d rw\nopen 2 d ro\nopen 3 d rw\nsay 1 clientzoom tilepixelwidth=8 tilepixelheight=8 tiletwipwidth=240 tiletwipheight=240\nsay 1 clientvisiblearea x=0 y=0 width=480 height=240\nsay 2 clientzoom tilepixelwidth=8 tilepixelheight=8 tiletwipwidth=480 tiletwipheight=480\nsay 2 clientvisiblearea x=0 y=0 width=480 height=240\nsay 3 clientzoom tilepixelwidth=16 tilepixelheight=16 tiletwipwidth=960 tiletwipheight=960\nsay 3 clientvisiblearea x=0 y=0 width=1 height=1\nsay 3 setclientpart part=1\nsettle\nsay 3 mouse type=buttondown x=10 y=10\ntype 3 7\nsettle\nend\n";
+    let (status, bytes) = played_as(&rt, "replay sheet", script, 100_000)?;
+    assert_eq!(rt; status, 0);
+    assert_eq!(rt;
+        count_of(&bytes, "error: cmd=setclientpart kind=badtile\n"),
+        1
+    );
+    assert_eq!(rt;
+        count_of(
+            &bytes,
+            "\ninvalidatetiles: part=0 x=0 y=0 width=960 height=240\n"
+        ),
+        3
+    );
+    assert_eq!(rt; count_of(&bytes, "tilewidth=240 tileheight=240 ver=2"), 2);
+    assert_eq!(rt;
+        count_of(&bytes, "tilewidth=480 tileheight=480 ver=2 wid=2\n"),
+        1
+    );
+    assert_eq!(rt;
+        count_of(&bytes, "tilewidth=960 tileheight=960 ver=2 wid=2\n"),
+        1
+    );
     Ok(())
 }
 
@@ -330,10 +419,12 @@ fn words_and_a_source_that_fails(rt: HostRuntime) -> Result<(), Fail> {
     let table = [
         ("", 2),
         ("replay", 2),
-        ("replay sheet", 2),
+        ("replay text", 2),
+        ("replay sheet sheet", 2),
         ("serve patch", 2),
         ("replay patch patch", 2),
         ("replay patch", 4),
+        ("replay sheet", 4),
     ];
     for (text, status) in table {
         let words = words(&rt, text)?;
