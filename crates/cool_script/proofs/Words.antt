@@ -26,3 +26,19 @@ not_not false e = cc
 -- a text that was not told from another is it
 pub same_text : (text other bytes : List ℕ) → false ≡ not (bytes_eq text other) → text ≡ bytes → bytes ≡ other
 same_text text other bytes e is = sym is ∙ (bytes_eq-Decides text other).0 (not_not (bytes_eq text other) e)
+
+-- the second of two words
+pub second_of : {A B : Type 0} (f : A → B) (xs : List A) (y : A) (a b : B) → 2 ≤ length xs → length xs < 3 → y ≡ get_or xs 1 y → map f xs ≡ a ∷ b ∷ [] → f y ≡ b
+second_of f [] y a b some few at is = absurd (omega (arith, some))
+second_of f (p ∷ []) y a b some few at is = absurd (omega (arith, some))
+second_of f (p ∷ q ∷ []) y a b some few at is =
+    let e : y ≡ q = at in
+    cc
+second_of f (p ∷ q ∷ r ∷ xs) y a b some few at is = absurd (omega (arith, few))
+
+-- a text that was told from another isn't it
+pub other_text : (text other bytes : List ℕ) → true ≡ not (bytes_eq text other) → text ≡ bytes → bytes ≡ other → ⊥
+other_text text other bytes told is same =
+    let e : bytes_eq text other ≡ true = (bytes_eq-Decides text other).1 (is ∙ same) in
+    let odd : true ≡ false = told ∙ ap not e in
+    absurd (cc)
