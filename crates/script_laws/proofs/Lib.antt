@@ -1,0 +1,6 @@
+mod Views
+mod Links
+mod Held
+mod Turns
+mod Lines
+mod Shown

@@ -1,0 +1,73 @@
+-- What the tiles of a transcript show, and what is right behind a line.
+use Rattle.std.proofs.Common.{◌≡◌, ◌∙◌, ℕ, ◌<◌, true, List, [], ◌∷◌, ◌++◌, length, codes, Option, None, Some, inl, inr, refl, sym, ap, subst}
+use Rattle.std.specs.Prelude.{Result, Ok, Err}
+use Rattle.std.specs.List.{flat_map, AllByRecursion}
+use Rattle.cool_base.specs.declared.ids.ViewId.{ViewId}
+use Rattle.cool_frame.specs.declared.frame.Frame.{Frame}
+use Rattle.cool_message.specs.Reading.{reading}
+use Rattle.cool_message.specs.declared.fault.MessageFault.{MessageFault}
+use Rattle.cool_message.specs.declared.message.ClientMessage.{ClientMessage}
+use Rattle.cool_message.specs.declared.message.ClientMessage.TheVariants.{CoolClient, Load}
+use Rattle.document_laws.specs.Tiles.{IsShown}
+use Rattle.document_laws.specs.Whole.{IsWhole}
+use Rattle.document_laws.proofs.Tiles.{run_shows}
+use Rattle.document_laws.proofs.Whole.{opening_is_whole, runs_keep}
+use Rattle.document_machine.specs.Due.{parts_of}
+use Rattle.document_machine.specs.State.{Document, opening}
+use Rattle.kit_trait.specs.Rules.{Rules}
+use Rattle.kit_trait.specs.declared.values.Pixels.{Pixels}
+use Rattle.script_lines.specs.Grammar.{Verdict, line_of, verdict}
+use Rattle.script_lines.specs.Places.{Place}
+use Rattle.script_run.specs.Transcript.{Runs}
+use Rattle.script_world.specs.Seats.{lobby_answer, lobby_frame, bad_file, views_full}
+use Rattle.script_world.specs.World.{Seen, Settled, IsAtRest}
+use Rattle.cool_script.specs.Script.{Standing, first, DoesBy, Acting}
+use Rattle.script_laws.specs.Played.{Piece, Lobby, Given, given_of, IsAnswer, IsSent, IsRun, IsRunTo, IsPlayed, IsNoTile, ShowsPrefix, Shows}
+use Rattle.script_laws.proofs.Lines.{last_of}
+
+-- an answer in the lobby is no tile
+no_tile_of : (text : List ℕ) (read : Result ClientMessage MessageFault) → IsNoTile (lobby_answer text read)
+no_tile_of text (Err fault) = tt
+no_tile_of text (Ok CoolClient) = tt
+no_tile_of text (Ok (Load url)) = tt
+no_tile_of text (Ok _) = tt
+
+no_tile : (answer : Frame) → IsAnswer answer → IsNoTile answer
+no_tile answer (inl said) = subst IsNoTile (sym said.1) (no_tile_of said.0 (reading said.0))
+no_tile answer (inr (inl bad)) = subst IsNoTile (sym bad) tt
+no_tile answer (inr (inr full)) = subst IsNoTile (sym full) tt
+
+module _ {C B S : Type 0} (rules : Rules C B) (paints : S → Pixels) where
+  -- from frames to records
+  all_show : (links : List ℕ) (document : Option (Document S)) (pieces : List Piece) → AllByRecursion (IsSent links) pieces → AllByRecursion (ShowsPrefix rules document) (flat_map given_of pieces) → AllByRecursion (Shows rules document) pieces
+  all_show links document [] sent shown = tt
+  all_show links document (Lobby link answer ∷ pieces) sent shown = (no_tile answer sent.0, all_show links document pieces sent.1 shown)
+  all_show links document (Given link view frame ∷ pieces) sent shown = (shown.0, all_show links document pieces sent.1 shown.1)
+
+  -- the document of a run is whole
+  pub run_whole : ((base : List ℕ) → 0 < parts_of rules base) → (frames : List (ViewId × Frame)) (d : Document S) → IsRun rules paints frames d → IsWhole rules d
+  run_whole some frames d run = runs_keep rules paints some run.events (opening run.file []) d run.outs run.follows (opening_is_whole S rules run.file [] run.accepted)
+
+  frames_show : ((base : List ℕ) → 0 < parts_of rules base) → (frames : List (ViewId × Frame)) (document : Option (Document S)) → IsRunTo rules paints frames document → AllByRecursion (ShowsPrefix rules document) frames
+  frames_show some frames None run = subst (AllByRecursion (ShowsPrefix {S = S} rules None)) (sym run) tt
+  frames_show some frames (Some d) run =
+      subst (AllByRecursion (ShowsPrefix rules (Some d))) (sym run.frames_are)
+      (run_shows rules paints some run.events (opening run.file []) d run.outs (opening_is_whole S rules run.file [] run.accepted) run.follows)
+
+  pub transcript_shows : ((base : List ℕ) → 0 < parts_of rules base) → (out : List ℕ) (document : Option (Document S)) (played : IsPlayed rules paints out document) → AllByRecursion (Shows rules document) played.pieces
+  transcript_shows some out document played = all_show played.links document played.pieces played.each (frames_show some (flat_map given_of played.pieces) document played.run)
+
+  -- the line `settle` acts anywhere, and settles the world
+  settled_by : (place : Place) (world : Seen S) (out : List ℕ) (t : Standing S) → DoesBy rules paints (verdict place (codes "settle")) world out t → Settled rules paints world out t.world
+  unfolding line_of
+  settled_by place world out t does = does.0
+
+  acting_settles : (s : Standing S) (out : List ℕ) (t : Standing S) → Acting rules paints s (codes "settle") out t → Settled rules paints s.world out t.world
+  unfolding Acting
+  acting_settles s out t acts = settled_by s.place s.world out t acts
+
+  pub settled_rests : (lines : List (List ℕ)) (out : List ℕ) (t : Standing S) → Runs (Acting rules paints) first (lines ++ codes "settle" ∷ []) out t → (t.world.waiting ≡ []) × IsAtRest rules t.world.house.document
+  settled_rests lines out t runs =
+      let at = last_of (Acting rules paints) first lines (codes "settle") out t runs in
+      let settled : Settled rules paints at.0.world at.1 t.world = acting_settles at.0 at.1 t at.2 in
+      (settled.none_waits, settled.rests)

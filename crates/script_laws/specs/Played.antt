@@ -1,0 +1,89 @@
+-- A transcript in the words of the document machine: which of its records the document gave, and that these are the
+-- frames of one run.
+use Rattle.std.specs.Prelude.{ℕ, ◌≡◌, ⊤, List, [], ◌∷◌, length, slice_get, Option, None, Some, ◌⊎◌, true}
+use Rattle.std.specs.List.{flat_map, AllByRecursion}
+use Rattle.cool_base.specs.declared.ids.ViewId.{ViewId}
+use Rattle.cool_frame.specs.declared.frame.Frame.{Frame}
+use Rattle.cool_frame.specs.declared.frame.Frame.TheVariants.{Tile}
+use Rattle.document_laws.specs.Tiles.{IsShown}
+use Rattle.document_machine.specs.Event.{Event}
+use Rattle.document_machine.specs.Run.{Segment}
+use Rattle.document_machine.specs.State.{Document, opening}
+use Rattle.document_machine.specs.declared.outs.Outs.{Outs}
+use Rattle.kit_trait.specs.Rules.{Rules}
+use Rattle.kit_trait.specs.declared.values.Pixels.{Pixels}
+use Rattle.script_world.specs.Seats.{tells, lobby_frame, bad_file, views_full}
+
+-- one record of a transcript: the answer to a link in the lobby, or a frame that the document gave to a view, as it is
+-- written to the view's link
+pub data Piece : Type 0 where
+  Lobby : (link : ℕ) (answer : Frame) → Piece
+  Given : (link : ℕ) (view : ViewId) (frame : Frame) → Piece
+
+-- the bytes of a record
+abbrev pub bytes_of : Piece → List ℕ
+bytes_of (Lobby link answer) = tells link answer
+bytes_of (Given link view frame) = tells link frame
+
+-- what of a record the document gave, and to which view
+abbrev pub given_of : Piece → List (ViewId × Frame)
+given_of (Lobby link answer) = []
+given_of (Given link view frame) = (view, frame) ∷ []
+
+-- what a link in the lobby is answered: to a message, to a load of a file that the kit refuses, to a load of a
+-- document that has its 64 views
+abbrev pub IsAnswer : Frame → Type 0
+IsAnswer answer = ((text : List ℕ) × (answer ≡ lobby_frame text)) ⊎ ((answer ≡ bad_file) ⊎ (answer ≡ views_full))
+
+-- A frame to a view goes to the view's link. The links are those that became views, one for each view in order of ids:
+-- the first is the link of the view 0.
+abbrev pub IsSent : (links : List ℕ) → Piece → Type 0
+IsSent links (Lobby link answer) = IsAnswer answer
+IsSent links (Given link view frame) = slice_get links view.0 ≡ Some link
+
+-- The frames are all that one run of the document machine gave out, in order: from a document that was loaded from no
+-- bytes to this one.
+pub record IsRun {C B S : Type 0} (rules : Rules C B) (paints : S → Pixels) (frames : List (ViewId × Frame)) (d : Document S) : Type 0 where
+  pub file : List ℕ
+  pub events : List (Event S)
+  pub outs : Outs S
+  pub accepted : rules.accepts [] ≡ true
+  pub follows : Segment rules paints (opening file []) events outs d
+  pub frames_are : frames ≡ outs.frames
+
+-- where there is no document, there are no frames of one
+abbrev pub IsRunTo : {C B S : Type 0} → Rules C B → (S → Pixels) → List (ViewId × Frame) → Option (Document S) → Type 0
+IsRunTo rules paints frames None = frames ≡ []
+IsRunTo rules paints frames (Some d) = IsRun rules paints frames d
+
+-- how many views ever joined
+abbrev pub views_begun : {S : Type 0} → Option (Document S) → ℕ
+views_begun None = 0
+views_begun (Some d) = d.next_view
+
+-- The bytes are the transcript of a world from its beginning on. They are records: answers in the lobby, and the frames
+-- that the document gave, each written to the link of its view. Those are, in order and without any other, the frames of
+-- one run of the document machine to the document as it is now.
+pub record IsPlayed {C B S : Type 0} (rules : Rules C B) (paints : S → Pixels) (out : List ℕ) (document : Option (Document S)) : Type 0 where
+  pub pieces : List Piece
+  pub links : List ℕ
+  pub written : out ≡ flat_map bytes_of pieces
+  pub each : AllByRecursion (IsSent links) pieces
+  pub begun : length links ≡ views_begun document
+  pub run : IsRunTo rules paints (flat_map given_of pieces) document
+
+-- the frame is no tile
+abbrev pub IsNoTile : Frame → Type 0
+IsNoTile (Tile key version wid rgba) = ⊥
+IsNoTile _ = ⊤
+
+-- a frame of the document shows a prefix: if it is a tile, its pixels are those of the document after as many of the
+-- accepted inputs as its version says
+abbrev pub ShowsPrefix : {C B S : Type 0} → Rules C B → Option (Document S) → ViewId × Frame → Type 0
+ShowsPrefix rules None given = ⊥
+ShowsPrefix rules (Some d) given = IsShown rules d.base d.journal (length d.journal) given
+
+-- the same of a record; an answer in the lobby is no tile
+abbrev pub Shows : {C B S : Type 0} → Rules C B → Option (Document S) → Piece → Type 0
+Shows rules document (Lobby link answer) = IsNoTile answer
+Shows rules document (Given link view frame) = ShowsPrefix rules document (view, frame)
