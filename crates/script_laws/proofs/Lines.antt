@@ -7,9 +7,9 @@ use Rattle.script_lines.specs.Grammar.{Verdict, Acts, Ends, Refused, verdict}
 use Rattle.script_lines.specs.declared.saying.ScriptLine.{ScriptLine}
 use Rattle.script_lines.specs.declared.saying.ScriptLine.TheVariants.{Open, Say, Keys, Leave, Turn as TurnLine, Settle, Blank, End}
 use Rattle.script_run.specs.Transcript.{Runs}
-use Rattle.script_world.specs.House.{House, IsHoused, PollTurn}
+use Rattle.script_world.specs.House.{House, IsHoused, PollTurn, acknowledgements}
 use Rattle.script_world.specs.Seats.{nobody}
-use Rattle.script_world.specs.World.{Seen, unopened, Move, Turn, Acknowledge, Moves, Chain, turns, Turned, Settled, Begun, acknowledgements}
+use Rattle.script_world.specs.World.{Seen, unopened, Move, Turn, Acknowledge, Moves, Chain, turns, Turned, Settled, Begun}
 use Rattle.script_world.specs.declared.event.Waiting.{Waiting}
 use Rattle.script_world.proofs.Housed.{Keeps, poll_housed}
 use Rattle.cool_script.specs.Script.{Standing, first, Does, Doing, DoesBy, DoingBy, Acting, UnderWay}
