@@ -3,4 +3,7 @@ mod Links
 mod Held
 mod Turns
 mod Lines
+mod Screens
+mod Sent
 mod Shown
+mod Replays

@@ -124,3 +124,7 @@ module _ {C B S : Type 0} (rules : Rules C B) (paints : S → Pixels) (keeps : K
   -- a script, and a line behind it that is under way
   pub script_under_way : (lines : List (List ℕ)) (line out more : List ℕ) (t : Standing S) → Runs (Acting rules paints) first lines out t → UnderWay rules paints t line more → Played (out ++ more)
   script_under_way lines line out more t runs doing = under_way out t line more (script_sound lines out t runs) doing
+
+  -- a script, and a line behind it that acts
+  pub script_acting : (lines : List (List ℕ)) (line out more : List ℕ) (s t : Standing S) → Runs (Acting rules paints) first lines out s → Acting rules paints s line more t → Played (out ++ more)
+  script_acting lines line out more s t runs acts = played_at (out ++ more) t.world (acting_sound out s line more t (script_sound lines out s runs) acts)

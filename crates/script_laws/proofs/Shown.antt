@@ -11,8 +11,9 @@ use Rattle.cool_message.specs.declared.message.ClientMessage.TheVariants.{CoolCl
 use Rattle.document_laws.specs.Tiles.{IsShown}
 use Rattle.document_laws.specs.Whole.{IsWhole}
 use Rattle.document_laws.proofs.Tiles.{run_shows}
-use Rattle.document_laws.proofs.Whole.{opening_is_whole, runs_keep}
+use Rattle.document_laws.proofs.Whole.{opening_is_whole, runs_keep, steps_keep}
 use Rattle.document_machine.specs.Due.{parts_of}
+use Rattle.document_machine.specs.Quiet.{AllRight}
 use Rattle.document_machine.specs.State.{Document, opening}
 use Rattle.kit_trait.specs.Rules.{Rules}
 use Rattle.kit_trait.specs.declared.values.Pixels.{Pixels}
@@ -22,8 +23,10 @@ use Rattle.script_run.specs.Transcript.{Runs}
 use Rattle.script_world.specs.Seats.{lobby_answer, lobby_frame, bad_file, views_full}
 use Rattle.script_world.specs.World.{Seen, Settled, IsAtRest}
 use Rattle.cool_script.specs.Script.{Standing, first, DoesBy, Acting}
+use Rattle.script_laws.specs.LastTiles.{ArePainted}
 use Rattle.script_laws.specs.Played.{Piece, Lobby, Given, given_of, IsAnswer, IsSent, IsRun, IsRunTo, IsPlayed, IsNoTile, ShowsPrefix, Shows}
 use Rattle.script_laws.proofs.Lines.{last_of}
+use Rattle.script_laws.proofs.Sent.{run_painted}
 
 -- an answer in the lobby is no tile
 no_tile_of : (text : List ℕ) (read : Result ClientMessage MessageFault) → IsNoTile (lobby_answer text read)
@@ -71,3 +74,20 @@ module _ {C B S : Type 0} (rules : Rules C B) (paints : S → Pixels) where
       let at = last_of (Acting rules paints) first lines (codes "settle") out t runs in
       let settled : Settled rules paints at.0.world at.1 t.world = acting_settles at.0 at.1 t at.2 in
       (settled.none_waits, settled.rests)
+
+  -- in a quiet document the last tiles are the document from scratch
+  pub painted : (some : (base : List ℕ) → 0 < parts_of rules base) (out : List ℕ) (d : Document S) (played : IsPlayed rules paints out (Some d)) → AllRight rules d → ArePainted rules (Some d) (flat_map given_of played.pieces)
+  painted some out d played right =
+      let run : IsRun rules paints (flat_map given_of played.pieces) d = played.run in
+      let begins : IsWhole rules (opening {S = S} run.file []) = opening_is_whole S rules run.file [] run.accepted in
+      subst (ArePainted rules (Some d)) (sym run.frames_are)
+      (run_painted rules paints (steps_keep rules paints some) run.events run.file d run.outs begins run.follows (run_whole some (flat_map given_of played.pieces) d run)
+      (run_shows rules paints some run.events (opening run.file []) d run.outs begins run.follows) right)
+
+  painted_at : (some : (base : List ℕ) → 0 < parts_of rules base) (out : List ℕ) (document : Option (Document S)) → IsAtRest rules document → (played : IsPlayed rules paints out document) → ArePainted rules document (flat_map given_of played.pieces)
+  painted_at some out None rests played = tt
+  painted_at some out (Some d) rests played = painted some out d played rests.1
+
+  pub settled_painted : (some : (base : List ℕ) → 0 < parts_of rules base) (lines : List (List ℕ)) (out : List ℕ) (t : Standing S) → Runs (Acting rules paints) first (lines ++ codes "settle" ∷ []) out t
+      → (played : IsPlayed rules paints out t.world.house.document) → ArePainted rules t.world.house.document (flat_map given_of played.pieces)
+  settled_painted some lines out t runs played = painted_at some out t.world.house.document (settled_rests lines out t runs).1 played

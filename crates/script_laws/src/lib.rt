@@ -3,11 +3,15 @@
 #![tactic(auto)]
 
 ghost use Rattle.std.specs.Prelude.{◌≡◌, ℕ, List, [], ◌∷◌, ◌++◌, codes, Option, Some};
-ghost use Rattle.std.specs.List.{AllByRecursion};
+ghost use Rattle.std.specs.List.{flat_map, AllByRecursion};
+ghost use Rattle.cool_script.specs.Replay.{PlaysTo};
 ghost use Rattle.cool_script.specs.Script.{Standing, first, Acting, UnderWay};
 ghost use Rattle.document_machine.specs.Quiet.{IsQuiet, AllRight};
 ghost use Rattle.document_machine.specs.State.{Document};
-ghost use Rattle.script_laws.specs.Played.{IsPlayed, Shows};
+ghost use Rattle.outside.specs.Streams.{Adds};
+ghost use Rattle.script_laws.specs.LastTiles.{ArePainted};
+ghost use Rattle.script_laws.specs.Played.{given_of, IsPlayed, Shows};
+ghost use Rattle.script_laws.specs.Replayed.{IsReplayed};
 ghost use Rattle.script_run.specs.Transcript.{Runs};
 ghost use Rattle.script_world.specs.World.{IsAtRest};
 
@@ -35,4 +39,19 @@ pub fn script_tiles_show_prefixes<K: Kit>()
 pub fn settled_scripts_are_right<K: Kit>()
     ensures settled { (lines : List (List ℕ)) (out : List ℕ) (t : Standing K.Scene) → Runs (Acting K.rules K.Scene.paints) first (lines ++ codes "settle" ∷ []) out t → (t.world.waiting ≡ []) × IsAtRest K.rules t.world.house.document }
     ensures quiet { (out : List ℕ) (d : Document K.Scene) → IsPlayed K.rules K.Scene.paints out (Some d) → IsQuiet K.rules d → AllRight K.rules d }
+{}
+
+/// In a quiet document each key that a view sees or asked for was sent to the view, and the last tile of it in the
+/// transcript has the pixels of the document painted from scratch, after all accepted inputs (`quiet`). So it is
+/// behind a line `settle` (`settled`).
+pub fn last_tiles_are_right<K: Kit>()
+    ensures quiet { (out : List ℕ) (d : Document K.Scene) (played : IsPlayed K.rules K.Scene.paints out (Some d)) → IsQuiet K.rules d → ArePainted K.rules (Some d) (flat_map given_of played.pieces) }
+    ensures settled { (lines : List (List ℕ)) (out : List ℕ) (t : Standing K.Scene) → Runs (Acting K.rules K.Scene.paints) first (lines ++ codes "settle" ∷ []) out t → (played : IsPlayed K.rules K.Scene.paints out t.world.house.document) → ArePainted K.rules t.world.house.document (flat_map given_of played.pieces) }
+{}
+
+/// What `replay` adds to its sink is a front of such a transcript, or all of one and behind it the text that
+/// names a refused line, or a front of that (`written`). Where it ends with 0 it is all of one (`done`).
+pub fn replays_are_runs<K: Kit>()
+    ensures written { (source_then source_now sink_then sink_now : Option (List ℕ)) (reads reads_now writes writes_now code : ℕ) → PlaysTo K.rules K.Scene.paints source_then source_now sink_then sink_now reads reads_now writes writes_now code → (bytes : List ℕ) × Adds sink_then bytes sink_now × IsReplayed K.rules K.Scene.paints bytes }
+    ensures done { (source_then source_now sink_then sink_now : Option (List ℕ)) (reads reads_now writes writes_now : ℕ) → PlaysTo K.rules K.Scene.paints source_then source_now sink_then sink_now reads reads_now writes writes_now 0 → (bytes : List ℕ) × (document : Option (Document K.Scene)) × Adds sink_then bytes sink_now × IsPlayed K.rules K.Scene.paints bytes document }
 {}

@@ -1,0 +1,19 @@
+use Rattle.document_laws.proofs.Whole as Whole
+use Rattle.script_laws.proofs.Replays as Law
+use Rattle.script_laws.proofs.replays_are_runs.Goals as goal
+
+pub returns-clause-written : goal.returns-clause-written
+returns-clause-written g c =
+    let laws = g.met.K.Kit g.world.𝓛 g.world.𝓜 g.world.𝓡 ((λ s x. x), (λ x. x), (λ x. x), λ x. x) in
+    λ source_then source_now sink_then sink_now reads reads_now writes writes_now code plays.
+    Law.replayed g.K.Kit.rules g.K.Scene.Scene.paints
+    (Whole.steps_keep g.K.Kit.rules g.K.Scene.Scene.paints (λ base. laws.some_part (g.K.Kit.rules.start base) (laws.sound_start base)))
+    source_then source_now sink_then sink_now reads reads_now writes writes_now code plays
+
+pub returns-clause-done : goal.returns-clause-done
+returns-clause-done g c =
+    let laws = g.met.K.Kit g.world.𝓛 g.world.𝓜 g.world.𝓡 ((λ s x. x), (λ x. x), (λ x. x), λ x. x) in
+    λ source_then source_now sink_then sink_now reads reads_now writes writes_now plays.
+    Law.done g.K.Kit.rules g.K.Scene.Scene.paints
+    (Whole.steps_keep g.K.Kit.rules g.K.Scene.Scene.paints (λ base. laws.some_part (g.K.Kit.rules.start base) (laws.sound_start base)))
+    source_then source_now sink_then sink_now reads reads_now writes writes_now plays
