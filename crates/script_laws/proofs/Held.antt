@@ -1,5 +1,5 @@
 -- What a transcript is at each point, and how it goes on.
-use Rattle.std.proofs.Common.{◌≡◌, ◌∙◌, ℕ, ◌+◌, List, [], ◌∷◌, ◌++◌, length, Option, None, Some, refl, sym, ap, subst, append_assoc, append-nil}
+use Rattle.std.proofs.Common.{◌≡◌, ◌∙◌, ℕ, List, [], ◌∷◌, ◌++◌, length, Option, None, Some, refl, sym, ap, subst, append-nil}
 use Rattle.std.specs.Prelude.{true}
 use Rattle.std.specs.List.{flat_map, AllByRecursion}
 use Rattle.std.proofs.lemmas.List.Concat.{flat_map-append}
@@ -16,7 +16,7 @@ use Rattle.kit_trait.specs.declared.values.Pixels.{Pixels}
 use Rattle.script_world.specs.House.{House}
 use Rattle.script_world.specs.Seats.{Seats, nobody, tells, records}
 use Rattle.script_world.proofs.Ids.{HasLink}
-use Rattle.script_laws.specs.Played.{Piece, Lobby, Given, bytes_of, given_of, IsAnswer, IsSent, IsRun, IsRunTo, IsPlayed, views_begun}
+use Rattle.script_laws.specs.Played.{Piece, Lobby, Given, bytes_of, given_of, IsAnswer, IsSent, IsRun, IsRunTo, IsPlayed}
 use Rattle.script_laws.proofs.Views.{all_join, AllTo}
 use Rattle.script_laws.proofs.Links.{slice_more, AreSeated, AsPieces, as_pieces}
 

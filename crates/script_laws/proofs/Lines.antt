@@ -1,5 +1,5 @@
 -- The transcript through moves, lines and whole scripts.
-use Rattle.std.proofs.Common.{◌≡◌, ◌∙◌, ℕ, Bool, true, List, [], ◌∷◌, ◌++◌, Option, None, Some, refl, sym, ap, subst, append_assoc, append-nil}
+use Rattle.std.proofs.Common.{◌≡◌, ◌∙◌, ℕ, true, List, [], ◌∷◌, ◌++◌, Option, refl, sym, ap, subst, append_assoc}
 use Rattle.document_machine.specs.State.{Document}
 use Rattle.kit_trait.specs.Rules.{Rules}
 use Rattle.kit_trait.specs.declared.values.Pixels.{Pixels}
@@ -7,9 +7,8 @@ use Rattle.script_lines.specs.Grammar.{Verdict, Acts, Ends, Refused, verdict}
 use Rattle.script_lines.specs.declared.saying.ScriptLine.{ScriptLine}
 use Rattle.script_lines.specs.declared.saying.ScriptLine.TheVariants.{Open, Say, Keys, Leave, Turn as TurnLine, Settle, Blank, End}
 use Rattle.script_run.specs.Transcript.{Runs}
-use Rattle.script_world.specs.House.{House, IsHoused, PollTurn, acknowledgements}
-use Rattle.script_world.specs.Seats.{nobody}
-use Rattle.script_world.specs.World.{Seen, unopened, Move, Turn, Acknowledge, Moves, Chain, turns, Turned, Settled, Begun}
+use Rattle.script_world.specs.House.{IsHoused, acknowledgements}
+use Rattle.script_world.specs.World.{Seen, Move, Turn, Acknowledge, Moves, Chain, turns, Begun}
 use Rattle.script_world.specs.declared.event.Waiting.{Waiting}
 use Rattle.script_world.proofs.Housed.{Keeps, poll_housed}
 use Rattle.cool_script.specs.Script.{Standing, first, Does, Doing, DoesBy, DoingBy, Acting, UnderWay}

@@ -12,7 +12,7 @@ use Rattle.cool_frame.specs.declared.frame.Frame.{Frame}
 use Rattle.script_world.specs.Seats.{Seats, view_of, is_waiting, link_in, tells_if, record_to, records}
 use Rattle.script_world.proofs.Ids.{HasLink}
 use Rattle.script_laws.specs.Played.{Piece, Given, bytes_of, given_of, IsSent}
-use Rattle.script_laws.proofs.Views.{To, AllTo}
+use Rattle.script_laws.proofs.Views.{AllTo}
 
 -- what a list has it has with more behind it
 pub slice_more : (xs more : List ℕ) (i x : ℕ) → slice_get xs i ≡ Some x → slice_get (xs ++ more) i ≡ Some x

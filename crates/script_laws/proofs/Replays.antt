@@ -1,16 +1,15 @@
 -- What a replay adds to its sink.
-use Rattle.std.proofs.Common.{◌≡◌, ◌∙◌, ◌⊎◌, ℕ, ◌+◌, List, [], ◌∷◌, ◌++◌, length, Option, refl, sym, ap, subst, inl, inr, append_assoc, append-nil}
+use Rattle.std.proofs.Common.{◌≡◌, ◌∙◌, ℕ, List, [], ◌++◌, Option, refl, sym, ap, subst, inl, inr, append_assoc, append-nil}
 use Rattle.document_machine.specs.State.{Document}
 use Rattle.kit_trait.specs.Rules.{Rules}
 use Rattle.kit_trait.specs.declared.values.Pixels.{Pixels}
-use Rattle.outside.specs.Streams.{Adds, IsAtEnd}
+use Rattle.outside.specs.Streams.{Adds}
 use Rattle.script_lines.specs.Records.{IsFront, fault_text}
-use Rattle.script_run.specs.Outcome.{Outcome}
 use Rattle.script_run.specs.Transcript.{Runs, Writes, Cause, Ended}
 use Rattle.script_run.specs.declared.status.Status.{Status}
 use Rattle.script_run.specs.declared.status.Status.TheVariants.{Done, WrongWords, FaultLine, ReadFault, WriteFault, Memory, NoEnd}
 use Rattle.script_world.proofs.Housed.{Keeps}
-use Rattle.cool_script.specs.Replay.{Plays, PlaysTo, code_of}
+use Rattle.cool_script.specs.Replay.{PlaysTo, code_of}
 use Rattle.cool_script.specs.Script.{Standing, first, Acting, UnderWay}
 use Rattle.script_laws.specs.Played.{IsPlayed}
 use Rattle.script_laws.specs.Replayed.{IsReplayed}

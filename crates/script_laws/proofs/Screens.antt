@@ -18,12 +18,10 @@ use Rattle.document_machine.specs.Event.{Event, Joined, Left, Said, Turned, Pain
 use Rattle.document_machine.specs.Keys.{Pairwise, is_among}
 use Rattle.document_machine.specs.Message.{Effect, Refuses, Greets, Inputs, Asks, Cancels, Looks, Zooms, GoesTo, Acknowledges, Passes, effect, frames_of, took, asks, cancels, looks, zooms, goes_to, acknowledged}
 use Rattle.document_machine.specs.Outputs.{named}
-use Rattle.document_machine.specs.Run.{Segment}
 use Rattle.document_machine.specs.State.{Shown, View, Job, Document, opening_view, find_view, with_view, without_view, find_job}
 use Rattle.document_machine.specs.Step.{JoinsWhere, Works, Paints, Step, status, told, offered, views_offered, tile_for, tiles_for}
 use Rattle.document_machine.specs.declared.outs.Outs.{Outs}
 use Rattle.document_machine.specs.declared.rights.Rights.{Rights}
-use Rattle.document_machine.proofs.Lists.{same_self}
 use Rattle.kit_trait.specs.Rules.{Rules, doc, shown}
 use Rattle.kit_trait.specs.declared.values.Damage.{Damage}
 use Rattle.kit_trait.specs.declared.values.Pixels.{Pixels}
@@ -148,7 +146,7 @@ module _ {C B S : Type 0} (rules : Rules C B) (d : Document S) (n : ℕ) where
       let mine : nat_eq view.id view.id ≡ true = grind arith in
       let tile : Bool → Option (ℕ × List ℕ) = λ b. cond (nat_eq view.id view.id && b) (Some (n, Pixels_of key)) None in
       let go : (b : Bool) → same_place key k ≡ b
-          → ((rgba : List ℕ) × (tile b ≡ Some (version, rgba))) ⊎ ((tile b ≡ None) × (version_of view.screen k ≡ Some version)) = elim [
+      → ((rgba : List ℕ) × (tile b ≡ Some (version, rgba))) ⊎ ((tile b ≡ None) × (version_of view.screen k ≡ Some version)) = elim [
         | true ↦ λ same.
             let is : key ≡ k = same_is key k same in
             let here : version_of (screen_after view.screen key n wanted) key ≡ Some version = subst (λ (x : Place). version_of (screen_after view.screen key n wanted) x ≡ Some version) (sym is) on in

@@ -1,8 +1,8 @@
 -- Through a whole run a screen has of each key the version of the last tile that its view was sent, and in a quiet
 -- document that tile is the document from scratch.
-use Rattle.std.proofs.Common.{◌≡◌, ◌≢◌, ◌⊎◌, ℕ, ◌<◌, ◌≤◌, Bool, true, false, ◌&&◌, cond, nat_eq, List, [], ◌∷◌, ◌++◌, length, map, Option, None, Some, refl, ap, sym, subst, ◌∙◌, arith, inl, inr, append_assoc, append-nil}
+use Rattle.std.proofs.Common.{◌≡◌, ℕ, ◌<◌, Bool, true, false, ◌&&◌, cond, nat_eq, List, [], ◌∷◌, ◌++◌, length, map, Option, None, Some, refl, ap, sym, subst, ◌∙◌, arith, inl, inr, append_assoc, append-nil}
 use Rattle.std.specs.Prelude.{nat_lt}
-use Rattle.std.specs.List.{flat_map, AllByRecursion}
+use Rattle.std.specs.List.{AllByRecursion}
 use Rattle.std.proofs.lemmas.Bool.{and_parts}
 use Rattle.std.proofs.lemmas.Bool.Decides.{nat_tests}
 use Rattle.cool_base.specs.declared.ids.ViewId.{ViewId}
@@ -27,7 +27,7 @@ use Rattle.kit_trait.specs.declared.values.Input.{Input}
 use Rattle.kit_trait.specs.declared.values.Pixels.{Pixels}
 use Rattle.tile_key.specs.Places.{Place, same_place}
 use Rattle.script_laws.specs.LastTiles.{tile_in, later_one, last_tile, IsPainted}
-use Rattle.script_laws.proofs.Screens.{last_append, Tells, steps_tell}
+use Rattle.script_laws.proofs.Screens.{last_append, steps_tell}
 
 no_first : (b : Bool) (v : View) (rest : Option View) → cond b (Some v) rest ≡ None → (b ≡ false) × (rest ≡ None)
 no_first true v rest none = absurd (cc)

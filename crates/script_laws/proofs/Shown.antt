@@ -1,5 +1,5 @@
 -- What the tiles of a transcript show, and what is right behind a line.
-use Rattle.std.proofs.Common.{◌≡◌, ◌∙◌, ℕ, ◌<◌, true, List, [], ◌∷◌, ◌++◌, length, codes, Option, None, Some, inl, inr, refl, sym, ap, subst}
+use Rattle.std.proofs.Common.{◌≡◌, ℕ, ◌<◌, List, [], ◌∷◌, ◌++◌, codes, Option, None, Some, inl, inr, sym, subst}
 use Rattle.std.specs.Prelude.{Result, Ok, Err}
 use Rattle.std.specs.List.{flat_map, AllByRecursion}
 use Rattle.cool_base.specs.declared.ids.ViewId.{ViewId}
@@ -8,7 +8,6 @@ use Rattle.cool_message.specs.Reading.{reading}
 use Rattle.cool_message.specs.declared.fault.MessageFault.{MessageFault}
 use Rattle.cool_message.specs.declared.message.ClientMessage.{ClientMessage}
 use Rattle.cool_message.specs.declared.message.ClientMessage.TheVariants.{CoolClient, Load}
-use Rattle.document_laws.specs.Tiles.{IsShown}
 use Rattle.document_laws.specs.Whole.{IsWhole}
 use Rattle.document_laws.proofs.Tiles.{run_shows}
 use Rattle.document_laws.proofs.Whole.{opening_is_whole, runs_keep, steps_keep}
@@ -17,10 +16,10 @@ use Rattle.document_machine.specs.Quiet.{AllRight}
 use Rattle.document_machine.specs.State.{Document, opening}
 use Rattle.kit_trait.specs.Rules.{Rules}
 use Rattle.kit_trait.specs.declared.values.Pixels.{Pixels}
-use Rattle.script_lines.specs.Grammar.{Verdict, line_of, verdict}
+use Rattle.script_lines.specs.Grammar.{line_of, verdict}
 use Rattle.script_lines.specs.Places.{Place}
 use Rattle.script_run.specs.Transcript.{Runs}
-use Rattle.script_world.specs.Seats.{lobby_answer, lobby_frame, bad_file, views_full}
+use Rattle.script_world.specs.Seats.{lobby_answer}
 use Rattle.script_world.specs.World.{Seen, Settled, IsAtRest}
 use Rattle.cool_script.specs.Script.{Standing, first, DoesBy, Acting}
 use Rattle.script_laws.specs.LastTiles.{ArePainted}
