@@ -16,9 +16,9 @@ use Rattle.kit_trait.specs.declared.values.Pixels.{Pixels}
 use Rattle.script_world.specs.House.{House}
 use Rattle.script_world.specs.Seats.{Seats, nobody, tells, records}
 use Rattle.script_world.proofs.Ids.{HasLink}
-use Rattle.script_laws.specs.Played.{Piece, Lobby, Given, bytes_of, given_of, IsAnswer, IsSent, IsRun, IsRunTo, IsPlayed}
+use Rattle.script_laws.specs.Played.{Piece, Lobby, Given, bytes_of, given_of, IsAnswer, IsSent, IsRun, IsRunTo, AreSeated, IsPlayed}
 use Rattle.script_laws.proofs.Views.{all_join, AllTo}
-use Rattle.script_laws.proofs.Links.{slice_more, AreSeated, AsPieces, as_pieces}
+use Rattle.script_laws.proofs.Links.{slice_more, AsPieces, as_pieces}
 
 -- a record goes to the same link when more views are behind
 sent_more : (links more : List ℕ) (piece : Piece) → IsSent links piece → IsSent (links ++ more) piece
@@ -35,59 +35,56 @@ written_more out here pieces more a b = ap (λ (x : List ℕ). x ++ here) a ∙ 
 
 module _ {C B S : Type 0} (rules : Rules C B) (paints : S → Pixels) where
   -- the transcript so far, to a document with these seats
-  pub record IsHeld (out : List ℕ) (seats : Seats) (document : Option (Document S)) : Type 0 where
-    pub played : IsPlayed rules paints out document
-    pub seated : AreSeated played.links seats.views
+  abbrev pub IsHeld : List ℕ → Seats → Option (Document S) → Type 0
+  IsHeld out seats document = IsPlayed rules paints out seats document
 
   abbrev pub Holds : List ℕ → House S → Type 0
   Holds out house = IsHeld out house.seats house.document
 
   pub nothing_yet : IsHeld [] nobody None
-  nothing_yet = record {
-    played = record { pieces = []; links = []; written = refl; each = tt; begun = refl; run = refl };
-    seated = tt;
-  }
+  nothing_yet = record { pieces = []; links = []; written = refl; each = tt; seated = tt; begun = refl; run = refl }
 
   -- nothing is written
   pub silent : (out : List ℕ) (seats : Seats) (document : Option (Document S)) → IsHeld out seats document → IsHeld (out ++ []) seats document
   silent out seats document held = subst (λ (o : List ℕ). IsHeld o seats document) (sym (append-nil out)) held
 
   -- other seats
-  pub reseated : (out : List ℕ) (seats now : Seats) (document : Option (Document S)) (held : IsHeld out seats document) → AreSeated held.played.links now.views → IsHeld out now document
-  reseated out seats now document held seated = record { played = held.played; seated = seated }
+  pub reseated : (out : List ℕ) (seats now : Seats) (document : Option (Document S)) (held : IsHeld out seats document) → AreSeated held.links now.views → IsHeld out now document
+  reseated out seats now document held seated = record {
+    pieces = held.pieces;
+    links = held.links;
+    written = held.written;
+    each = held.each;
+    seated = seated;
+    begun = held.begun;
+    run = held.run;
+  }
 
   -- an answer in the lobby
   pub told : (out : List ℕ) (seats : Seats) (document : Option (Document S)) (link : ℕ) (answer : Frame) → IsAnswer answer → IsHeld out seats document → IsHeld (out ++ tells link answer) seats document
   told out seats document link answer is held =
-      let p : IsPlayed rules paints out document = held.played in
-      let given : flat_map given_of (p.pieces ++ Lobby link answer ∷ []) ≡ flat_map given_of p.pieces = flat_map-append given_of p.pieces (Lobby link answer ∷ []) ∙ append-nil (flat_map given_of p.pieces) in
+      let given : flat_map given_of (held.pieces ++ Lobby link answer ∷ []) ≡ flat_map given_of held.pieces = flat_map-append given_of held.pieces (Lobby link answer ∷ []) ∙ append-nil (flat_map given_of held.pieces) in
       record {
-        played = record {
-          pieces = p.pieces ++ Lobby link answer ∷ [];
-          links = p.links;
-          written = written_more out (tells link answer) p.pieces (Lobby link answer ∷ []) p.written (sym (append-nil (tells link answer)));
-          each = all_join (IsSent p.links) p.pieces (Lobby link answer ∷ []) p.each (is, tt);
-          begun = p.begun;
-          run = subst (λ (frames : List (ViewId × Frame)). IsRunTo rules paints frames document) (sym given) p.run;
-        };
+        pieces = held.pieces ++ Lobby link answer ∷ [];
+        links = held.links;
+        written = written_more out (tells link answer) held.pieces (Lobby link answer ∷ []) held.written (sym (append-nil (tells link answer)));
+        each = all_join (IsSent held.links) held.pieces (Lobby link answer ∷ []) held.each (is, tt);
         seated = held.seated;
+        begun = held.begun;
+        run = subst (λ (frames : List (ViewId × Frame)). IsRunTo rules paints frames document) (sym given) held.run;
       }
 
   -- the document is loaded
   pub loaded : (out : List ℕ) (seats : Seats) (file : List ℕ) → rules.accepts [] ≡ true → IsHeld out seats None → IsHeld out seats (Some (opening file []))
-  loaded out seats file accepted held =
-      let p : IsPlayed rules paints out None = held.played in
-      record {
-        played = record {
-          pieces = p.pieces;
-          links = p.links;
-          written = p.written;
-          each = p.each;
-          begun = p.begun;
-          run = record { file = file; events = []; outs = nothing; accepted = accepted; follows = (refl, refl); frames_are = p.run };
-        };
-        seated = held.seated;
-      }
+  loaded out seats file accepted held = record {
+    pieces = held.pieces;
+    links = held.links;
+    written = held.written;
+    each = held.each;
+    seated = held.seated;
+    begun = held.begun;
+    run = record { file = file; events = []; outs = nothing; accepted = accepted; follows = (refl, refl); frames_are = held.run };
+  }
 
   -- a run goes on
   run_on : (frames more : List (ViewId × Frame)) (d e : Document S) (events : List (Event S)) (outs : Outs S) → IsRun rules paints frames d → Segment rules paints d events outs e → more ≡ outs.frames → IsRun rules paints (frames ++ more) e
@@ -102,23 +99,20 @@ module _ {C B S : Type 0} (rules : Rules C B) (paints : S → Pixels) where
 
   -- The document goes on, and its frames are written. The links of the views that joined are behind the others.
   pub gave : (out : List ℕ) (seats now : Seats) (d e : Document S) (events : List (Event S)) (outs : Outs S) (more : List ℕ) (held : IsHeld out seats (Some d))
-      → Segment rules paints d events outs e → AllTo (HasLink now.views) outs.frames → AreSeated (held.played.links ++ more) now.views → length (held.played.links ++ more) ≡ e.next_view
+      → Segment rules paints d events outs e → AllTo (HasLink now.views) outs.frames → AreSeated (held.links ++ more) now.views → length (held.links ++ more) ≡ e.next_view
       → IsHeld (out ++ records now outs.frames) now (Some e)
   gave out seats now d e events outs more held goes to seated begun =
-      let p : IsPlayed rules paints out (Some d) = held.played in
-      let here : AsPieces (p.links ++ more) (records now outs.frames) outs.frames = as_pieces (p.links ++ more) now outs.frames seated to in
-      let frames : flat_map given_of (p.pieces ++ here.pieces) ≡ flat_map given_of p.pieces ++ flat_map given_of here.pieces = flat_map-append given_of p.pieces here.pieces in
-      let run : IsRun rules paints (flat_map given_of p.pieces ++ flat_map given_of here.pieces) e = run_on (flat_map given_of p.pieces) (flat_map given_of here.pieces) d e events outs p.run goes here.given in
+      let here : AsPieces (held.links ++ more) (records now outs.frames) outs.frames = as_pieces (held.links ++ more) now outs.frames seated to in
+      let frames : flat_map given_of (held.pieces ++ here.pieces) ≡ flat_map given_of held.pieces ++ flat_map given_of here.pieces = flat_map-append given_of held.pieces here.pieces in
+      let run : IsRun rules paints (flat_map given_of held.pieces ++ flat_map given_of here.pieces) e = run_on (flat_map given_of held.pieces) (flat_map given_of here.pieces) d e events outs held.run goes here.given in
       record {
-        played = record {
-          pieces = p.pieces ++ here.pieces;
-          links = p.links ++ more;
-          written = written_more out (records now outs.frames) p.pieces here.pieces p.written (sym here.written);
-          each = all_join (IsSent (p.links ++ more)) p.pieces here.pieces (all_sent_more p.links more p.pieces p.each) here.each;
-          begun = begun;
-          run = subst (λ (x : List (ViewId × Frame)). IsRun rules paints x e) (sym frames) run;
-        };
+        pieces = held.pieces ++ here.pieces;
+        links = held.links ++ more;
+        written = written_more out (records now outs.frames) held.pieces here.pieces held.written (sym here.written);
+        each = all_join (IsSent (held.links ++ more)) held.pieces here.pieces (all_sent_more held.links more held.pieces held.each) here.each;
         seated = seated;
+        begun = begun;
+        run = subst (λ (x : List (ViewId × Frame)). IsRun rules paints x e) (sym frames) run;
       }
 
   -- the same where no view joins
@@ -126,7 +120,7 @@ module _ {C B S : Type 0} (rules : Rules C B) (paints : S → Pixels) where
       → Segment rules paints d events outs e → AllTo (HasLink seats.views) outs.frames → e.next_view ≡ d.next_view
       → IsHeld (out ++ records seats outs.frames) seats (Some e)
   gave_on out seats d e events outs held goes to same =
-      let links : held.played.links ++ [] ≡ held.played.links = append-nil held.played.links in
+      let links : held.links ++ [] ≡ held.links = append-nil held.links in
       gave out seats seats d e events outs [] held goes to
       (subst (λ (x : List ℕ). AreSeated x seats.views) (sym links) held.seated)
-      (ap length links ∙ held.played.begun ∙ sym same)
+      (ap length links ∙ held.begun ∙ sym same)

@@ -8,6 +8,7 @@ use Rattle.script_lines.specs.declared.saying.ScriptLine.{ScriptLine}
 use Rattle.script_lines.specs.declared.saying.ScriptLine.TheVariants.{Open, Say, Keys, Leave, Turn as TurnLine, Settle, Blank, End}
 use Rattle.script_run.specs.Transcript.{Runs}
 use Rattle.script_world.specs.House.{IsHoused, acknowledgements}
+use Rattle.script_world.specs.Seats.{Seats}
 use Rattle.script_world.specs.World.{Seen, Move, Turn, Acknowledge, Moves, Chain, turns, Begun}
 use Rattle.script_world.specs.declared.event.Waiting.{Waiting}
 use Rattle.script_world.proofs.Housed.{Keeps, poll_housed}
@@ -85,15 +86,15 @@ module _ {C B S : Type 0} (rules : Rules C B) (paints : S → Pixels) (keeps : K
   pub script_sound : (lines : List (List ℕ)) (out : List ℕ) (t : Standing S) → Runs (Acting rules paints) first lines out t → IsSound out t.world
   script_sound lines out t runs = runs_sound [] lines first out t (record { housed = tt; held = nothing_yet rules paints }) runs
 
-  pub script_played : (lines : List (List ℕ)) (out : List ℕ) (t : Standing S) → Runs (Acting rules paints) first lines out t → IsPlayed rules paints out t.world.house.document
-  script_played lines out t runs = (script_sound lines out t runs).held.played
+  pub script_played : (lines : List (List ℕ)) (out : List ℕ) (t : Standing S) → Runs (Acting rules paints) first lines out t → IsPlayed rules paints out t.world.house.seats t.world.house.document
+  script_played lines out t runs = (script_sound lines out t runs).held
 
   -- what is made so far
   abbrev pub Played : List ℕ → Type 0
-  Played out = (document : Option (Document S)) × IsPlayed rules paints out document
+  Played out = (seats : Seats) × (document : Option (Document S)) × IsPlayed rules paints out seats document
 
   played_at : (before : List ℕ) (s : Seen S) → IsSound before s → Played before
-  played_at before s sound = (s.house.document, sound.held.played)
+  played_at before s sound = (s.house.seats, s.house.document, sound.held)
 
   silent_at : (before out : List ℕ) (s : Seen S) → IsSound before s → out ≡ [] → Played (before ++ out)
   silent_at before out s sound is = played_at (before ++ out) s (moved before out [] s s is refl (waits before s s.waiting sound))

@@ -11,7 +11,7 @@ use Rattle.cool_base.specs.declared.ids.ViewId.{ViewId}
 use Rattle.cool_frame.specs.declared.frame.Frame.{Frame}
 use Rattle.script_world.specs.Seats.{Seats, view_of, is_waiting, link_in, tells_if, record_to, records}
 use Rattle.script_world.proofs.Ids.{HasLink}
-use Rattle.script_laws.specs.Played.{Piece, Given, bytes_of, given_of, IsSent}
+use Rattle.script_laws.specs.Played.{Piece, Given, bytes_of, given_of, IsSent, AreSeated}
 use Rattle.script_laws.proofs.Views.{AllTo}
 
 -- what a list has it has with more behind it
@@ -25,10 +25,7 @@ pub slice_next : (xs : List ℕ) (x : ℕ) → slice_get (xs ++ x ∷ []) (lengt
 slice_next [] x = refl
 slice_next (y ∷ xs) x = slice_next xs x
 
--- each seat's view has the seat's link
-abbrev pub AreSeated : List ℕ → List (ℕ × ℕ) → Type 0
-AreSeated links seats = AllByRecursion (λ (seat : ℕ × ℕ). slice_get links seat.1 ≡ Some seat.0) seats
-
+-- more links behind the others
 pub more_seated : (links more : List ℕ) (seats : List (ℕ × ℕ)) → AreSeated links seats → AreSeated (links ++ more) seats
 more_seated links more [] all = tt
 more_seated links more (seat ∷ seats) all = (slice_more links more seat.1 seat.0 all.0, more_seated links more seats all.1)

@@ -8,6 +8,7 @@ use Rattle.script_lines.specs.Records.{IsFront, fault_text}
 use Rattle.script_run.specs.Transcript.{Runs, Writes, Cause, Ended}
 use Rattle.script_run.specs.declared.status.Status.{Status}
 use Rattle.script_run.specs.declared.status.Status.TheVariants.{Done, WrongWords, FaultLine, ReadFault, WriteFault, Memory, NoEnd}
+use Rattle.script_world.specs.Seats.{Seats}
 use Rattle.script_world.proofs.Housed.{Keeps}
 use Rattle.cool_script.specs.Replay.{PlaysTo, code_of}
 use Rattle.cool_script.specs.Script.{Standing, first, Acting, UnderWay}
@@ -25,17 +26,17 @@ front_behind xs part whole front = record { behind = front.behind; is = ap (λ (
 
 module _ {C B S : Type 0} (rules : Rules C B) (paints : S → Pixels) (keeps : Keeps rules paints) where
   abbrev Played : List ℕ → Type 0
-  Played bytes = (document : Option (Document S)) × IsPlayed rules paints bytes document
+  Played bytes = (seats : Seats) × (document : Option (Document S)) × IsPlayed rules paints bytes seats document
 
   front_of : (bytes whole : List ℕ) → Played whole → IsFront bytes whole → IsReplayed rules paints bytes
-  front_of bytes whole played front = (whole, played.0, played.1, inl front)
+  front_of bytes whole played front = (whole, played.0, played.1, played.2, inl front)
 
   named : (bytes tail : List ℕ) (number : ℕ) → Played bytes → IsFront tail (fault_text number) → IsReplayed rules paints (bytes ++ tail)
-  named bytes tail number played front = (bytes, played.0, played.1, inr (number, tail, front, refl))
+  named bytes tail number played front = (bytes, played.0, played.1, played.2, inr (number, tail, front, refl))
 
   module _ (lines : List (List ℕ)) (written : List ℕ) (s : Standing S) (runs : Runs (Acting rules paints) first lines written s) where
     before : Played written
-    before = (s.world.house.document, script_played rules paints keeps lines written s runs)
+    before = (s.world.house.seats, s.world.house.document, script_played rules paints keeps lines written s runs)
 
     nothing_more : (tail : List ℕ) → tail ≡ [] → IsReplayed rules paints (written ++ tail)
     nothing_more tail is = front_of (written ++ tail) written before (record { behind = []; is = sym (append-nil (written ++ tail) ∙ ap (λ (x : List ℕ). written ++ x) is ∙ append-nil written) })
@@ -65,10 +66,10 @@ module _ {C B S : Type 0} (rules : Rules C B) (paints : S → Pixels) (keeps : K
       (e.written ++ e.tail, e.added, caused e.lines e.written e.state e.runs plays.0 _ _ _ e.rest e.tail e.cause)
 
   done_by : (status : Status) (source_then source_now sink_then sink_now : Option (List ℕ)) → 0 ≡ code_of status → Ended (λ (x : Standing S). x.place) (Acting rules paints) (UnderWay rules paints) first source_then source_now sink_then sink_now status
-      → (bytes : List ℕ) × (document : Option (Document S)) × Adds sink_then bytes sink_now × IsPlayed rules paints bytes document
+      → (bytes : List ℕ) × (seats : Seats) × (document : Option (Document S)) × Adds sink_then bytes sink_now × IsPlayed rules paints bytes seats document
   done_by Done source_then source_now sink_then sink_now is e =
       let bytes : e.written ++ e.tail ≡ e.written = ap (λ (x : List ℕ). e.written ++ x) e.cause.3 ∙ append-nil e.written in
-      (e.written, e.state.world.house.document, subst (λ (x : List ℕ). Adds sink_then x sink_now) bytes e.added, script_played rules paints keeps e.lines e.written e.state e.runs)
+      (e.written, e.state.world.house.seats, e.state.world.house.document, subst (λ (x : List ℕ). Adds sink_then x sink_now) bytes e.added, script_played rules paints keeps e.lines e.written e.state e.runs)
   done_by WrongWords source_then source_now sink_then sink_now is e = absurd (cc)
   done_by FaultLine source_then source_now sink_then sink_now is e = absurd (cc)
   done_by ReadFault source_then source_now sink_then sink_now is e = absurd (cc)
@@ -77,5 +78,5 @@ module _ {C B S : Type 0} (rules : Rules C B) (paints : S → Pixels) (keeps : K
   done_by NoEnd source_then source_now sink_then sink_now is e = absurd (cc)
 
   pub done : (source_then source_now sink_then sink_now : Option (List ℕ)) (reads reads_now writes writes_now : ℕ) → PlaysTo rules paints source_then source_now sink_then sink_now reads reads_now writes writes_now 0
-      → (bytes : List ℕ) × (document : Option (Document S)) × Adds sink_then bytes sink_now × IsPlayed rules paints bytes document
+      → (bytes : List ℕ) × (seats : Seats) × (document : Option (Document S)) × Adds sink_then bytes sink_now × IsPlayed rules paints bytes seats document
   done source_then source_now sink_then sink_now reads reads_now writes writes_now plays = done_by plays.0 source_then source_now sink_then sink_now plays.2 plays.1.ended

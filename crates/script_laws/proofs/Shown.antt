@@ -19,7 +19,7 @@ use Rattle.kit_trait.specs.declared.values.Pixels.{Pixels}
 use Rattle.script_lines.specs.Grammar.{line_of, verdict}
 use Rattle.script_lines.specs.Places.{Place}
 use Rattle.script_run.specs.Transcript.{Runs}
-use Rattle.script_world.specs.Seats.{lobby_answer}
+use Rattle.script_world.specs.Seats.{Seats, lobby_answer}
 use Rattle.script_world.specs.World.{Seen, Settled, IsAtRest}
 use Rattle.cool_script.specs.Script.{Standing, first, DoesBy, Acting}
 use Rattle.script_laws.specs.LastTiles.{ArePainted}
@@ -56,8 +56,8 @@ module _ {C B S : Type 0} (rules : Rules C B) (paints : S → Pixels) where
       subst (AllByRecursion (ShowsPrefix rules (Some d))) (sym run.frames_are)
       (run_shows rules paints some run.events (opening run.file []) d run.outs (opening_is_whole S rules run.file [] run.accepted) run.follows)
 
-  pub transcript_shows : ((base : List ℕ) → 0 < parts_of rules base) → (out : List ℕ) (document : Option (Document S)) (played : IsPlayed rules paints out document) → AllByRecursion (Shows rules document) played.pieces
-  transcript_shows some out document played = all_show played.links document played.pieces played.each (frames_show some (flat_map given_of played.pieces) document played.run)
+  pub transcript_shows : ((base : List ℕ) → 0 < parts_of rules base) → (out : List ℕ) (seats : Seats) (document : Option (Document S)) (played : IsPlayed rules paints out seats document) → AllByRecursion (Shows rules document) played.pieces
+  transcript_shows some out seats document played = all_show played.links document played.pieces played.each (frames_show some (flat_map given_of played.pieces) document played.run)
 
   -- the line `settle` acts anywhere, and settles the world
   settled_by : (place : Place) (world : Seen S) (out : List ℕ) (t : Standing S) → DoesBy rules paints (verdict place (codes "settle")) world out t → Settled rules paints world out t.world
@@ -75,18 +75,18 @@ module _ {C B S : Type 0} (rules : Rules C B) (paints : S → Pixels) where
       (settled.none_waits, settled.rests)
 
   -- in a quiet document the last tiles are the document from scratch
-  pub painted : (some : (base : List ℕ) → 0 < parts_of rules base) (out : List ℕ) (d : Document S) (played : IsPlayed rules paints out (Some d)) → AllRight rules d → ArePainted rules (Some d) (flat_map given_of played.pieces)
-  painted some out d played right =
+  pub painted : (some : (base : List ℕ) → 0 < parts_of rules base) (out : List ℕ) (seats : Seats) (d : Document S) (played : IsPlayed rules paints out seats (Some d)) → AllRight rules d → ArePainted rules (Some d) (flat_map given_of played.pieces)
+  painted some out seats d played right =
       let run : IsRun rules paints (flat_map given_of played.pieces) d = played.run in
       let begins : IsWhole rules (opening {S = S} run.file []) = opening_is_whole S rules run.file [] run.accepted in
       subst (ArePainted rules (Some d)) (sym run.frames_are)
       (run_painted rules paints (steps_keep rules paints some) run.events run.file d run.outs begins run.follows (run_whole some (flat_map given_of played.pieces) d run)
       (run_shows rules paints some run.events (opening run.file []) d run.outs begins run.follows) right)
 
-  painted_at : (some : (base : List ℕ) → 0 < parts_of rules base) (out : List ℕ) (document : Option (Document S)) → IsAtRest rules document → (played : IsPlayed rules paints out document) → ArePainted rules document (flat_map given_of played.pieces)
-  painted_at some out None rests played = tt
-  painted_at some out (Some d) rests played = painted some out d played rests.1
+  painted_at : (some : (base : List ℕ) → 0 < parts_of rules base) (out : List ℕ) (seats : Seats) (document : Option (Document S)) → IsAtRest rules document → (played : IsPlayed rules paints out seats document) → ArePainted rules document (flat_map given_of played.pieces)
+  painted_at some out seats None rests played = tt
+  painted_at some out seats (Some d) rests played = painted some out seats d played rests.1
 
   pub settled_painted : (some : (base : List ℕ) → 0 < parts_of rules base) (lines : List (List ℕ)) (out : List ℕ) (t : Standing S) → Runs (Acting rules paints) first (lines ++ codes "settle" ∷ []) out t
-      → (played : IsPlayed rules paints out t.world.house.document) → ArePainted rules t.world.house.document (flat_map given_of played.pieces)
-  settled_painted some lines out t runs played = painted_at some out t.world.house.document (settled_rests lines out t runs).1 played
+      → (played : IsPlayed rules paints out t.world.house.seats t.world.house.document) → ArePainted rules t.world.house.document (flat_map given_of played.pieces)
+  settled_painted some lines out t runs played = painted_at some out t.world.house.seats t.world.house.document (settled_rests lines out t runs).1 played

@@ -23,8 +23,9 @@ use Rattle.script_world.specs.declared.event.Waiting.{Waiting}
 use Rattle.script_world.specs.declared.event.Waiting.TheVariants.{Opened, Loads, Says, Gone}
 use Rattle.script_world.proofs.Housed.{Keeps, found_document, housed_at, first_housed}
 use Rattle.script_world.proofs.Ids.{HasLink, ids-works, sits_new}
+use Rattle.script_laws.specs.Played.{AreSeated}
 use Rattle.script_laws.proofs.Views.{all_join, To, AllTo, says_to, works_to, answers_to}
-use Rattle.script_laws.proofs.Links.{slice_next, AreSeated, more_seated, sits_seated, gone_seated, no_view}
+use Rattle.script_laws.proofs.Links.{slice_next, more_seated, sits_seated, gone_seated, no_view}
 use Rattle.script_laws.proofs.Held.{IsHeld, Holds, silent, reseated, told, loaded, gave, gave_on}
 
 -- no step but a joining changes how many views ever joined
@@ -85,8 +86,8 @@ module _ {C B S : Type 0} (rules : Rules C B) (paints : S → Pixels) where
   join_goes before seats link given d e outs b room is none step held =
       let joins : MachineJoins true rules d given outs e = subst (λ (x : Bool). MachineJoins x rules d given outs e) (room ∙ is) step in
       let now : Seats = sits seats link d.next_view in
-      let links : List ℕ = held.played.links in
-      let begun : length links ≡ d.next_view = held.played.begun in
+      let links : List ℕ = held.links in
+      let begun : length links ≡ d.next_view = held.begun in
       let to : AllTo (HasLink now.views) outs.frames = subst (λ (o : Outs S). AllTo (HasLink now.views) o.frames) (sym joins.0) (sits_new seats.views link d.next_view, tt) in
       let seated : AreSeated (links ++ link ∷ []) now.views =
       sits_seated (links ++ link ∷ []) seats.views link d.next_view none (more_seated links (link ∷ []) seats.views held.seated)
@@ -147,14 +148,14 @@ module _ {C B S : Type 0} (rules : Rules C B) (paints : S → Pixels) where
       → seated old link ≡ found → Kept before old → LeavesAs rules paints old link found out new → Kept (before ++ out) new
   leaves_held before old link None out new is held leaves =
       wrote before out [] (record old { seats = without old.seats link }) new leaves.0 leaves.1
-      (silent rules paints before (without old.seats link) old.document (reseated rules paints before old.seats (without old.seats link) old.document held (gone_seated held.played.links (is_at (nat_cmp link)) old.seats.views held.seated)))
+      (silent rules paints before (without old.seats link) old.document (reseated rules paints before old.seats (without old.seats link) old.document held (gone_seated held.links (is_at (nat_cmp link)) old.seats.views held.seated)))
   leaves_held before old link (Some seat) out new is held leaves =
       let there : old.document ≡ Some seat.0 = (found_document old.document (view_of old.seats link) seat is).0 in
       let at : IsHeld rules paints before old.seats (Some seat.0) = subst (IsHeld rules paints before old.seats) there held in
       let step : Step rules paints seat.0 (Left seat.1) nothing leaves.0 = leaves.1 in
       let gone : IsHeld rules paints (before ++ []) old.seats (Some leaves.0) = gave_on rules paints before old.seats seat.0 leaves.0 (Left seat.1 ∷ []) nothing at (one_step seat.0 leaves.0 (Left seat.1) nothing step) tt (ap Next step.1) in
       wrote before out [] (record { seats = without old.seats link; document = Some leaves.0 }) new leaves.2 leaves.3
-      (reseated rules paints (before ++ []) old.seats (without old.seats link) (Some leaves.0) gone (gone_seated gone.played.links (is_at (nat_cmp link)) old.seats.views gone.seated))
+      (reseated rules paints (before ++ []) old.seats (without old.seats link) (Some leaves.0) gone (gone_seated gone.links (is_at (nat_cmp link)) old.seats.views gone.seated))
 
   -- an event
   takes_held : (before : List ℕ) (event : Waiting) (old : House S) (out : List ℕ) (new : House S) → IsHoused rules old → Kept before old → TakesOne rules paints event old out new → Kept (before ++ out) new

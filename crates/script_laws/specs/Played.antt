@@ -12,7 +12,7 @@ use Rattle.document_machine.specs.State.{Document, opening}
 use Rattle.document_machine.specs.declared.outs.Outs.{Outs}
 use Rattle.kit_trait.specs.Rules.{Rules}
 use Rattle.kit_trait.specs.declared.values.Pixels.{Pixels}
-use Rattle.script_world.specs.Seats.{tells, lobby_frame, bad_file, views_full}
+use Rattle.script_world.specs.Seats.{Seats, tells, lobby_frame, bad_file, views_full}
 
 -- one record of a transcript: the answer to a link in the lobby, or a frame that the document gave to a view, as it is
 -- written to the view's link
@@ -41,6 +41,10 @@ abbrev pub IsSent : (links : List ℕ) → Piece → Type 0
 IsSent links (Lobby link answer) = IsAnswer answer
 IsSent links (Given link view frame) = slice_get links view.0 ≡ Some link
 
+-- each link that is a view now is the one of its view
+abbrev pub AreSeated : (links : List ℕ) → (seats : List (ℕ × ℕ)) → Type 0
+AreSeated links seats = AllByRecursion (λ seat. slice_get links seat.1 ≡ Some seat.0) seats
+
 -- The frames are all that one run of the document machine gave out, in order: from a document that was loaded from no
 -- bytes to this one.
 pub record IsRun {C B S : Type 0} (rules : Rules C B) (paints : S → Pixels) (frames : List (ViewId × Frame)) (d : Document S) : Type 0 where
@@ -61,14 +65,15 @@ abbrev pub views_begun : {S : Type 0} → Option (Document S) → ℕ
 views_begun None = 0
 views_begun (Some d) = d.next_view
 
--- The bytes are the transcript of a world from its beginning on. They are records: answers in the lobby, and the frames
--- that the document gave, each written to the link of its view. Those are, in order and without any other, the frames of
--- one run of the document machine to the document as it is now.
-pub record IsPlayed {C B S : Type 0} (rules : Rules C B) (paints : S → Pixels) (out : List ℕ) (document : Option (Document S)) : Type 0 where
+-- The bytes are the transcript of a world from its beginning on, to these seats and this document. They are records:
+-- answers in the lobby, and the frames that the document gave, each written to the link of its view. Those are, in order
+-- and without any other, the frames of one run of the document machine to the document as it is now.
+pub record IsPlayed {C B S : Type 0} (rules : Rules C B) (paints : S → Pixels) (out : List ℕ) (seats : Seats) (document : Option (Document S)) : Type 0 where
   pub pieces : List Piece
   pub links : List ℕ
   pub written : out ≡ flat_map bytes_of pieces
   pub each : AllByRecursion (IsSent links) pieces
+  pub seated : AreSeated links seats.views
   pub begun : length links ≡ views_begun document
   pub run : IsRunTo rules paints (flat_map given_of pieces) document
 

@@ -13,6 +13,7 @@ ghost use Rattle.script_laws.specs.LastTiles.{ArePainted};
 ghost use Rattle.script_laws.specs.Played.{given_of, IsPlayed, Shows};
 ghost use Rattle.script_laws.specs.Replayed.{IsReplayed};
 ghost use Rattle.script_run.specs.Transcript.{Runs};
+ghost use Rattle.script_world.specs.Seats.{Seats};
 ghost use Rattle.script_world.specs.World.{IsAtRest};
 
 use kit_trait::Kit;
@@ -23,14 +24,14 @@ use kit_trait::Kit;
 /// document that is there behind the lines (`lines`). So it is with what a line makes that is under way behind
 /// them (`under_way`), of which a front is written where the sink or memory stops the line.
 pub fn scripts_are_runs<K: Kit>()
-    ensures lines { (lines : List (List ℕ)) (out : List ℕ) (t : Standing K.Scene) → Runs (Acting K.rules K.Scene.paints) first lines out t → IsPlayed K.rules K.Scene.paints out t.world.house.document }
-    ensures under_way { (lines : List (List ℕ)) (line out more : List ℕ) (t : Standing K.Scene) → Runs (Acting K.rules K.Scene.paints) first lines out t → UnderWay K.rules K.Scene.paints t line more → (document : Option (Document K.Scene)) × IsPlayed K.rules K.Scene.paints (out ++ more) document }
+    ensures lines { (lines : List (List ℕ)) (out : List ℕ) (t : Standing K.Scene) → Runs (Acting K.rules K.Scene.paints) first lines out t → IsPlayed K.rules K.Scene.paints out t.world.house.seats t.world.house.document }
+    ensures under_way { (lines : List (List ℕ)) (line out more : List ℕ) (t : Standing K.Scene) → Runs (Acting K.rules K.Scene.paints) first lines out t → UnderWay K.rules K.Scene.paints t line more → (seats : Seats) × (document : Option (Document K.Scene)) × IsPlayed K.rules K.Scene.paints (out ++ more) seats document }
 {}
 
 /// Each tile of such a transcript shows the document after as many of its accepted inputs as the tile's version
 /// says, point by point.
 pub fn script_tiles_show_prefixes<K: Kit>()
-    ensures { (out : List ℕ) (document : Option (Document K.Scene)) (played : IsPlayed K.rules K.Scene.paints out document) → AllByRecursion (Shows K.rules document) played.pieces }
+    ensures { (out : List ℕ) (seats : Seats) (document : Option (Document K.Scene)) (played : IsPlayed K.rules K.Scene.paints out seats document) → AllByRecursion (Shows K.rules document) played.pieces }
 {}
 
 /// Behind a line `settle` nothing waits, and the document, if there is one, is quiet, and all that its views see
@@ -38,20 +39,20 @@ pub fn script_tiles_show_prefixes<K: Kit>()
 /// asked for is right (`quiet`).
 pub fn settled_scripts_are_right<K: Kit>()
     ensures settled { (lines : List (List ℕ)) (out : List ℕ) (t : Standing K.Scene) → Runs (Acting K.rules K.Scene.paints) first (lines ++ codes "settle" ∷ []) out t → (t.world.waiting ≡ []) × IsAtRest K.rules t.world.house.document }
-    ensures quiet { (out : List ℕ) (d : Document K.Scene) → IsPlayed K.rules K.Scene.paints out (Some d) → IsQuiet K.rules d → AllRight K.rules d }
+    ensures quiet { (out : List ℕ) (seats : Seats) (d : Document K.Scene) → IsPlayed K.rules K.Scene.paints out seats (Some d) → IsQuiet K.rules d → AllRight K.rules d }
 {}
 
 /// In a quiet document each key that a view sees or asked for was sent to the view, and the last tile of it in the
 /// transcript has the pixels of the document painted from scratch, after all accepted inputs (`quiet`). So it is
 /// behind a line `settle` (`settled`).
 pub fn last_tiles_are_right<K: Kit>()
-    ensures quiet { (out : List ℕ) (d : Document K.Scene) (played : IsPlayed K.rules K.Scene.paints out (Some d)) → IsQuiet K.rules d → ArePainted K.rules (Some d) (flat_map given_of played.pieces) }
-    ensures settled { (lines : List (List ℕ)) (out : List ℕ) (t : Standing K.Scene) → Runs (Acting K.rules K.Scene.paints) first (lines ++ codes "settle" ∷ []) out t → (played : IsPlayed K.rules K.Scene.paints out t.world.house.document) → ArePainted K.rules t.world.house.document (flat_map given_of played.pieces) }
+    ensures quiet { (out : List ℕ) (seats : Seats) (d : Document K.Scene) (played : IsPlayed K.rules K.Scene.paints out seats (Some d)) → IsQuiet K.rules d → ArePainted K.rules (Some d) (flat_map given_of played.pieces) }
+    ensures settled { (lines : List (List ℕ)) (out : List ℕ) (t : Standing K.Scene) → Runs (Acting K.rules K.Scene.paints) first (lines ++ codes "settle" ∷ []) out t → (played : IsPlayed K.rules K.Scene.paints out t.world.house.seats t.world.house.document) → ArePainted K.rules t.world.house.document (flat_map given_of played.pieces) }
 {}
 
 /// What `replay` adds to its sink is a front of such a transcript, or all of one and behind it the text that
 /// names a refused line, or a front of that (`written`). Where it ends with 0 it is all of one (`done`).
 pub fn replays_are_runs<K: Kit>()
     ensures written { (source_then source_now sink_then sink_now : Option (List ℕ)) (reads reads_now writes writes_now code : ℕ) → PlaysTo K.rules K.Scene.paints source_then source_now sink_then sink_now reads reads_now writes writes_now code → (bytes : List ℕ) × Adds sink_then bytes sink_now × IsReplayed K.rules K.Scene.paints bytes }
-    ensures done { (source_then source_now sink_then sink_now : Option (List ℕ)) (reads reads_now writes writes_now : ℕ) → PlaysTo K.rules K.Scene.paints source_then source_now sink_then sink_now reads reads_now writes writes_now 0 → (bytes : List ℕ) × (document : Option (Document K.Scene)) × Adds sink_then bytes sink_now × IsPlayed K.rules K.Scene.paints bytes document }
+    ensures done { (source_then source_now sink_then sink_now : Option (List ℕ)) (reads reads_now writes writes_now : ℕ) → PlaysTo K.rules K.Scene.paints source_then source_now sink_then sink_now reads reads_now writes writes_now 0 → (bytes : List ℕ) × (seats : Seats) × (document : Option (Document K.Scene)) × Adds sink_then bytes sink_now × IsPlayed K.rules K.Scene.paints bytes seats document }
 {}

@@ -6,8 +6,8 @@ use Rattle.script_laws.proofs.last_tiles_are_right.Goals as goal
 pub returns-clause-quiet : goal.returns-clause-quiet
 returns-clause-quiet g c =
     let laws = g.met.K.Kit g.world.𝓛 g.world.𝓜 g.world.𝓡 ((λ s x. x), (λ x. x), (λ x. x), λ x. x) in
-    λ out d played quiet.
-    Law.painted g.K.Kit.rules g.K.Scene.Scene.paints (λ base. laws.some_part (g.K.Kit.rules.start base) (laws.sound_start base)) out d played
+    λ out seats d played quiet.
+    Law.painted g.K.Kit.rules g.K.Scene.Scene.paints (λ base. laws.some_part (g.K.Kit.rules.start base) (laws.sound_start base)) out seats d played
     (Quiet.quiet_is_right g.K.Kit.rules d
     (λ base journal version n place wide high le clean.
     Untouched.untouched_is_unchanged g.K.Kit.rules g.K.Kit.IsSound laws.sound_start laws.sound_step laws.covered base journal version place wide high n le clean)
