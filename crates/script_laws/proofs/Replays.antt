@@ -13,7 +13,7 @@ use Rattle.script_world.proofs.Housed.{Keeps}
 use Rattle.cool_script.specs.Replay.{PlaysTo, code_of}
 use Rattle.cool_script.specs.Script.{Standing, first, Acting, UnderWay}
 use Rattle.script_laws.specs.Played.{IsPlayed}
-use Rattle.script_laws.specs.Replayed.{IsReplayed}
+use Rattle.script_laws.specs.Replayed.{IsReplayed, IsTranscript}
 use Rattle.script_laws.proofs.Lines.{script_played, script_acting, script_under_way}
 
 -- all of it
@@ -24,15 +24,16 @@ all_of xs = record { behind = []; is = sym (append-nil xs) }
 front_behind : (xs part whole : List ℕ) → IsFront part whole → IsFront (xs ++ part) (xs ++ whole)
 front_behind xs part whole front = record { behind = front.behind; is = ap (λ (x : List ℕ). xs ++ x) front.is ∙ sym (append_assoc xs part front.behind) }
 
-module _ {C B S : Type 0} (rules : Rules C B) (paints : S → Pixels) (keeps : Keeps rules paints) where
+module _ {C B S : Type 0} (rules : Rules C B) (paints : S → Pixels) (keeps : Keeps rules paints)
+    (right : (out : List ℕ) (seats : Seats) (document : Option (Document S)) → IsPlayed rules paints out seats document → IsTranscript rules paints out seats document) where
   abbrev Played : List ℕ → Type 0
   Played bytes = (seats : Seats) × (document : Option (Document S)) × IsPlayed rules paints bytes seats document
 
   front_of : (bytes whole : List ℕ) → Played whole → IsFront bytes whole → IsReplayed rules paints bytes
-  front_of bytes whole played front = (whole, played.0, played.1, played.2, inl front)
+  front_of bytes whole played front = (whole, played.0, played.1, right whole played.0 played.1 played.2, inl front)
 
   named : (bytes tail : List ℕ) (number : ℕ) → Played bytes → IsFront tail (fault_text number) → IsReplayed rules paints (bytes ++ tail)
-  named bytes tail number played front = (bytes, played.0, played.1, played.2, inr (number, tail, front, refl))
+  named bytes tail number played front = (bytes, played.0, played.1, right bytes played.0 played.1 played.2, inr (number, tail, front, refl))
 
   module _ (lines : List (List ℕ)) (written : List ℕ) (s : Standing S) (runs : Runs (Acting rules paints) first lines written s) where
     before : Played written
@@ -66,10 +67,10 @@ module _ {C B S : Type 0} (rules : Rules C B) (paints : S → Pixels) (keeps : K
       (e.written ++ e.tail, e.added, caused e.lines e.written e.state e.runs plays.0 _ _ _ e.rest e.tail e.cause)
 
   done_by : (status : Status) (source_then source_now sink_then sink_now : Option (List ℕ)) → 0 ≡ code_of status → Ended (λ (x : Standing S). x.place) (Acting rules paints) (UnderWay rules paints) first source_then source_now sink_then sink_now status
-      → (bytes : List ℕ) × (seats : Seats) × (document : Option (Document S)) × Adds sink_then bytes sink_now × IsPlayed rules paints bytes seats document
+      → (bytes : List ℕ) × (seats : Seats) × (document : Option (Document S)) × Adds sink_then bytes sink_now × IsTranscript rules paints bytes seats document
   done_by Done source_then source_now sink_then sink_now is e =
       let bytes : e.written ++ e.tail ≡ e.written = ap (λ (x : List ℕ). e.written ++ x) e.cause.3 ∙ append-nil e.written in
-      (e.written, e.state.world.house.seats, e.state.world.house.document, subst (λ (x : List ℕ). Adds sink_then x sink_now) bytes e.added, script_played rules paints keeps e.lines e.written e.state e.runs)
+      (e.written, e.state.world.house.seats, e.state.world.house.document, subst (λ (x : List ℕ). Adds sink_then x sink_now) bytes e.added, right e.written e.state.world.house.seats e.state.world.house.document (script_played rules paints keeps e.lines e.written e.state e.runs))
   done_by WrongWords source_then source_now sink_then sink_now is e = absurd (cc)
   done_by FaultLine source_then source_now sink_then sink_now is e = absurd (cc)
   done_by ReadFault source_then source_now sink_then sink_now is e = absurd (cc)
@@ -78,5 +79,5 @@ module _ {C B S : Type 0} (rules : Rules C B) (paints : S → Pixels) (keeps : K
   done_by NoEnd source_then source_now sink_then sink_now is e = absurd (cc)
 
   pub done : (source_then source_now sink_then sink_now : Option (List ℕ)) (reads reads_now writes writes_now : ℕ) → PlaysTo rules paints source_then source_now sink_then sink_now reads reads_now writes writes_now 0
-      → (bytes : List ℕ) × (seats : Seats) × (document : Option (Document S)) × Adds sink_then bytes sink_now × IsPlayed rules paints bytes seats document
+      → (bytes : List ℕ) × (seats : Seats) × (document : Option (Document S)) × Adds sink_then bytes sink_now × IsTranscript rules paints bytes seats document
   done source_then source_now sink_then sink_now reads reads_now writes writes_now plays = done_by plays.0 source_then source_now sink_then sink_now plays.2 plays.1.ended

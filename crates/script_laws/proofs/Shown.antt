@@ -12,7 +12,8 @@ use Rattle.document_laws.specs.Whole.{IsWhole}
 use Rattle.document_laws.proofs.Tiles.{run_shows}
 use Rattle.document_laws.proofs.Whole.{opening_is_whole, runs_keep, steps_keep}
 use Rattle.document_machine.specs.Due.{parts_of}
-use Rattle.document_machine.specs.Quiet.{AllRight}
+use Rattle.document_machine.specs.Kept.{IsKept}
+use Rattle.document_machine.specs.Quiet.{IsQuiet, AllRight}
 use Rattle.document_machine.specs.State.{Document, opening}
 use Rattle.kit_trait.specs.Rules.{Rules}
 use Rattle.kit_trait.specs.declared.values.Pixels.{Pixels}
@@ -24,6 +25,7 @@ use Rattle.script_world.specs.World.{Seen, Settled, IsAtRest}
 use Rattle.cool_script.specs.Script.{Standing, first, DoesBy, Acting}
 use Rattle.script_laws.specs.LastTiles.{ArePainted}
 use Rattle.script_laws.specs.Played.{Piece, Lobby, Given, given_of, IsAnswer, IsSent, IsRun, IsRunTo, IsPlayed, IsNoTile, ShowsPrefix, Shows}
+use Rattle.script_laws.specs.Replayed.{IsQuietNow, IsTranscript}
 use Rattle.script_laws.proofs.Lines.{last_of}
 use Rattle.script_laws.proofs.Sent.{run_painted}
 
@@ -90,3 +92,16 @@ module _ {C B S : Type 0} (rules : Rules C B) (paints : S → Pixels) where
   pub settled_painted : (some : (base : List ℕ) → 0 < parts_of rules base) (lines : List (List ℕ)) (out : List ℕ) (t : Standing S) → Runs (Acting rules paints) first (lines ++ codes "settle" ∷ []) out t
       → (played : IsPlayed rules paints out t.world.house.seats t.world.house.document) → ArePainted rules t.world.house.document (flat_map given_of played.pieces)
   settled_painted some lines out t runs played = painted_at some out t.world.house.seats t.world.house.document (settled_rests lines out t runs).1 played
+
+  -- a transcript is right
+  painted_now : (some : (base : List ℕ) → 0 < parts_of rules base) (quiet : (d : Document S) → IsKept rules d → IsQuiet rules d → AllRight rules d) (out : List ℕ) (seats : Seats) (document : Option (Document S)) (played : IsPlayed rules paints out seats document)
+      → IsQuietNow rules document → ArePainted rules document (flat_map given_of played.pieces)
+  painted_now some quiet out seats None played still = tt
+  painted_now some quiet out seats (Some d) played still = painted some out seats d played (quiet d (run_whole some (flat_map given_of played.pieces) d played.run).kept still)
+
+  pub transcript_right : (some : (base : List ℕ) → 0 < parts_of rules base) (quiet : (d : Document S) → IsKept rules d → IsQuiet rules d → AllRight rules d) (out : List ℕ) (seats : Seats) (document : Option (Document S)) → IsPlayed rules paints out seats document → IsTranscript rules paints out seats document
+  transcript_right some quiet out seats document played = record {
+    played = played;
+    tiles = transcript_shows some out seats document played;
+    painted = painted_now some quiet out seats document played;
+  }

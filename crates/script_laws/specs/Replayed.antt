@@ -1,14 +1,30 @@
 -- What `replay` writes, in the words of the document machine.
-use Rattle.std.specs.Prelude.{ℕ, ◌≡◌, List, ◌++◌, Option, ◌⊎◌}
+use Rattle.std.specs.Prelude.{ℕ, ◌≡◌, ⊤, List, ◌++◌, Option, None, Some, ◌⊎◌}
+use Rattle.std.specs.List.{flat_map, AllByRecursion}
+use Rattle.document_machine.specs.Quiet.{IsQuiet}
 use Rattle.document_machine.specs.State.{Document}
 use Rattle.kit_trait.specs.Rules.{Rules}
 use Rattle.kit_trait.specs.declared.values.Pixels.{Pixels}
 use Rattle.script_lines.specs.Records.{IsFront, fault_text}
 use Rattle.script_world.specs.Seats.{Seats}
-use Rattle.script_laws.specs.Played.{IsPlayed}
+use Rattle.script_laws.specs.LastTiles.{ArePainted}
+use Rattle.script_laws.specs.Played.{given_of, IsPlayed, Shows}
 
--- The bytes are a front of a transcript of a world; or all of one, and behind it a front of the text that names a
--- refused line.
+-- the document, if there is one, is quiet
+abbrev pub IsQuietNow : {C B S : Type 0} → Rules C B → Option (Document S) → Type 0
+IsQuietNow rules None = ⊤
+IsQuietNow rules (Some d) = IsQuiet rules d
+
+-- The bytes are the transcript of a world, and what it shows is right: the frames of the document are one run of its
+-- machine; each tile shows the document after a prefix of its accepted inputs; and where the document is quiet, the last
+-- tile that a view was sent of each key that it sees or asked for is the document painted from scratch.
+pub record IsTranscript {C B S : Type 0} (rules : Rules C B) (paints : S → Pixels) (out : List ℕ) (seats : Seats) (document : Option (Document S)) : Type 0 where
+  pub played : IsPlayed rules paints out seats document
+  pub tiles : AllByRecursion (Shows rules document) played.pieces
+  pub painted : IsQuietNow rules document → ArePainted rules document (flat_map given_of played.pieces)
+
+-- The bytes are a front of such a transcript; or all of one, and behind it a front of the text that names a refused
+-- line.
 abbrev pub IsReplayed : {C B S : Type 0} → Rules C B → (S → Pixels) → List ℕ → Type 0
-IsReplayed {C} {B} {S} rules paints bytes = (whole : List ℕ) × (seats : Seats) × (document : Option (Document S)) × IsPlayed rules paints whole seats document
+IsReplayed {C} {B} {S} rules paints bytes = (whole : List ℕ) × (seats : Seats) × (document : Option (Document S)) × IsTranscript rules paints whole seats document
     × (IsFront bytes whole ⊎ ((number : ℕ) × (tail : List ℕ) × IsFront tail (fault_text number) × (bytes ≡ whole ++ tail)))

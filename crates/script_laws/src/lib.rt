@@ -8,15 +8,20 @@ ghost use Rattle.cool_script.specs.Replay.{PlaysTo};
 ghost use Rattle.cool_script.specs.Script.{Standing, first, Acting, UnderWay};
 ghost use Rattle.document_machine.specs.Quiet.{IsQuiet, AllRight};
 ghost use Rattle.document_machine.specs.State.{Document};
+ghost use Rattle.kit_trait.specs.Patch.{patch_rules};
+ghost use Rattle.kit_trait.specs.PatchSeen.{scene_picture as patch_picture};
 ghost use Rattle.outside.specs.Streams.{Adds};
 ghost use Rattle.script_laws.specs.LastTiles.{ArePainted};
 ghost use Rattle.script_laws.specs.Played.{given_of, IsPlayed, Shows};
-ghost use Rattle.script_laws.specs.Replayed.{IsReplayed};
+ghost use Rattle.script_laws.specs.Replayed.{IsReplayed, IsTranscript};
 ghost use Rattle.script_run.specs.Transcript.{Runs};
 ghost use Rattle.script_world.specs.Seats.{Seats};
 ghost use Rattle.script_world.specs.World.{IsAtRest};
+ghost use Rattle.sheet_kit.specs.Seen.{scene_picture as sheet_picture};
+ghost use Rattle.sheet_kit.specs.SheetKind.{sheet_kind};
 
-use kit_trait::Kit;
+use kit_trait::{Kit, PatchKit};
+use sheet_kit::SheetKit;
 
 /// The transcript of a script, from its first line on, is records, each to one link: answers in the lobby, and
 /// the frames that the document gave to its views, each written to the link of its view. The latter are, in
@@ -50,9 +55,19 @@ pub fn last_tiles_are_right<K: Kit>()
     ensures settled { (lines : List (List ℕ)) (out : List ℕ) (t : Standing K.Scene) → Runs (Acting K.rules K.Scene.paints) first (lines ++ codes "settle" ∷ []) out t → (played : IsPlayed K.rules K.Scene.paints out t.world.house.seats t.world.house.document) → ArePainted K.rules t.world.house.document (flat_map given_of played.pieces) }
 {}
 
-/// What `replay` adds to its sink is a front of such a transcript, or all of one and behind it the text that
-/// names a refused line, or a front of that (`written`). Where it ends with 0 it is all of one (`done`).
-pub fn replays_are_runs<K: Kit>()
+/// What `replay` adds to its sink is a front of such a transcript, whose tiles are right in this sense, or all of
+/// one and behind it the text that names a refused line, or a front of that (`written`). Where it ends with 0 it
+/// is all of one (`done`).
+pub fn replays_are_right<K: Kit>()
     ensures written { (source_then source_now sink_then sink_now : Option (List ℕ)) (reads reads_now writes writes_now code : ℕ) → PlaysTo K.rules K.Scene.paints source_then source_now sink_then sink_now reads reads_now writes writes_now code → (bytes : List ℕ) × Adds sink_then bytes sink_now × IsReplayed K.rules K.Scene.paints bytes }
-    ensures done { (source_then source_now sink_then sink_now : Option (List ℕ)) (reads reads_now writes writes_now : ℕ) → PlaysTo K.rules K.Scene.paints source_then source_now sink_then sink_now reads reads_now writes writes_now 0 → (bytes : List ℕ) × (seats : Seats) × (document : Option (Document K.Scene)) × Adds sink_then bytes sink_now × IsPlayed K.rules K.Scene.paints bytes seats document }
+    ensures done { (source_then source_now sink_then sink_now : Option (List ℕ)) (reads reads_now writes writes_now : ℕ) → PlaysTo K.rules K.Scene.paints source_then source_now sink_then sink_now reads reads_now writes writes_now 0 → (bytes : List ℕ) × (seats : Seats) × (document : Option (Document K.Scene)) × Adds sink_then bytes sink_now × IsTranscript K.rules K.Scene.paints bytes seats document }
 {}
+
+/// The same of the documents that `replay patch` and `replay sheet` play.
+pub fn patches_and_sheets_are_right()
+    ensures patch { (source_then source_now sink_then sink_now : Option (List ℕ)) (reads reads_now writes writes_now code : ℕ) → PlaysTo patch_rules patch_picture source_then source_now sink_then sink_now reads reads_now writes writes_now code → (bytes : List ℕ) × Adds sink_then bytes sink_now × IsReplayed patch_rules patch_picture bytes }
+    ensures sheet { (source_then source_now sink_then sink_now : Option (List ℕ)) (reads reads_now writes writes_now code : ℕ) → PlaysTo sheet_kind sheet_picture source_then source_now sink_then sink_now reads reads_now writes writes_now code → (bytes : List ℕ) × Adds sink_then bytes sink_now × IsReplayed sheet_kind sheet_picture bytes }
+{
+    replays_are_right::<PatchKit>();
+    replays_are_right::<SheetKit>();
+}

@@ -1,6 +1,9 @@
+use Rattle.document_laws.proofs.Quiet as Quiet
+use Rattle.document_laws.proofs.Untouched as Untouched
 use Rattle.document_laws.proofs.Whole as Whole
 use Rattle.script_laws.proofs.Replays as Law
-use Rattle.script_laws.proofs.replays_are_runs.Goals as goal
+use Rattle.script_laws.proofs.Shown as Shown
+use Rattle.script_laws.proofs.replays_are_right.Goals as goal
 
 pub returns-clause-written : goal.returns-clause-written
 returns-clause-written g c =
@@ -8,6 +11,14 @@ returns-clause-written g c =
     λ source_then source_now sink_then sink_now reads reads_now writes writes_now code plays.
     Law.replayed g.K.Kit.rules g.K.Scene.Scene.paints
     (Whole.steps_keep g.K.Kit.rules g.K.Scene.Scene.paints (λ base. laws.some_part (g.K.Kit.rules.start base) (laws.sound_start base)))
+    (λ out seats document played.
+    Shown.transcript_right g.K.Kit.rules g.K.Scene.Scene.paints (λ base. laws.some_part (g.K.Kit.rules.start base) (laws.sound_start base))
+    (λ d kept quiet.
+    Quiet.quiet_is_right g.K.Kit.rules d
+    (λ base journal version n place wide high le clean.
+    Untouched.untouched_is_unchanged g.K.Kit.rules g.K.Kit.IsSound laws.sound_start laws.sound_step laws.covered base journal version place wide high n le clean)
+    kept quiet)
+    out seats document played)
     source_then source_now sink_then sink_now reads reads_now writes writes_now code plays
 
 pub returns-clause-done : goal.returns-clause-done
@@ -16,4 +27,12 @@ returns-clause-done g c =
     λ source_then source_now sink_then sink_now reads reads_now writes writes_now plays.
     Law.done g.K.Kit.rules g.K.Scene.Scene.paints
     (Whole.steps_keep g.K.Kit.rules g.K.Scene.Scene.paints (λ base. laws.some_part (g.K.Kit.rules.start base) (laws.sound_start base)))
+    (λ out seats document played.
+    Shown.transcript_right g.K.Kit.rules g.K.Scene.Scene.paints (λ base. laws.some_part (g.K.Kit.rules.start base) (laws.sound_start base))
+    (λ d kept quiet.
+    Quiet.quiet_is_right g.K.Kit.rules d
+    (λ base journal version n place wide high le clean.
+    Untouched.untouched_is_unchanged g.K.Kit.rules g.K.Kit.IsSound laws.sound_start laws.sound_step laws.covered base journal version place wide high n le clean)
+    kept quiet)
+    out seats document played)
     source_then source_now sink_then sink_now reads reads_now writes writes_now plays
