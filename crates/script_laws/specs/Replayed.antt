@@ -1,11 +1,12 @@
 -- What `replay` writes, in the words of the document machine.
-use Rattle.std.specs.Prelude.{ℕ, ◌≡◌, ⊤, List, ◌++◌, Option, None, Some, ◌⊎◌}
+use Rattle.std.specs.Prelude.{ℕ, ⊤, List, ◌++◌, Option, None, Some, ◌⊎◌}
 use Rattle.std.specs.List.{flat_map, AllByRecursion}
 use Rattle.document_machine.specs.Quiet.{IsQuiet}
 use Rattle.document_machine.specs.State.{Document}
 use Rattle.kit_trait.specs.Rules.{Rules}
 use Rattle.kit_trait.specs.declared.values.Pixels.{Pixels}
 use Rattle.script_lines.specs.Records.{IsFront, fault_text}
+use Rattle.script_world.specs.House.{House}
 use Rattle.script_world.specs.Seats.{Seats}
 use Rattle.script_laws.specs.LastTiles.{ArePainted}
 use Rattle.script_laws.specs.Played.{given_of, IsPlayed, Shows}
@@ -23,8 +24,13 @@ pub record IsTranscript {C B S : Type 0} (rules : Rules C B) (paints : S → Pix
   pub tiles : AllByRecursion (Shows rules document) played.pieces
   pub painted : IsQuietNow rules document → ArePainted rules document (flat_map given_of played.pieces)
 
--- The bytes are a front of such a transcript; or all of one, and behind it a front of the text that names a refused
--- line.
-abbrev pub IsReplayed : {C B S : Type 0} → Rules C B → (S → Pixels) → List ℕ → Type 0
-IsReplayed {C} {B} {S} rules paints bytes = (whole : List ℕ) × (seats : Seats) × (document : Option (Document S)) × IsTranscript rules paints whole seats document
-    × (IsFront bytes whole ⊎ ((number : ℕ) × (tail : List ℕ) × IsFront tail (fault_text number) × (bytes ≡ whole ++ tail)))
+-- What stands behind a transcript: a front of what it goes on with, or of the text that names a refused line.
+abbrev pub IsTail : {C B S : Type 0} → Rules C B → (S → Pixels) → List ℕ → List ℕ → Type 0
+IsTail {C} {B} {S} rules paints written tail =
+    ((more : List ℕ) × (seats : Seats) × (document : Option (Document S)) × IsTranscript rules paints (written ++ more) seats document × IsFront tail more)
+    ⊎ ((number : ℕ) × IsFront tail (fault_text number))
+
+-- What was written of the lines that acted is the transcript of the world in which the script stands behind them, and
+-- what was written behind it is such a tail.
+abbrev pub IsReplayed : {C B S : Type 0} → Rules C B → (S → Pixels) → List ℕ → List ℕ → House S → Type 0
+IsReplayed rules paints written tail house = IsTranscript rules paints written house.seats house.document × IsTail rules paints written tail

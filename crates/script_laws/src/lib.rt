@@ -1,5 +1,6 @@
 //! Laws of scripts that are played on a world with one document, for any kit: what a whole transcript is, in the
-//! words of the document machine. Each is a function with an empty body whose contract is the law.
+//! words of the document machine. Each is a function whose contract is the law; its body is empty, or takes a law to
+//! two kits.
 #![tactic(auto)]
 
 ghost use Rattle.std.specs.Prelude.{◌≡◌, ℕ, List, [], ◌∷◌, ◌++◌, codes, Option, Some};
@@ -10,10 +11,9 @@ ghost use Rattle.document_machine.specs.Quiet.{IsQuiet, AllRight};
 ghost use Rattle.document_machine.specs.State.{Document};
 ghost use Rattle.kit_trait.specs.Patch.{patch_rules};
 ghost use Rattle.kit_trait.specs.PatchSeen.{scene_picture as patch_picture};
-ghost use Rattle.outside.specs.Streams.{Adds};
 ghost use Rattle.script_laws.specs.LastTiles.{ArePainted};
 ghost use Rattle.script_laws.specs.Played.{given_of, IsPlayed, Shows};
-ghost use Rattle.script_laws.specs.Replayed.{IsReplayed, IsTranscript};
+ghost use Rattle.script_laws.specs.Replayed.{IsReplayed};
 ghost use Rattle.script_run.specs.Transcript.{Runs};
 ghost use Rattle.script_world.specs.Seats.{Seats};
 ghost use Rattle.script_world.specs.World.{IsAtRest};
@@ -55,18 +55,19 @@ pub fn last_tiles_are_right<K: Kit>()
     ensures settled { (lines : List (List ℕ)) (out : List ℕ) (t : Standing K.Scene) → Runs (Acting K.rules K.Scene.paints) first (lines ++ codes "settle" ∷ []) out t → (played : IsPlayed K.rules K.Scene.paints out t.world.house.seats t.world.house.document) → ArePainted K.rules t.world.house.document (flat_map given_of played.pieces) }
 {}
 
-/// What `replay` adds to its sink is a front of such a transcript, whose tiles are right in this sense, or all of
-/// one and behind it the text that names a refused line, or a front of that (`written`). Where it ends with 0 it
-/// is all of one (`done`).
+/// What `replay` writes of the lines that act is a transcript, and its tiles are right in all these senses. What
+/// is written behind it, where the sink or memory stops a line, is a front of what the transcript goes on with;
+/// or it is the text that names a refused line, or a front of that (`written`). Where `replay` ends with 0 nothing
+/// is written behind it (`done`).
 pub fn replays_are_right<K: Kit>()
-    ensures written { (source_then source_now sink_then sink_now : Option (List ℕ)) (reads reads_now writes writes_now code : ℕ) → PlaysTo K.rules K.Scene.paints source_then source_now sink_then sink_now reads reads_now writes writes_now code → (bytes : List ℕ) × Adds sink_then bytes sink_now × IsReplayed K.rules K.Scene.paints bytes }
-    ensures done { (source_then source_now sink_then sink_now : Option (List ℕ)) (reads reads_now writes writes_now : ℕ) → PlaysTo K.rules K.Scene.paints source_then source_now sink_then sink_now reads reads_now writes writes_now 0 → (bytes : List ℕ) × (seats : Seats) × (document : Option (Document K.Scene)) × Adds sink_then bytes sink_now × IsTranscript K.rules K.Scene.paints bytes seats document }
+    ensures written { (source_then source_now sink_then sink_now : Option (List ℕ)) (reads reads_now writes writes_now code : ℕ) (plays : PlaysTo K.rules K.Scene.paints source_then source_now sink_then sink_now reads reads_now writes writes_now code) → IsReplayed K.rules K.Scene.paints plays.1.ended.written plays.1.ended.tail plays.1.ended.state.world.house }
+    ensures done { (source_then source_now sink_then sink_now : Option (List ℕ)) (reads reads_now writes writes_now : ℕ) (plays : PlaysTo K.rules K.Scene.paints source_then source_now sink_then sink_now reads reads_now writes writes_now 0) → plays.1.ended.tail ≡ [] }
 {}
 
 /// The same of the documents that `replay patch` and `replay sheet` play.
 pub fn patches_and_sheets_are_right()
-    ensures patch { (source_then source_now sink_then sink_now : Option (List ℕ)) (reads reads_now writes writes_now code : ℕ) → PlaysTo patch_rules patch_picture source_then source_now sink_then sink_now reads reads_now writes writes_now code → (bytes : List ℕ) × Adds sink_then bytes sink_now × IsReplayed patch_rules patch_picture bytes }
-    ensures sheet { (source_then source_now sink_then sink_now : Option (List ℕ)) (reads reads_now writes writes_now code : ℕ) → PlaysTo sheet_kind sheet_picture source_then source_now sink_then sink_now reads reads_now writes writes_now code → (bytes : List ℕ) × Adds sink_then bytes sink_now × IsReplayed sheet_kind sheet_picture bytes }
+    ensures patch { (source_then source_now sink_then sink_now : Option (List ℕ)) (reads reads_now writes writes_now code : ℕ) (plays : PlaysTo patch_rules patch_picture source_then source_now sink_then sink_now reads reads_now writes writes_now code) → IsReplayed patch_rules patch_picture plays.1.ended.written plays.1.ended.tail plays.1.ended.state.world.house }
+    ensures sheet { (source_then source_now sink_then sink_now : Option (List ℕ)) (reads reads_now writes writes_now code : ℕ) (plays : PlaysTo sheet_kind sheet_picture source_then source_now sink_then sink_now reads reads_now writes writes_now code) → IsReplayed sheet_kind sheet_picture plays.1.ended.written plays.1.ended.tail plays.1.ended.state.world.house }
 {
     replays_are_right::<PatchKit>();
     replays_are_right::<SheetKit>();
