@@ -19,9 +19,9 @@ mod resting;
 mod saying;
 mod seats;
 #[cfg(test)]
-mod tests;
+mod stage;
 #[cfg(test)]
-mod turn_tests;
+mod tests;
 mod turning;
 
 pub use broker::Broker;
