@@ -18,10 +18,6 @@ mod painting;
 mod resting;
 mod saying;
 mod seats;
-#[cfg(test)]
-mod stage;
-#[cfg(test)]
-mod tests;
 mod turning;
 
 pub use broker::Broker;

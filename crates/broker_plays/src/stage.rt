@@ -1,9 +1,6 @@
 //! A broker of a blank patch document, driven by lines of text with ample memory, and all that it gives
 //! out, in lines. Tests alone use it.
-ghost use Rattle.std.specs.Prelude.{◌≡◌, [], true};
-ghost use Rattle.std.specs.Option.{ForSome};
-
-use crate::{Broker, JoinFault};
+use broker_core::{Broker, JoinFault};
 use bytes::Bytes;
 use cool_base::{FileId, Ticket, Token, ViewId, read_u31};
 use cool_frame::{Frame, write_frame};
@@ -26,18 +23,6 @@ struct Stage {
     last: Option<Held>,
     before: Option<Held>,
     text: String,
-}
-
-impl<K: Kit> Broker<K> {
-    /// Whether no job is out.
-    fn is_free(&self) -> bool
-        ensures { result ≡ true → ForSome self.now (λ d. d.jobs ≡ []) }
-    {
-        match &self.core {
-            Some(core) => core.job.is_none(),
-            None => false,
-        }
-    }
 }
 
 /// A frame in a line: a tile by its width, place, version, number and first shade, another as it is written.
@@ -154,6 +139,18 @@ impl Stage {
         self.show(alloc, &outs)
     }
 
+    /// View 0 asks for so many tiles of 15 by 15 twips, one after the other, in a row.
+    fn asks(&mut self, alloc: Global, count: u32) -> Result<(), Fail> {
+        for n in 0..count {
+            let x = u64::from(n) * 15;
+            let text = format!(in alloc;
+                "tile part=0 width=1 height=1 tileposx={x} tileposy=0 tilewidth=15 tileheight=15"
+            )?;
+            self.says(alloc, 0, text.as_str())?;
+        }
+        Ok(())
+    }
+
     fn turns(&mut self, alloc: Global) -> Result<(), Fail> {
         if !self.broker.is_free() {
             return self.write("a job is out");
@@ -235,6 +232,7 @@ impl Stage {
                 let (view, text) = rest.split_once(' ').ok_or("a text")?;
                 self.says(alloc, number(view)?, text)
             }
+            "ask" => self.asks(alloc, number(rest)?),
             "turn" => self.turns(alloc),
             "paint" => self.paints_last(alloc),
             "paint_as" => self.paints_as(alloc, number(rest)?),
@@ -254,7 +252,7 @@ impl Stage {
 /// All that a blank document gives out while these lines are done.
 ///
 /// - `join w` and `join r`: a view joins that may write, or one that may not. `crowd 3`: three that may.
-/// - `leave 0`, `say 0 text`: a view leaves, or says a text.
+/// - `leave 0`, `say 0 text`: a view leaves, or says a text. `ask 9`: view 0 asks for nine tiles in a row.
 /// - `turn`: one turn. `paint`: the job that was cut last comes back painted. `paint_as 7`: the same under
 ///   another ticket. `paint_old`: the scene of the job before it comes back with the last one's ticket.
 /// - `serve 2`: two times `turn` and `paint`.

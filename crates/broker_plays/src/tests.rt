@@ -107,6 +107,26 @@ tell
 }
 
 #[test]
+fn more_than_1024_keys(rt: HostRuntime) -> Result<(), Fail> {
+    let text = played(
+        rt.alloc(),
+        "join w
+hush
+ask 1025
+ask 1024
+say 0 canceltiles
+ask 1024
+tell
+",
+    )?;
+    let wanted = "0: error: cmd=tile kind=askedfull
+0 of 0 applied, quiet false
+";
+    assert_eq!(rt; text.as_str(), wanted);
+    Ok(())
+}
+
+#[test]
 fn two_views_with_two_zooms(rt: HostRuntime) -> Result<(), Fail> {
     let text = played(
         rt.alloc(),
