@@ -1,5 +1,5 @@
 //! `Broker`: turns, painted jobs, and what is left to do.
-ghost use Rattle.std.specs.Prelude.{◌≡◌, [], length, map, false, None, IsSome, IfOk, OnErr};
+ghost use Rattle.std.specs.Prelude.{◌≡◌, ◌≢◌, [], length, map, true, false, None, IsSome, IfOk, OnErr};
 ghost use Rattle.std.specs.Option.{ForSome, option_map_or};
 ghost use Rattle.document_machine.specs.Event.{Painted};
 ghost use Rattle.document_machine.specs.Next.{none_kept, IsFirst};
@@ -15,6 +15,17 @@ use kit_trait::{Done, Kit};
 use std::alloc::Global;
 
 impl<K: Kit> Broker<K> {
+    /// Whether no job is out, as a turn wants it; true where the broker is spent.
+    pub fn is_free(&self) -> bool
+        ensures free { result ≡ true → ForSome self.now (λ d. d.jobs ≡ []) }
+        ensures busy { result ≡ false → IsSome self.now × ForSome self.now (λ d. d.jobs ≢ []) }
+    {
+        match &self.core {
+            Some(core) => core.is_free(),
+            None => true,
+        }
+    }
+
     /// One turn: the next input is applied, or else a job is cut for the first key, in order of views and
     /// then of keys, that a view with room is due. Idle exactly where there is nothing to do.
     pub fn turn(&mut self, alloc: Global) -> Result<Turned<K::Scene>, Memory>

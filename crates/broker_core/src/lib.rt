@@ -18,10 +18,6 @@ mod painting;
 mod resting;
 mod saying;
 mod seats;
-#[cfg(test)]
-mod tests;
-#[cfg(test)]
-mod turn_tests;
 mod turning;
 
 pub use broker::Broker;

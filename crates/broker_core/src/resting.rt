@@ -1,5 +1,5 @@
 //! What is left to do.
-ghost use Rattle.std.specs.Prelude.{◌≡◌, map, IsSome};
+ghost use Rattle.std.specs.Prelude.{◌≡◌, ◌≢◌, [], map, true, false, IsSome};
 ghost use Rattle.std.specs.List.{list_all};
 ghost use Rattle.std.specs.Option.{ForSome};
 ghost use Rattle.document_machine.specs.Quiet.{is_quiet};
@@ -33,6 +33,14 @@ fn are_still(seats: &[Seat]) -> bool
 }
 
 impl<K: Kit> Core<K> {
+    /// Whether no job is out.
+    pub(crate) fn is_free(&self) -> bool
+        ensures free { result ≡ true → self.now.jobs ≡ [] }
+        ensures busy { result ≡ false → self.now.jobs ≢ [] }
+    {
+        self.job.is_none()
+    }
+
     /// Whether a turn would be Idle, no job is out and every window is empty.
     pub(crate) fn is_quiet(&self) -> bool
         ensures { result ≡ is_quiet K.rules self.now }
