@@ -14,6 +14,7 @@ use crate::script::Script;
 use kit_trait::PatchKit;
 use outside::{Sink, Source};
 use script_run::{Status, comes_to_its_end, one_status, run};
+use script_world::{settling_has_one_record, turns_have_one_record};
 use sheet_kit::SheetKit;
 use std::alloc::Global;
 
@@ -67,6 +68,25 @@ pub fn one_code()
 {
     one_status::<Script<PatchKit>>();
     one_status::<Script<SheetKit>>();
+}
+
+/// A script has one transcript: two plays of one told source that end with the same status, not for want of
+/// memory or a failed sink, leave the same in sinks that held the same. So nothing in what a script writes is
+/// left to a choice, the order in which tiles are served included.
+pub fn one_transcript()
+    ensures patch { (left left_now : List ℕ) (sink sink_now other_now : Option (List ℕ)) (reads reads_now writes writes_now also also_now more more_now : ℕ) (status : Status)
+        → Plays patch_rules patch_picture (Some left) (Some left_now) sink sink_now reads reads_now writes writes_now status
+        → Plays patch_rules patch_picture (Some left) (Some left_now) sink other_now also also_now more more_now status
+        → status ≢ Status.Memory → status ≢ Status.WriteFault → sink_now ≡ other_now }
+    ensures sheet { (left left_now : List ℕ) (sink sink_now other_now : Option (List ℕ)) (reads reads_now writes writes_now also also_now more more_now : ℕ) (status : Status)
+        → Plays sheet_kind sheet_picture (Some left) (Some left_now) sink sink_now reads reads_now writes writes_now status
+        → Plays sheet_kind sheet_picture (Some left) (Some left_now) sink other_now also also_now more more_now status
+        → status ≢ Status.Memory → status ≢ Status.WriteFault → sink_now ≡ other_now }
+{
+    turns_have_one_record::<PatchKit>();
+    settling_has_one_record::<PatchKit>();
+    turns_have_one_record::<SheetKit>();
+    settling_has_one_record::<SheetKit>();
 }
 
 // Whether the words are `replay` and this name.

@@ -9,5 +9,5 @@ mod script;
 #[cfg(test)]
 mod tests;
 
-pub use command::{one_code, replay};
+pub use command::{one_code, one_transcript, replay};
 pub use script::Script;

@@ -7,10 +7,17 @@ use std::test::Fail;
 const OPENING: &str =
     "1 51\ncoolserver {\"Version\":\"profile-1\",\"Protocol\":\"0.1\"}\n1 79\nstatus: type=patch parts=1 current=0 width=3840 height=3840 viewid=0 readonly=0\n";
 
-const CLICK: &str = "say 1 mouse type=buttondown x=10 y=10 count=1 buttons=1 modifier=0\n";
+const SECOND: &str =
+    "2 51\ncoolserver {\"Version\":\"profile-1\",\"Protocol\":\"0.1\"}\n2 79\nstatus: type=patch parts=1 current=0 width=3840 height=3840 viewid=1 readonly=0\n";
 
 const ASK: &str =
     "say 1 tile part=0 width=8 height=8 tileposx=0 tileposy=0 tilewidth=240 tileheight=240\n";
+
+const Z: &str =
+    "clientzoom tilepixelwidth=8 tilepixelheight=8 tiletwipwidth=240 tiletwipheight=240";
+
+const WIDE: &str =
+    "clientzoom tilepixelwidth=8 tilepixelheight=8 tiletwipwidth=480 tiletwipheight=480";
 
 // A source whose first read fails.
 #[derive(Drop)]
@@ -58,30 +65,71 @@ fn played_as(
     Ok((status, Vec::from_slice(rt.alloc(), sink.bytes())?))
 }
 
-// The record of a tile of 8 by 8 points in one grey.
-fn tile_record(rt: &HostRuntime, version: u8, grey: u8) -> Result<Vec<u8>, Fail> {
+// Adds the record of a tile of 8 by 8 points: the link that gets it, where it lies and its side in twips, its
+// version and its number. The points nearer than `ones` to its corner are 1, each way, and all others are 0.
+fn add_tile(
+    rt: &HostRuntime,
+    bytes: &mut Vec<u8>,
+    link: u8,
+    at: (u32, u32),
+    side: u32,
+    numbers: (u8, u32),
+    ones: u32,
+) -> Result<(), Fail> {
+    let (x, y) = at;
+    let (version, wid) = numbers;
     let head = format!(in rt.alloc();
-        "1 349\ntile: part=0 width=8 height=8 tileposx=0 tileposy=0 tilewidth=240 tileheight=240 ver={version} wid=1\n"
+        "tile: part=0 width=8 height=8 tileposx={x} tileposy={y} tilewidth={side} tileheight={side} ver={version} wid={wid}\n"
     )?;
-    let mut bytes = Vec::from_slice(rt.alloc(), head.as_bytes())?;
-    for _ in 0..64 {
+    let length = head.len() + 256;
+    let first = format!(in rt.alloc(); "{link} {length}\n")?;
+    bytes.extend_from_slice(first.as_bytes())?;
+    bytes.extend_from_slice(head.as_bytes())?;
+    for n in 0..64u32 {
+        let grey = if n % 8 < ones && n / 8 < ones { 1 } else { 0 };
         bytes.extend_from_slice(&[grey, grey, grey, 255])?;
     }
     bytes.extend_from_slice(b"\n")?;
-    Ok(bytes)
+    Ok(())
+}
+
+// Adds the records of `count` tiles for link 1, row by row, numbered from `wid` on, of a document of squares that
+// are 0.
+fn add_rows(
+    rt: &HostRuntime,
+    bytes: &mut Vec<u8>,
+    columns: u32,
+    count: u32,
+    side: u32,
+    wid: u32,
+) -> Result<(), Fail>
+    requires { 0 < columns }
+{
+    for n in 0..count {
+        let x = (n % columns).wrapping_mul(side);
+        let y = (n / columns).wrapping_mul(side);
+        add_tile(rt, bytes, 1, (x, y), side, (0, wid.wrapping_add(n)), 0)?;
+    }
+    Ok(())
+}
+
+// Whether the script ends with 0, and its transcript is this.
+fn writes(rt: &HostRuntime, script: &str, wanted: &[u8]) -> Result<bool, Fail> {
+    let (status, bytes) = played(rt, script, 400_000)?;
+    Ok(status == 0 && bytes.as_slice() == wanted)
 }
 
 #[test]
 fn a_click_and_a_tile(rt: HostRuntime) -> Result<(), Fail> {
-    let script = format!(in rt.alloc(); "open 1 d1 rw\n{CLICK}{ASK}settle\nend\n")?;
-    let (status, bytes) = played(&rt, &script, 10_000)?;
+    let script = format!(in rt.alloc();
+        "open 1 d1 rw\nsay 1 mouse type=buttondown x=10 y=10 count=1 buttons=1 modifier=0\n{ASK}settle\nend\n"
+    )?;
     let text = format!(in rt.alloc();
         "{OPENING}1 52\ninvalidatetiles: part=0 x=0 y=0 width=240 height=240\n"
     )?;
     let mut wanted = Vec::from_slice(rt.alloc(), text.as_bytes())?;
-    wanted.extend_from_slice(&tile_record(&rt, 1, 1)?)?;
-    assert_eq!(rt; status, 0);
-    assert!(rt; bytes.as_slice() == wanted.as_slice());
+    add_tile(&rt, &mut wanted, 1, (0, 0), 240, (1, 1), 8)?;
+    assert!(rt; writes(&rt, &script, &wanted)?);
     let (status, bytes) = played(&rt, &script, 0)?;
     assert_eq!(rt; status, 5);
     assert!(rt; bytes.is_empty());
@@ -89,23 +137,95 @@ fn a_click_and_a_tile(rt: HostRuntime) -> Result<(), Fail> {
 }
 
 #[test]
-fn refused_messages(rt: HostRuntime) -> Result<(), Fail> {
+fn a_tile_without_its_width(rt: HostRuntime) -> Result<(), Fail> {
     let script = format!(in rt.alloc();
         "open 1 d rw\nsay 1 tile part=0 height=8 tileposx=0 tileposy=0 tilewidth=240 tileheight=240\n{ASK}settle\nend\n"
     )?;
-    let (status, bytes) = played(&rt, &script, 10_000)?;
     let text = format!(in rt.alloc(); "{OPENING}1 31\nerror: cmd=tile kind=badmessage\n")?;
     let mut wanted = Vec::from_slice(rt.alloc(), text.as_bytes())?;
-    wanted.extend_from_slice(&tile_record(&rt, 0, 0)?)?;
-    assert_eq!(rt; status, 0);
-    assert!(rt; bytes.as_slice() == wanted.as_slice());
-    let script =
-        "open 1 d ro\nsay 1 key type=input char=65 key=0\nsay 1 load url=x\nsay 1 useractive\nsettle\nend\n";
-    let (status, bytes) = played(&rt, script, 10_000)?;
-    let wanted =
-        "1 51\ncoolserver {\"Version\":\"profile-1\",\"Protocol\":\"0.1\"}\n1 79\nstatus: type=patch parts=1 current=0 width=3840 height=3840 viewid=0 readonly=1\n1 28\nerror: cmd=key kind=readonly\n1 34\nerror: cmd=load kind=alreadyloaded\n1 37\nerror: cmd=useractive kind=badmessage\n";
-    assert_eq!(rt; status, 0);
-    assert!(rt; bytes.as_slice() == wanted.as_bytes());
+    add_tile(&rt, &mut wanted, 1, (0, 0), 240, (0, 1), 0)?;
+    assert!(rt; writes(&rt, &script, &wanted)?);
+    Ok(())
+}
+
+#[test]
+fn a_link_that_only_looks(rt: HostRuntime) -> Result<(), Fail> {
+    let good = writes(
+        &rt,
+        "open 1 d ro\nsay 1 key type=input char=65 key=0\nsay 1 load url=x\nsay 1 useractive\nsettle\nend\n",
+        b"1 51\ncoolserver {\"Version\":\"profile-1\",\"Protocol\":\"0.1\"}\n1 79\nstatus: type=patch parts=1 current=0 width=3840 height=3840 viewid=0 readonly=1\n1 28\nerror: cmd=key kind=readonly\n1 34\nerror: cmd=load kind=alreadyloaded\n1 37\nerror: cmd=useractive kind=badmessage\n",
+    )?;
+    assert!(rt; good);
+    Ok(())
+}
+
+#[test]
+fn a_window_holds_tiles_back(rt: HostRuntime) -> Result<(), Fail> {
+    let script = format!(in rt.alloc();
+        "open 1 d rw\nsay 1 {Z}\nsay 1 clientvisiblearea x=0 y=0 width=3120 height=1200\nturn 0 200\nsay 1 tileprocessed wids=1\nturn 0 3\nend\n"
+    )?;
+    let mut wanted = Vec::from_slice(rt.alloc(), OPENING.as_bytes())?;
+    add_rows(&rt, &mut wanted, 13, 65, 240, 1)?;
+    assert!(rt; writes(&rt, &script, &wanted)?);
+    Ok(())
+}
+
+#[test]
+fn other_numbers_acknowledge_nothing(rt: HostRuntime) -> Result<(), Fail> {
+    let script = format!(in rt.alloc();
+        "open 1 d rw\nsay 1 {Z}\nsay 1 clientvisiblearea x=0 y=0 width=3360 height=1200\nturn 0 200\nsay 1 tileprocessed wids=99,1,1\nturn 0 9\nend\n"
+    )?;
+    let mut wanted = Vec::from_slice(rt.alloc(), OPENING.as_bytes())?;
+    add_rows(&rt, &mut wanted, 14, 65, 240, 1)?;
+    assert!(rt; writes(&rt, &script, &wanted)?);
+    Ok(())
+}
+
+#[test]
+fn a_zoom_waits_for_room(rt: HostRuntime) -> Result<(), Fail> {
+    let script = format!(in rt.alloc();
+        "open 1 d rw\nsay 1 {Z}\nsay 1 clientvisiblearea x=0 y=0 width=3120 height=1200\nturn 0 200\nsay 1 {WIDE}\nturn 0 5\nsay 1 tileprocessed wids=1,2,3,4,5,6,7,8,9,10,11,12,13,14,15,16,17,18,19,20,21\nturn 0 60\nend\n"
+    )?;
+    let mut wanted = Vec::from_slice(rt.alloc(), OPENING.as_bytes())?;
+    add_rows(&rt, &mut wanted, 13, 64, 240, 1)?;
+    add_rows(&rt, &mut wanted, 7, 21, 480, 65)?;
+    assert!(rt; writes(&rt, &script, &wanted)?);
+    Ok(())
+}
+
+#[test]
+fn too_small_a_zoom(rt: HostRuntime) -> Result<(), Fail> {
+    let text = format!(in rt.alloc();
+        "{OPENING}1 28\nerror: cmd=tile kind=badtile\n1 262243\ntile: part=0 width=256 height=256 tileposx=0 tileposy=0 tilewidth=3840 tileheight=3840 ver=0 wid=1\n"
+    )?;
+    let mut wanted = Vec::from_slice(rt.alloc(), text.as_bytes())?;
+    for _ in 0..65_536u32 {
+        wanted.extend_from_slice(&[0, 0, 0, 255])?;
+    }
+    wanted.extend_from_slice(b"\n1 35\nerror: cmd=clientzoom kind=toolarge\n")?;
+    let good = writes(
+        &rt,
+        "open 1 d rw\nsay 1 tile part=0 width=8 height=8 tileposx=7 tileposy=0 tilewidth=240 tileheight=240\nsay 1 clientvisiblearea x=0 y=0 width=3840 height=3840\nsay 1 clientzoom tilepixelwidth=1 tilepixelheight=1 tiletwipwidth=15 tiletwipheight=15\nturn 0 9\nend\n",
+        &wanted,
+    )?;
+    assert!(rt; good);
+    Ok(())
+}
+
+#[test]
+fn two_views_with_zooms_of_their_own(rt: HostRuntime) -> Result<(), Fail> {
+    let script = format!(in rt.alloc();
+        "open 1 d rw\nopen 2 d rw\nsay 1 {Z}\nsay 1 clientvisiblearea x=0 y=0 width=240 height=240\nsay 2 {WIDE}\nsay 2 clientvisiblearea x=0 y=0 width=480 height=480\nsettle\nsay 1 mouse type=buttondown x=10 y=10\nsettle\nend\n"
+    )?;
+    let mut wanted = Vec::from_slice(rt.alloc(), OPENING.as_bytes())?;
+    wanted.extend_from_slice(SECOND.as_bytes())?;
+    add_tile(&rt, &mut wanted, 1, (0, 0), 240, (0, 1), 0)?;
+    add_tile(&rt, &mut wanted, 2, (0, 0), 480, (0, 1), 0)?;
+    wanted.extend_from_slice(b"1 52\ninvalidatetiles: part=0 x=0 y=0 width=240 height=240\n")?;
+    wanted.extend_from_slice(b"2 52\ninvalidatetiles: part=0 x=0 y=0 width=240 height=240\n")?;
+    add_tile(&rt, &mut wanted, 1, (0, 0), 240, (1, 2), 8)?;
+    add_tile(&rt, &mut wanted, 2, (0, 0), 480, (1, 2), 4)?;
+    assert!(rt; writes(&rt, &script, &wanted)?);
     Ok(())
 }
 
@@ -120,9 +240,6 @@ fn count_of(bytes: &[u8], text: &str) -> usize {
     count
 }
 
-const Z: &str =
-    "clientzoom tilepixelwidth=8 tilepixelheight=8 tiletwipwidth=240 tiletwipheight=240";
-
 // What of these texts doesn't stand so often in the transcript of the script: nothing where all do.
 fn wrong(rt: &HostRuntime, script: &str, wanted: &[(&str, usize)]) -> Result<String, Fail> {
     let (status, bytes) = played(rt, script, 4_000_000)?;
@@ -136,129 +253,6 @@ fn wrong(rt: &HostRuntime, script: &str, wanted: &[(&str, usize)]) -> Result<Str
         }
     }
     Ok(String::new(rt.alloc()))
-}
-
-#[test]
-fn a_window_holds_tiles_back(rt: HostRuntime) -> Result<(), Fail> {
-    let alloc = rt.alloc();
-    let script = format!(in alloc;
-        "open 1 d rw\nsay 1 {Z}\nsay 1 clientvisiblearea x=0 y=0 width=3120 height=1200\nturn 0 200\nsay 1 tileprocessed wids=1\nturn 0 3\nend\n"
-    )?;
-    let bad = wrong(
-        &rt,
-        &script,
-        &[
-            ("\ntile: ", 65),
-            (
-                "tileposx=0 tileposy=960 tilewidth=240 tileheight=240 ver=0 wid=53\n",
-                1,
-            ),
-            (
-                "tileposx=2880 tileposy=960 tilewidth=240 tileheight=240 ver=0 wid=65\n",
-                1,
-            ),
-        ],
-    )?;
-    assert_eq!(rt; bad.as_str(), "");
-    let script = format!(in alloc;
-        "open 1 d rw\nsay 1 {Z}\nsay 1 clientvisiblearea x=0 y=0 width=3360 height=1200\nturn 0 200\nsay 1 tileprocessed wids=99,1,1\nturn 0 9\nend\n"
-    )?;
-    let bad = wrong(
-        &rt,
-        &script,
-        &[
-            ("\ntile: ", 65),
-            (
-                "tileposx=1920 tileposy=960 tilewidth=240 tileheight=240 ver=0 wid=65\n",
-                1,
-            ),
-        ],
-    )?;
-    assert_eq!(rt; bad.as_str(), "");
-    let mut wids = String::from_str(alloc, "1")?;
-    for wid in 2..22u32 {
-        let more = format!(in alloc; ",{wid}")?;
-        wids.push_str(&more)?;
-    }
-    let script = format!(in alloc;
-        "open 1 d rw\nsay 1 {Z}\nsay 1 clientvisiblearea x=0 y=0 width=3120 height=1200\nturn 0 200\nsay 1 clientzoom tilepixelwidth=8 tilepixelheight=8 tiletwipwidth=480 tiletwipheight=480\nturn 0 5\nsay 1 tileprocessed wids={wids}\nturn 0 60\nend\n"
-    )?;
-    let bad = wrong(
-        &rt,
-        &script,
-        &[
-            ("\ntile: ", 85),
-            ("tilewidth=480 tileheight=480 ver=0 wid=65\n", 1),
-            ("tilewidth=480 tileheight=480", 21),
-            ("wid=85\n", 1),
-        ],
-    )?;
-    assert_eq!(rt; bad.as_str(), "");
-    Ok(())
-}
-
-#[test]
-fn too_small_a_zoom(rt: HostRuntime) -> Result<(), Fail> {
-    let bad = wrong(
-        &rt,
-        "open 1 d rw\nsay 1 tile part=0 width=8 height=8 tileposx=7 tileposy=0 tilewidth=240 tileheight=240\nsay 1 clientvisiblearea x=0 y=0 width=3840 height=3840\nsay 1 clientzoom tilepixelwidth=1 tilepixelheight=1 tiletwipwidth=15 tiletwipheight=15\nturn 0 9\nend\n",
-        &[
-            ("1 28\nerror: cmd=tile kind=badtile\n", 1),
-            (
-                "\ntile: part=0 width=256 height=256 tileposx=0 tileposy=0 tilewidth=3840 tileheight=3840 ver=0 wid=1\n",
-                1,
-            ),
-            ("\ntile: ", 1),
-            ("error: cmd=clientzoom kind=toolarge\n", 1),
-        ],
-    )?;
-    assert_eq!(rt; bad.as_str(), "");
-    Ok(())
-}
-
-// The record of a tile at the origin.
-fn square(
-    rt: &HostRuntime,
-    link: u8,
-    side: u32,
-    version: u8,
-    wid: u8,
-    greys: u32,
-) -> Result<Vec<u8>, Fail> {
-    let head = format!(in rt.alloc();
-        "{link} 349\ntile: part=0 width=8 height=8 tileposx=0 tileposy=0 tilewidth={side} tileheight={side} ver={version} wid={wid}\n"
-    )?;
-    let mut bytes = Vec::from_slice(rt.alloc(), head.as_bytes())?;
-    for j in 0..8u32 {
-        for i in 0..8u32 {
-            let grey = if i < greys && j < greys { 1 } else { 0 };
-            bytes.extend_from_slice(&[grey, grey, grey, 255])?;
-        }
-    }
-    bytes.extend_from_slice(b"\n")?;
-    Ok(bytes)
-}
-
-#[test]
-fn two_views_with_zooms_of_their_own(rt: HostRuntime) -> Result<(), Fail> {
-    let alloc = rt.alloc();
-    let script = format!(in alloc;
-        "open 1 d rw\nopen 2 d rw\nsay 1 {Z}\nsay 1 clientvisiblearea x=0 y=0 width=240 height=240\nsay 2 clientzoom tilepixelwidth=8 tilepixelheight=8 tiletwipwidth=480 tiletwipheight=480\nsay 2 clientvisiblearea x=0 y=0 width=480 height=480\nsettle\n{CLICK}settle\nend\n"
-    )?;
-    let (status, bytes) = played(&rt, &script, 10_000)?;
-    let second =
-        "2 51\ncoolserver {\"Version\":\"profile-1\",\"Protocol\":\"0.1\"}\n2 79\nstatus: type=patch parts=1 current=0 width=3840 height=3840 viewid=1 readonly=0\n";
-    let mut wanted = Vec::from_slice(alloc, OPENING.as_bytes())?;
-    wanted.extend_from_slice(second.as_bytes())?;
-    wanted.extend_from_slice(&square(&rt, 1, 240, 0, 1, 0)?)?;
-    wanted.extend_from_slice(&square(&rt, 2, 480, 0, 1, 0)?)?;
-    wanted.extend_from_slice(b"1 52\ninvalidatetiles: part=0 x=0 y=0 width=240 height=240\n")?;
-    wanted.extend_from_slice(b"2 52\ninvalidatetiles: part=0 x=0 y=0 width=240 height=240\n")?;
-    wanted.extend_from_slice(&square(&rt, 1, 240, 1, 2, 8)?)?;
-    wanted.extend_from_slice(&square(&rt, 2, 480, 1, 2, 4)?)?;
-    assert_eq!(rt; status, 0);
-    assert!(rt; bytes.as_slice() == wanted.as_slice());
-    Ok(())
 }
 
 #[test]

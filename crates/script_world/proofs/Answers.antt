@@ -1,11 +1,13 @@
 -- Turns and answers, by what a broker answers.
 use Rattle.std.proofs.Common.{◌≡◌, ◌∙◌, ℕ, Bool, true, false, List, [], ◌∷◌, ◌++◌, length, Option, None, Some, IsSome, refl, sym, ap, subst, append_assoc, arith}
 use Rattle.std.specs.List.{flat_map}
+use Rattle.std.specs.Option.{ForSome}
 use Rattle.std.proofs.lemmas.List.{append-nil}
 use Rattle.broker_core.specs.Serving.{GoesTo}
 use Rattle.cool_base.specs.declared.ids.ViewId.{ViewId}
 use Rattle.cool_frame.specs.declared.frame.Frame.{Frame}
 use Rattle.document_machine.specs.Event.{Event, Painted}
+use Rattle.document_machine.specs.Next.{none_kept, IsFirst}
 use Rattle.document_machine.specs.Outputs.{nothing, joined}
 use Rattle.document_machine.specs.Run.{Segment}
 use Rattle.document_machine.specs.State.{Document}
@@ -88,14 +90,15 @@ turn_there rules paints (Some d) (Some e) turned goes = refl
 
 -- a turn that worked, with the answers to its jobs
 pub worked_by : {C B S : Type 0} (rules : Rules C B) (paints : S → Pixels) (seats : Seats) (old mid new : Option (Document S)) (outs : Outs S) (here later : List ℕ) (out : List ℕ)
-    → GoesTo rules paints old (Worked outs) mid → here ≡ records seats outs.frames → AnswersAll rules paints seats mid outs.jobs later new → out ≡ here ++ later
+    → GoesTo rules paints old (Worked outs) mid → ForSome old (λ d. d.applied ≡ length d.journal → IsFirst rules none_kept d (Worked outs))
+    → here ≡ records seats outs.frames → AnswersAll rules paints seats mid outs.jobs later new → out ≡ here ++ later
     → TurnsDocument rules paints seats old out true new
-worked_by rules paints seats None mid new outs here later out goes is answers all = absurd goes
-worked_by rules paints seats (Some d) None new outs here later out goes is answers all = absurd goes
-worked_by {C} {B} {S} rules paints seats (Some d) (Some e) new outs here later out goes is answers all = (
+worked_by rules paints seats None mid new outs here later out goes first is answers all = absurd goes
+worked_by rules paints seats (Some d) None new outs here later out goes first is answers all = absurd goes
+worked_by {C} {B} {S} rules paints seats (Some d) (Some e) new outs here later out goes first is answers all = (
   answers.0,
   outs.frames ++ answers.1.frames,
-  record { mid = e; first = outs; later = answers.1; works = goes; answered = answers.2; frames_are = refl },
+  record { mid = e; first = outs; later = answers.1; works = goes; in_order = first d refl; answered = answers.2; frames_are = refl },
   all ∙ ap (λ (o : List ℕ). o ++ later) is ∙ ap (λ (o : List ℕ). records seats outs.frames ++ o) answers.3 ∙ sym (records-append seats outs.frames answers.1.frames),
   answers.4,
 )

@@ -7,3 +7,4 @@ pub mod Housed
 pub mod Steps
 pub mod Rest
 pub mod Worlds
+pub mod Once

@@ -8,11 +8,13 @@ use Rattle.cool_message.specs.Writing.{written}
 use Rattle.cool_message.specs.declared.message.ClientMessage.TheVariants.{TileProcessed}
 use Rattle.document_laws.specs.Whole.{IsWhole}
 use Rattle.document_machine.specs.Event.{Event, Joined, Left, Said, Painted}
+use Rattle.document_machine.specs.Next.{none_kept, IsFirst}
 use Rattle.document_machine.specs.Outputs.{nothing}
 use Rattle.document_machine.specs.Run.{Segment}
 use Rattle.document_machine.specs.State.{View, Document, opening, find_view}
 use Rattle.document_machine.specs.Step.{Step, Works, Rests}
 use Rattle.document_machine.specs.declared.outs.Outs.{Outs}
+use Rattle.document_machine.specs.declared.outs.Turned.TheVariants.{Worked}
 use Rattle.document_machine.specs.declared.rights.Rights.{Rights}
 use Rattle.kit_trait.specs.Rules.{Rules}
 use Rattle.kit_trait.specs.declared.jobs.PaintJob.{PaintJob}
@@ -111,12 +113,14 @@ TakesFirst rules paints (event ∷ events) old out rest new = (rest ≡ events) 
 abbrev pub painted_all : {S : Type 0} → List (PaintJob S) → List (Event S)
 painted_all jobs = map (λ job. Painted job.ticket.0 job.scene) jobs
 
--- a turn that does a work, and directly behind it the answers to the jobs that it cut; these are all the frames
+-- A turn that does a work, and directly behind it the answers to the jobs that it cut; these are all the frames.
+-- Behind the last input the work is a job for the pair that is next, in order of views and then of keys.
 pub record WorksAtOnce {C B S : Type 0} (rules : Rules C B) (paints : S → Pixels) (old : Document S) (frames : List (ViewId × Frame)) (new : Document S) : Type 0 where
   pub mid : Document S
   pub first : Outs S
   pub later : Outs S
   pub works : Works rules paints old first mid
+  pub in_order : old.applied ≡ length old.journal → IsFirst rules none_kept old (Worked first)
   pub answered : Segment rules paints mid (painted_all first.jobs) later new
   pub frames_are : frames ≡ first.frames ++ later.frames
 

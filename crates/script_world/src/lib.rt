@@ -8,6 +8,7 @@
 mod acknowledging;
 mod event;
 mod joining;
+mod laws;
 mod lobby;
 mod moves;
 mod seats;
@@ -17,5 +18,6 @@ mod turning;
 mod world;
 
 pub use event::Waiting;
+pub use laws::{settling_has_one_record, turns_have_one_record};
 pub use seats::Seats;
 pub use world::World;
