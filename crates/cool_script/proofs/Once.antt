@@ -61,13 +61,13 @@ module _ {X : Type 0} (place : X → Place) (step : X → List ℕ → List ℕ 
 
   -- where the bytes stop, by the status
   shape_of : (status : Status) (at_end full : Type 0) (s : X) (number : ℕ) (rest tail : List ℕ) → status ≢ Memory → status ≢ WriteFault → Cause place step under status at_end full s number rest tail → Shape (place s) rest
-  shape_of Done at_end full s number rest tail no never cause =
+  shape_of Done at_end full s number rest tail ample taken cause =
       elim (cause.1.1) [
         | inl whole ↦ inl (cause.0, cause.1.0, whole, ends_stop (verdict (place s) cause.0) cause.2)
         | inr last ↦ inr (subst IsUnbroken (sym last.0) cause.1.0.unbroken)
       ]
-  shape_of WrongWords at_end full s number rest tail no never cause = absurd cause
-  shape_of FaultLine at_end full s number rest tail no never cause =
+  shape_of WrongWords at_end full s number rest tail ample taken cause = absurd cause
+  shape_of FaultLine at_end full s number rest tail ample taken cause =
       elim (cause.0) [
         | inl line ↦ elim (line.1.1) [
           | inl whole ↦ inl (line.0, line.1.0, whole, refused_stop (verdict (place s) line.0) line.2)
@@ -75,10 +75,10 @@ module _ {X : Type 0} (place : X → Place) (step : X → List ℕ → List ℕ 
         ]
         | inr long ↦ inr long.0
       ]
-  shape_of ReadFault at_end full s number rest tail no never cause = inr cause.0.unbroken
-  shape_of WriteFault at_end full s number rest tail no never cause = absurd (never refl)
-  shape_of Memory at_end full s number rest tail no never cause = absurd (no refl)
-  shape_of NoEnd at_end full s number rest tail no never cause =
+  shape_of ReadFault at_end full s number rest tail ample taken cause = inr cause.0.unbroken
+  shape_of WriteFault at_end full s number rest tail ample taken cause = absurd (taken refl)
+  shape_of Memory at_end full s number rest tail ample taken cause = absurd (ample refl)
+  shape_of NoEnd at_end full s number rest tail ample taken cause =
       elim cause [
         | inl none ↦ inr (subst IsUnbroken (sym none.0) tt)
         | inr other ↦ elim other [
@@ -108,13 +108,13 @@ module _ {X : Type 0} (place : X → Place) (step : X → List ℕ → List ℕ 
 
   tail_once : StepsOnce → (status : Status) (at_end end_too : Type 0) (size number : ℕ) (s : X) (rest tail other : List ℕ) → Good s → status ≢ Memory → status ≢ WriteFault → (at_end → size < budget) → (end_too → size < budget)
       → Cause place step under status at_end (size ≡ budget) s number rest tail → Cause place step under status end_too (size ≡ budget) s number rest other → tail ≡ other
-  tail_once once Done at_end end_too size number s rest tail other good no never small small_too a b = a.3 ∙ sym b.3
-  tail_once once WrongWords at_end end_too size number s rest tail other good no never small small_too a b = absurd a
-  tail_once once FaultLine at_end end_too size number s rest tail other good no never small small_too a b = a.1 ∙ sym b.1
-  tail_once once ReadFault at_end end_too size number s rest tail other good no never small small_too a b = a.1 ∙ sym b.1
-  tail_once once WriteFault at_end end_too size number s rest tail other good no never small small_too a b = absurd (never refl)
-  tail_once once Memory at_end end_too size number s rest tail other good no never small small_too a b = absurd (no refl)
-  tail_once once NoEnd at_end end_too size number s rest tail other good no never small small_too a b = unended_once once s size at_end end_too rest tail other good small small_too a b
+  tail_once once Done at_end end_too size number s rest tail other good ample taken small small_too a b = a.3 ∙ sym b.3
+  tail_once once WrongWords at_end end_too size number s rest tail other good ample taken small small_too a b = absurd a
+  tail_once once FaultLine at_end end_too size number s rest tail other good ample taken small small_too a b = a.1 ∙ sym b.1
+  tail_once once ReadFault at_end end_too size number s rest tail other good ample taken small small_too a b = a.1 ∙ sym b.1
+  tail_once once WriteFault at_end end_too size number s rest tail other good ample taken small small_too a b = absurd (taken refl)
+  tail_once once Memory at_end end_too size number s rest tail other good ample taken small small_too a b = absurd (ample refl)
+  tail_once once NoEnd at_end end_too size number s rest tail other good ample taken small small_too a b = unended_once once s size at_end end_too rest tail other good small small_too a b
 
   same_read : (left now a b : List ℕ) → Takes (Some left) a (Some now) → Takes (Some left) b (Some now) → a ≡ b
   same_read left now a b one other =
@@ -127,25 +127,25 @@ module _ {X : Type 0} (place : X → Place) (step : X → List ℕ → List ℕ 
       → (at_end → length bytes < budget) → (end_too → length more < budget)
       → bytes ≡ more → lines ≡ ms → s ≡ t → rest ≡ y
       → Cause place step under status at_end (length bytes ≡ budget) s (length lines + 1) rest tail → Cause place step under status end_too (length more ≡ budget) t (length ms + 1) y other → tail ≡ other
-  tail_by once status at_end end_too bytes more lines ms s t rest y tail other good no never small small_too same lines_are state_is rest_is a b =
+  tail_by once status at_end end_too bytes more lines ms s t rest y tail other good ample taken small small_too same lines_are state_is rest_is a b =
       let one : Cause place step under status end_too (length bytes ≡ budget) t (length ms + 1) y other = subst (λ (z : List ℕ). Cause place step under status end_too (length z ≡ budget) t (length ms + 1) y other) (sym same) b in
       let two : Cause place step under status end_too (length bytes ≡ budget) t (length lines + 1) y other = subst (λ (z : List (List ℕ)). Cause place step under status end_too (length bytes ≡ budget) t (length z + 1) y other) (sym lines_are) one in
       let three : Cause place step under status end_too (length bytes ≡ budget) s (length lines + 1) y other = subst (λ (z : X). Cause place step under status end_too (length bytes ≡ budget) z (length lines + 1) y other) (sym state_is) two in
       let four : Cause place step under status end_too (length bytes ≡ budget) s (length lines + 1) rest other = subst (λ (z : List ℕ). Cause place step under status end_too (length bytes ≡ budget) s (length lines + 1) z other) (sym rest_is) three in
-      tail_once once status at_end end_too (length bytes) (length lines + 1) s rest tail other good no never small (λ e. subst (λ (z : List ℕ). length z < budget) (sym same) (small_too e)) a four
+      tail_once once status at_end end_too (length bytes) (length lines + 1) s rest tail other good ample taken small (λ e. subst (λ (z : List ℕ). length z < budget) (sym same) (small_too e)) a four
 
   -- two readings of one told source that end alike write the same
   pub ends_once : Follows place step → StepsOnce → StaysGood → (start : X) → Good start → (left now : List ℕ) (sink one_now other_now : Option (List ℕ)) (status : Status) → status ≢ Memory → status ≢ WriteFault
       → Ended place step under start (Some left) (Some now) sink one_now status → Ended place step under start (Some left) (Some now) sink other_now status → one_now ≡ other_now
-  ends_once follows once stays start good left now sink one_now other_now status no never a b =
+  ends_once follows once stays start good left now sink one_now other_now status ample taken a b =
       let bytes : joined a.lines ++ a.rest ≡ joined b.lines ++ b.rest = same_read left now (joined a.lines ++ a.rest) (joined b.lines ++ b.rest) a.taken b.taken in
       let split = same_rest (place start) a.lines b.lines a.rest b.rest (place a.state) (place b.state) a.each b.each
       (run_place place step follows start a.lines a.written a.state a.runs) (run_place place step follows start b.lines b.written b.state b.runs)
-      (shape_of status _ _ a.state (length a.lines + 1) a.rest a.tail no never a.cause) (shape_of status _ _ b.state (length b.lines + 1) b.rest b.tail no never b.cause) bytes in
+      (shape_of status _ _ a.state (length a.lines + 1) a.rest a.tail ample taken a.cause) (shape_of status _ _ b.state (length b.lines + 1) b.rest b.tail ample taken b.cause) bytes in
       let runs : Runs step start a.lines b.written b.state = subst (λ (ls : List (List ℕ)). Runs step start ls b.written b.state) (sym split.0) b.runs in
       let wrote = runs_once once stays start a.lines a.written b.written a.state b.state good a.runs runs in
       let tails : a.tail ≡ b.tail = tail_by once status (IsAtEnd (Some now) × (length (joined a.lines ++ a.rest) < budget)) (IsAtEnd (Some now) × (length (joined b.lines ++ b.rest) < budget))
-      (joined a.lines ++ a.rest) (joined b.lines ++ b.rest) a.lines b.lines a.state b.state a.rest b.rest a.tail b.tail (runs_good stays start a.lines a.written a.state good a.runs) no never
+      (joined a.lines ++ a.rest) (joined b.lines ++ b.rest) a.lines b.lines a.state b.state a.rest b.rest a.tail b.tail (runs_good stays start a.lines a.written a.state good a.runs) ample taken
       (λ e. e.1) (λ e. e.1) bytes split.0 wrote.1 split.1 a.cause b.cause in
       a.added ∙ ap (λ (o : List ℕ). option_map (λ (was : List ℕ). was ++ (o ++ a.tail)) sink) wrote.0 ∙ ap (λ (o : List ℕ). option_map (λ (was : List ℕ). was ++ (b.written ++ o)) sink) tails ∙ sym b.added
 
@@ -214,5 +214,5 @@ module _ {C B S : Type 0} (rules : Rules C B) (paints : S → Pixels) where
       → Ended (λ (s : Standing S). s.place) (Acting rules paints) (UnderWay rules paints) first (Some left) (Some now) sink one_now status
       → Ended (λ (s : Standing S). s.place) (Acting rules paints) (UnderWay rules paints) first (Some left) (Some now) sink other_now status
       → one_now ≡ other_now
-  transcript_once turns turns_keep settles settles_keep left now sink one_now other_now status no never a b =
-      ends_once (λ (s : Standing S). s.place) (Acting rules paints) (UnderWay rules paints) IsGood (acting_follows rules paints) (acting_once turns settles) (acting_good turns_keep settles_keep) first tt left now sink one_now other_now status no never a b
+  transcript_once turns turns_keep settles settles_keep left now sink one_now other_now status ample taken a b =
+      ends_once (λ (s : Standing S). s.place) (Acting rules paints) (UnderWay rules paints) IsGood (acting_follows rules paints) (acting_once turns settles) (acting_good turns_keep settles_keep) first tt left now sink one_now other_now status ample taken a b

@@ -88,10 +88,10 @@ module _ {C B S : Type 0} (rules : Rules C B) (paints : S → Pixels) where
       let rest : run.2.frames ≡ [] = ap (λ (o : Outs S). o.frames) run.4.0 in
       let tiles : run.1.frames ≡ tiles_for rules old job.number job.keys old.views = ap (λ (o : Outs S). o.frames) done.0 in (
         ap (λ (xs : List (ViewId × Frame)). xs ++ later.frames) first ∙ more ∙ ap (λ (xs : List (ViewId × Frame)). run.1.frames ++ xs) rest ∙ append-nil run.1.frames ∙ tiles
-        ∙ ap (λ (n : ℕ). tiles_for rules old n job.keys old.views) cuts.number_is ∙ ap (λ (ks : List Place). tiles_for rules old old.applied ks old.views) keys,
+            ∙ ap (λ (n : ℕ). tiles_for rules old n job.keys old.views) cuts.number_is ∙ ap (λ (ks : List Place). tiles_for rules old old.applied ks old.views) keys,
         run.4.1 ∙ done.1
-        ∙ ap (λ (n : ℕ). record old { views = views_offered rules old n job.keys old.views; jobs = []; next_ticket = old.next_ticket + 1 }) cuts.number_is
-        ∙ ap (λ (ks : List Place). record old { views = views_offered rules old old.applied ks old.views; jobs = []; next_ticket = old.next_ticket + 1 }) keys,
+            ∙ ap (λ (n : ℕ). record old { views = views_offered rules old n job.keys old.views; jobs = []; next_ticket = old.next_ticket + 1 }) cuts.number_is
+            ∙ ap (λ (ks : List Place). record old { views = views_offered rules old old.applied ks old.views; jobs = []; next_ticket = old.next_ticket + 1 }) keys,
       )
 
   no_group : (key : Place) (jobs : List (PaintJob S)) → jobs ≡ [] → map (λ job. job.group) jobs ≡ (key ∷ []) ∷ [] → ⊥
@@ -105,9 +105,12 @@ module _ {C B S : Type 0} (rules : Rules C B) (paints : S → Pixels) where
             let run = subst (λ (o : Outs S). Segment rules paints work.mid (painted_all o.jobs) work.later new) applies.outs_are work.answered in
             let first : work.first.frames ≡ hurt_now old applies.input = ap (λ (o : Outs S). o.frames) applies.outs_are in
             let rest : work.later.frames ≡ [] = ap (λ (o : Outs S). o.frames) run.0 in
-            inl (applies.input, applies.behind,
+            inl (
+              applies.input,
+              applies.behind,
               work.frames_are ∙ ap (λ (xs : List (ViewId × Frame)). xs ++ work.later.frames) first ∙ ap (λ (xs : List (ViewId × Frame)). hurt_now old applies.input ++ xs) rest ∙ append-nil (hurt_now old applies.input),
-              run.1 ∙ applies.new_is)
+              run.1 ∙ applies.new_is,
+            )
         | inr other ↦ elim other [
           | inl sends ↦
               let first = work.in_order sends.level in
