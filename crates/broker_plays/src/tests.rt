@@ -80,27 +80,145 @@ fn what_is_refused(rt: HostRuntime) -> Result<(), Fail> {
     let text = played(
         rt.alloc(),
         "join w
+join r
 hush
+say 0 
 say 0 frob x=1
+say 0 key type=input
 say 0 save
+say 1 save
+say 0 uno .uno:Save
 say 0 load url=http://localhost/wopi/files/a
-say 0 key type=up char=97 key=0
+say 1 mouse type=buttondown x=10 y=10
+say 1 key type=input char=97 key=0
+say 1 key type=up char=97 key=0
+say 1 mouse type=buttonup x=10 y=10
+say 1 mouse type=move x=10 y=10
+say 0 key type=input char=97 key=0
+say 0 tile part=0 width=8 height=8 tileposx=0 tileposy=0 tilewidth=240 tileheight=240
+say 0 tile part=0 width=8 height=8 tileposx=7 tileposy=0 tilewidth=240 tileheight=240
+say 0 tile part=1 width=8 height=8 tileposx=0 tileposy=0 tilewidth=240 tileheight=240
 say 0 tilecombine part=0 width=8 height=8 tileposx=0,7 tileposy=0,0 tilewidth=240 tileheight=240
 say 0 setclientpart part=1
-say 0 clientvisiblearea x=0 y=0 width=3840 height=3840
-say 0 clientzoom tilepixelwidth=256 tilepixelheight=256 tiletwipwidth=239 tiletwipheight=240
-say 0 clientzoom tilepixelwidth=256 tilepixelheight=256 tiletwipwidth=240 tiletwipheight=240
-say 0 setclientpart part=0
+say 0 canceltiles
+say 0 tileprocessed wids=99,1,1
+say 0 coolclient
 tell
 ",
     )?;
-    let wanted = "0: error: cmd=frob kind=badmessage
+    let wanted = "0: error: cmd=unknown kind=badmessage
+0: error: cmd=frob kind=badmessage
+0: error: cmd=key kind=badmessage
 0: error: cmd=save kind=badmessage
+1: error: cmd=save kind=badmessage
+0: error: cmd=uno kind=badmessage
 0: error: cmd=load kind=alreadyloaded
+1: error: cmd=mouse kind=readonly
+1: error: cmd=key kind=readonly
+0: error: cmd=tile kind=badtile
+0: error: cmd=tile kind=badtile
 0: error: cmd=tilecombine kind=badtile
 0: error: cmd=setclientpart kind=badtile
+0: coolserver {\"Version\":\"profile-1\",\"Protocol\":\"0.1\"}
+0 of 1 applied, quiet false
+";
+    assert_eq!(rt; text.as_str(), wanted);
+    Ok(())
+}
+
+#[test]
+fn too_much_to_see(rt: HostRuntime) -> Result<(), Fail> {
+    let text = played(
+        rt.alloc(),
+        "join w
+hush
+say 0 clientzoom tilepixelwidth=0 tilepixelheight=1 tiletwipwidth=15 tiletwipheight=15
+say 0 clientvisiblearea x=0 y=0 width=3840 height=3840
+say 0 clientzoom tilepixelwidth=1 tilepixelheight=1 tiletwipwidth=15 tiletwipheight=15
+say 0 clientzoom tilepixelwidth=256 tilepixelheight=256 tiletwipwidth=239 tiletwipheight=240
+say 0 clientzoom tilepixelwidth=256 tilepixelheight=256 tiletwipwidth=240 tiletwipheight=240
+say 0 setclientpart part=0
+say 0 clientvisiblearea x=0 y=0 width=1 height=1
+say 0 clientzoom tilepixelwidth=1 tilepixelheight=1 tiletwipwidth=15 tiletwipheight=15
+say 0 clientvisiblearea x=0 y=0 width=3840 height=3840
+tell
+",
+    )?;
+    let wanted = "0: error: cmd=clientzoom kind=badtile
 0: error: cmd=clientzoom kind=toolarge
+0: error: cmd=clientzoom kind=toolarge
+0: error: cmd=clientvisiblearea kind=toolarge
 0 of 0 applied, quiet false
+";
+    assert_eq!(rt; text.as_str(), wanted);
+    Ok(())
+}
+
+#[test]
+fn tiles_are_acknowledged(rt: HostRuntime) -> Result<(), Fail> {
+    let text = played(
+        rt.alloc(),
+        "join w
+join r
+say 0 tile part=0 width=8 height=8 tileposx=0 tileposy=0 tilewidth=240 tileheight=240
+serve 1
+say 0 tile part=0 width=8 height=8 tileposx=0 tileposy=0 tilewidth=240 tileheight=240
+say 1 tile part=0 width=8 height=8 tileposx=0 tileposy=0 tilewidth=240 tileheight=240
+serve 1
+hush
+say 0 tileprocessed wids=99
+window 0
+window 1
+say 0 tileprocessed wids=99,1,1
+say 1 tileprocessed wids=2
+window 0
+window 1
+say 1 tileprocessed wids=1
+say 0 tileprocessed wids=2,1
+window 0
+window 1
+tell
+",
+    )?;
+    let wanted = "1 2 open
+1 open
+2 open
+1 open
+open
+open
+0 of 0 applied, quiet true
+";
+    assert_eq!(rt; text.as_str(), wanted);
+    Ok(())
+}
+
+#[test]
+fn an_area_is_forgotten_with_its_view(rt: HostRuntime) -> Result<(), Fail> {
+    let text = played(
+        rt.alloc(),
+        "join w
+join w
+hush
+say 0 clientvisiblearea x=0 y=0 width=10 height=10
+say 1 clientvisiblearea x=0 y=0 width=10 height=10
+leave 0
+serve 1
+turn
+say 1 mouse type=buttondown x=10 y=10
+turn
+serve 1
+turn
+window 1
+",
+    )?;
+    let wanted = "job 1 of 1 key, number=0
+1: 256 at 0,0 ver=0 wid=1 shade=0
+idle
+1: invalidatetiles: part=0 x=0 y=0 width=240 height=240
+job 2 of 1 key, number=1
+1: 256 at 0,0 ver=1 wid=2 shade=1
+idle
+1 2 open
 ";
     assert_eq!(rt; text.as_str(), wanted);
     Ok(())
