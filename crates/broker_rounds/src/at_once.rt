@@ -51,6 +51,38 @@ fn answered<K: Kit>(
     Ok(sent)
 }
 
+/// A view joins: its frame.
+fn joined<K: Kit>(
+    alloc: Global,
+    broker: &mut Broker<K>,
+    can_write: bool,
+    token: Token,
+) -> Result<Frames, Fail>
+    requires { IsFree broker.old }
+    ensures { OnOk result (IsFree broker.new) }
+{
+    let (_view, outs) = broker.join(alloc, Rights { can_write, token })?;
+    Ok(outs.frames)
+}
+
+/// A turn, its jobs painted and answered: its own frames, and those of each answer. None where it is Idle.
+fn turned<K: Kit>(
+    alloc: Global,
+    broker: &mut Broker<K>,
+) -> Result<Option<(Frames, Vec<Frames>)>, Fail>
+    requires { IsFree broker.old }
+    ensures { OnOk result (IsFree broker.new) }
+{
+    match broker.turn(alloc)? {
+        Turned::Worked(outs) => {
+            let Outs { frames, jobs } = outs;
+            let sent = answered(alloc, broker, jobs.into_inner())?;
+            Ok(Some((frames, sent)))
+        }
+        Turned::Idle => Ok(None),
+    }
+}
+
 impl<K: Kit> AtOnce<K> {
     /// The document of this file.
     pub(crate) fn start(alloc: Global, file: &[u8]) -> Result<AtOnce<K>, Fail> {
@@ -66,9 +98,9 @@ impl<K: Kit> AtOnce<K> {
     pub(crate) fn joins(&mut self, alloc: Global, can_write: bool) -> Result<Frames, Fail> {
         let token = Token::read(alloc, "t")?.ok_or("a token")?;
         let mut broker = self.broker.take().ok_or("a broker")?;
-        let (_view, outs) = broker.join(alloc, Rights { can_write, token })?;
+        let frames = joined(alloc, &mut broker, can_write, token)?;
         self.broker = Some(broker);
-        Ok(outs.frames)
+        Ok(frames)
     }
 
     /// The view leaves, if it is there.
@@ -102,18 +134,9 @@ impl<K: Kit> AtOnce<K> {
     /// None where it is Idle.
     pub(crate) fn turns(&mut self, alloc: Global) -> Result<Option<(Frames, Vec<Frames>)>, Fail> {
         let mut broker = self.broker.take().ok_or("a broker")?;
-        match broker.turn(alloc)? {
-            Turned::Worked(outs) => {
-                let Outs { frames, jobs } = outs;
-                let sent = answered(alloc, &mut broker, jobs.into_inner())?;
-                self.broker = Some(broker);
-                Ok(Some((frames, sent)))
-            }
-            Turned::Idle => {
-                self.broker = Some(broker);
-                Ok(None)
-            }
-        }
+        let done = turned(alloc, &mut broker)?;
+        self.broker = Some(broker);
+        Ok(done)
     }
 
     /// The numbers of the tiles that the view has not acknowledged; none where there is no such view.

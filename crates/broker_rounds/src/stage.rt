@@ -1,16 +1,12 @@
-//! `Stage`: a sheet document with its views, as a daemon and its browsers would see them.
+//! `Stage`: a document with its views, as a daemon and its browsers see it.
 use crate::at_once::{AtOnce, Frames};
 use bytes::Bytes;
 use cool_base::{Rect, ViewId};
 use cool_frame::{Frame, write_frame};
 use kit_trait::{Input, Kit, Scene, What};
-use sheet_kit::SheetKit;
 use std::alloc::Global;
 use std::test::Fail;
 use tile_key::{Area, TileKey, Zoom, visible};
-
-/// Three parts: 5 and 6 below one another, 3 and 7 side by side, a letter.
-const BOOK: &str = "coolsheet 1\nparts 3\n0 A1 5\n0 A2 =A1+1\n1 A1 =1+2\n1 B1 7\n2 A1 x\n";
 
 /// What is done to the document.
 #[derive(Clone, Copy)]
@@ -55,11 +51,12 @@ struct Tile {
     pixels: Bytes,
 }
 
-/// A document with its views, the inputs that it accepts, the last tiles of each view, and in lines all that
+/// A document with its file, its views, the inputs that it accepts, the last tiles of each view, and in lines all that
 /// it gave out.
 #[derive(Drop)]
-struct Stage {
-    document: AtOnce<SheetKit>,
+struct Stage<K: Kit> {
+    document: AtOnce<K>,
+    file: Bytes,
     views: Vec<Stand>,
     inputs: Vec<Input>,
     tiles: Vec<Tile>,
@@ -168,10 +165,11 @@ fn letter(pixel: &[u8]) -> u8 {
     }
 }
 
-impl Stage {
-    fn new(alloc: Global) -> Result<Stage, Fail> {
+impl<K: Kit> Stage<K> {
+    fn new(alloc: Global, file: &[u8]) -> Result<Stage<K>, Fail> {
         Ok(Stage {
-            document: AtOnce::start(alloc, BOOK.as_bytes())?,
+            document: AtOnce::start(alloc, file)?,
+            file: Bytes::copy_from_slice(alloc, file)?,
             views: Vec::new(alloc),
             inputs: Vec::new(alloc),
             tiles: Vec::new(alloc),
@@ -376,7 +374,7 @@ impl Stage {
         if !self.document.is_quiet() {
             return Err(Fail::from("the document is not quiet"));
         }
-        let mut kit: SheetKit = afresh(alloc, BOOK.as_bytes(), self.inputs.as_slice())?;
+        let mut kit: K = afresh(alloc, self.file.as_slice(), self.inputs.as_slice())?;
         let mut count = 0usize;
         for view in &self.views {
             count = count.wrapping_add(compared(alloc, &mut kit, view, self.tiles.as_slice())?);
@@ -446,14 +444,15 @@ fn line_of_tile(
     )?)
 }
 
-/// All that the document gives out while this is done.
-pub(crate) fn played(alloc: Global, acts: &[Act]) -> Result<Vec<u8>, Fail> {
-    let mut stage = Stage::new(alloc)?;
+/// All that the document of the file gives out while this is done.
+pub(crate) fn played<K: Kit>(alloc: Global, file: &[u8], acts: &[Act]) -> Result<Vec<u8>, Fail> {
+    let mut stage: Stage<K> = Stage::new(alloc, file)?;
     for act in acts {
         stage.act(alloc, *act)?;
     }
     let Stage {
         document: _,
+        file: _,
         views: _,
         inputs: _,
         tiles: _,
