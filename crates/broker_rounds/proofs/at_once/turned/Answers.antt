@@ -1,0 +1,6 @@
+use Rattle.broker_rounds.proofs.Free.{worked_out}
+use Rattle.broker_rounds.proofs.at_once.turned.Goals as goal
+
+pub answered-requires : goal.answered-requires
+answered-requires g c =
+    worked_out g.K.Kit.rules g.K.Scene.Scene.paints c.args.broker.now _ c.in-Worked.outs c.into_inner.result.items c.turn.new.self c.in_ok-outs.ensures.turn c.in-Worked.is c.into_inner.ensures c.requires
