@@ -27,7 +27,8 @@ impl<K: Kit> Broker<K> {
     }
 
     /// One turn: the next input is applied, or else a job is cut for the first key, in order of views and
-    /// then of keys, that a view with room is due. Idle exactly where there is nothing to do.
+    /// then of keys, that a view with room is due. Idle exactly where there is nothing to do. No job may be out, as
+    /// `is_free` tells. After `Memory` the broker is spent.
     pub fn turn(&mut self, alloc: Global) -> Result<Turned<K::Scene>, Memory>
         requires { ForSome self.old (λ d. d.jobs ≡ []) }
         ensures turn { IfOk result (λ turned. GoesTo K.rules K.Scene.paints self.old turned self.new) }
@@ -43,7 +44,8 @@ impl<K: Kit> Broker<K> {
     }
 
     /// A painted job comes back. Where its ticket is out and its scene is the one kept for it, the job goes
-    /// and each view, in order of ids, gets the tile if it is due and has room; else nothing changes.
+    /// and each view, in order of ids, gets the tile if it is due and has room; else nothing changes. After
+    /// `Memory` the broker is spent.
     pub fn painted(
         &mut self,
         alloc: Global,

@@ -88,7 +88,8 @@ impl<K: Kit> Broker<K> {
         }
     }
 
-    /// The view says a text: its one effect, and the frame of a greeting or of a refusal.
+    /// The view says a text: its one effect, and the frame of a greeting or of a refusal. After `Memory` the
+    /// broker is spent.
     pub fn message(
         &mut self,
         alloc: Global,
