@@ -1,26 +1,25 @@
 -- A document once a view joined or left.
-use Rattle.std.proofs.Common.{◌≡◌, ◌∙◌, ℕ, ◌<◌, ◌≤◌, ◌+◌, Bool, true, false, not, List, [], ◌∷◌, ◌++◌, length, length-append, map, get_or, refl, sym, ap, subst, arith, nat_eq}
+use Rattle.std.proofs.Common.{◌≡◌, ◌∙◌, ℕ, ◌<◌, ◌+◌, true, not, List, [], ◌∷◌, ◌++◌, length, length-append, get_or, refl, sym, ap, subst, arith}
 use Rattle.std.specs.Prelude.{nat_lt, remove}
-use Rattle.std.specs.List.{AllByRecursion}
 use Rattle.std.proofs.lemmas.List.{length-map, map-append}
 use Rattle.std.proofs.lemmas.Bool.Decides.{nat_tests}
 use Rattle.cool_base.specs.Points.{Extent}
 use Rattle.cool_base.specs.declared.ids.ViewId.{ViewId}
 use Rattle.cool_frame.specs.declared.frame.Frame.{Frame}
 use Rattle.cool_frame.specs.declared.frame.Frame.TheVariants.{Status}
-use Rattle.kit_trait.specs.Rules.{Rules, doc, shown}
+use Rattle.kit_trait.specs.Rules.{Rules}
 use Rattle.kit_trait.specs.declared.values.Input.{Input}
 use Rattle.kit_trait.specs.declared.values.Pixels.{Pixels}
-use Rattle.document_machine.specs.Due.{parts_of, size_of, touched}
+use Rattle.document_machine.specs.Due.{parts_of}
 use Rattle.document_machine.specs.Outputs.{named, nothing, frames_only, one_frame}
-use Rattle.document_machine.specs.State.{View, Job, Document, opening_view, without_view}
+use Rattle.document_machine.specs.State.{View, Job, Document, opening_view}
 use Rattle.document_machine.specs.Step.{Joins, JoinsWhere, Leaves, status}
 use Rattle.document_machine.specs.declared.outs.Outs.{Outs}
 use Rattle.document_machine.specs.declared.rights.Rights.{Rights}
 use Rattle.document_machine.proofs.Lists.{all_push}
 use Rattle.view_session.specs.Keeps.{IsViewing}
 use Rattle.view_session.specs.Viewing.{Viewing, opening}
-use Rattle.broker_core.specs.Held.{Seat, view_of, views_of, IsSeated, IsOut, Holds}
+use Rattle.broker_core.specs.Held.{Seat, view_of, views_of, IsSeated, Holds}
 use Rattle.broker_core.specs.Places.{IsPlace}
 use Rattle.broker_core.proofs.HeardBy.{document_of}
 use Rattle.broker_core.proofs.SeatLists.{all_weaker, all_remove, pairs_push, pairs_remove, length-remove_one}

@@ -1,13 +1,13 @@
 -- The machine's view of a seat changes as the seat does.
-use Rattle.std.proofs.Common.{◌≡◌, ℕ, Bool, true, false, cond, List, [], ◌∷◌, map, filter, refl, sym, ap, ◌∙◌, subst}
-use Rattle.cool_base.specs.Points.{Rectangle, Extent}
+use Rattle.std.proofs.Common.{◌≡◌, ℕ, Bool, true, false, cond, List, [], ◌∷◌, map, filter, refl, sym, ap, ◌∙◌}
+use Rattle.cool_base.specs.Points.{Rectangle}
 use Rattle.kit_trait.specs.Rules.{Rules}
 use Rattle.tile_key.specs.Places.{Place, Scale}
 use Rattle.tile_key.specs.Visible.{visible_keys}
-use Rattle.document_machine.specs.Due.{size_of, visible, sees_or_asks}
-use Rattle.document_machine.specs.Message.{looks as looks_at, zooms as zooms_to, goes_to as goes, cancels as cancels_all, forgets as forgets_all}
-use Rattle.document_machine.specs.State.{View, Shown, Document}
-use Rattle.view_session.specs.Viewing.{Viewing, Entry, looks, zooms, goes_to, cancels, forgets, wants}
+use Rattle.document_machine.specs.Due.{size_of, visible}
+use Rattle.document_machine.specs.Message.{looks as looks_at, zooms as zooms_to, goes_to as goes, cancels as cancels_all}
+use Rattle.document_machine.specs.State.{Shown, Document}
+use Rattle.view_session.specs.Viewing.{Viewing, Entry, looks, zooms, goes_to, cancels, wants}
 use Rattle.broker_core.specs.Held.{Seat, shown_of, view_of}
 
 -- a screen that forgets keys, without the marks

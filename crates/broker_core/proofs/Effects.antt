@@ -15,10 +15,10 @@ use Rattle.cool_message.specs.declared.message.KeyKind.TheVariants.{Input as Dow
 use Rattle.cool_message.specs.declared.message.MouseKind.{MouseKind}
 use Rattle.cool_message.specs.declared.message.MouseKind.TheVariants.{ButtonDown, ButtonUp, Move}
 use Rattle.kit_trait.specs.declared.values.What.{What}
-use Rattle.tile_key.specs.Places.{Place, Scale, is_key, is_zoom, zoom_of}
+use Rattle.tile_key.specs.Places.{Place, Scale, is_key, zoom_of}
 use Rattle.tile_key.specs.Visible.{visible_keys, is_too_large}
 use Rattle.document_machine.specs.Keys.{is_among}
-use Rattle.document_machine.specs.Message.{Effect, Refuses, Greets, Inputs, Asks, Cancels, Looks, Zooms, GoesTo, Acknowledges, Passes, asked_with, asked_with_all, input_effect, key_effect, mouse_effect, asking_effect, seeing_effect, zooming_effect, going_effect, message_effect, reading_effect, effect_of}
+use Rattle.document_machine.specs.Message.{Effect, Refuses, Inputs, Asks, Looks, Zooms, GoesTo, asked_with, asked_with_all, input_effect, key_effect, mouse_effect, asking_effect, seeing_effect, zooming_effect, going_effect, message_effect, reading_effect, effect_of}
 use Rattle.document_machine.specs.State.{View}
 use Rattle.document_machine.proofs.Lists.{all_push}
 use Rattle.broker_core.proofs.Within.{Within}

@@ -1,6 +1,5 @@
 -- What a broker keeps holds of its document.
-use Rattle.std.proofs.Common.{◌≡◌, ◌∙◌, ◌≢◌, ℕ, ◌<◌, ◌≤◌, Bool, true, false, ◌||◌, List, [], ◌∷◌, length, map, refl, sym, ap, subst, arith}
-use Rattle.std.specs.List.{AllByRecursion}
+use Rattle.std.proofs.Common.{◌≡◌, ◌∙◌, ℕ, ◌<◌, ◌≤◌, true, ◌||◌, List, length, sym, ap}
 use Rattle.std.proofs.lemmas.List.{length-map}
 use Rattle.kit_trait.specs.Rules.{Rules}
 use Rattle.kit_trait.specs.declared.values.Input.{Input}
@@ -8,11 +7,11 @@ use Rattle.kit_trait.specs.declared.values.Pixels.{Pixels}
 use Rattle.tile_key.specs.Places.{Place, IsKey}
 use Rattle.tile_key.specs.Visible.{IsBefore, is_too_large}
 use Rattle.document_machine.specs.Due.{parts_of, sees_or_asks, visible}
-use Rattle.document_machine.specs.Keys.{is_among, Pairwise}
+use Rattle.document_machine.specs.Keys.{is_among}
 use Rattle.document_machine.specs.Kept.{IsViewKept, IsKept}
 use Rattle.document_machine.specs.State.{View, Job, Document, Shown}
 use Rattle.view_session.specs.Viewing.{Viewing, Entry, wants}
-use Rattle.broker_core.specs.Held.{Seat, view_of, views_of, shown_of, IsSeated, Holds}
+use Rattle.broker_core.specs.Held.{Seat, view_of, shown_of, IsSeated, Holds}
 use Rattle.broker_core.proofs.HeardBy.{document_of}
 use Rattle.broker_core.proofs.SeatLists.{all_weaker, all_both, all_map, pairs_map}
 

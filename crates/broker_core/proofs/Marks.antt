@@ -1,17 +1,15 @@
 -- What an applied input makes of the marks.
-use Rattle.std.proofs.Common.{◌≡◌, ℕ, zero, suc, ◌+◌, ◌<◌, ◌≤◌, Bool, true, false, ◌&&◌, ◌||◌, List, [], ◌∷◌, ◌++◌, length, map, get_or, Option, Some, None, refl, sym, ap, subst, ◌∙◌, arith, rules, add-one, nat_eq}
+use Rattle.std.proofs.Common.{◌≡◌, ℕ, suc, ◌+◌, ◌<◌, ◌≤◌, Bool, true, false, ◌||◌, List, [], ◌∷◌, length, map, Some, refl, sym, ap, subst, ◌∙◌, arith, rules, add-one}
 use Rattle.std.specs.Prelude.{nat_le, slice_get}
-use Rattle.std.specs.List.{list_any, AllByRecursion}
+use Rattle.std.specs.List.{AllByRecursion}
 use Rattle.std.proofs.lemmas.Bool.Decides.{nat_tests}
-use Rattle.cool_base.specs.Points.{do_meet}
 use Rattle.kit_trait.specs.Rules.{Rules, doc}
 use Rattle.kit_trait.specs.declared.values.Damage.{Damage}
 use Rattle.kit_trait.specs.declared.values.Input.{Input}
-use Rattle.tile_key.specs.Places.{Place, rect_of_place}
+use Rattle.tile_key.specs.Places.{Place}
 use Rattle.tile_key.specs.Visible.{IsBefore}
-use Rattle.document_machine.specs.Due.{touched, damage_of, damages, is_hurt, parts_of, size_of}
+use Rattle.document_machine.specs.Due.{touched, damage_of, damages, is_hurt}
 use Rattle.document_machine.specs.Keys.{Pairwise}
-use Rattle.document_machine.proofs.Present.{untouched}
 use Rattle.view_session.specs.Keeps.{IsViewing}
 use Rattle.view_session.specs.Viewing.{Viewing, Entry, damaged, hit, wants}
 use Rattle.broker_core.specs.Held.{Seat, shown_of, view_of, views_of, IsSeated}

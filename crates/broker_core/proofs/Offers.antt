@@ -1,7 +1,6 @@
 -- A painted tile, offered to every view.
-use Rattle.std.proofs.Common.{◌≡◌, ◌≢◌, ℕ, zero, suc, ◌+◌, ◌<◌, ◌≤◌, Bool, true, false, not, ◌&&◌, ◌||◌, cond, List, [], ◌∷◌, ◌++◌, length, map, filter, take, drop, get_or, Option, Some, None, refl, sym, ap, subst, ◌∙◌, inl, inr, arith, rules, nat_eq, append-nil}
-use Rattle.std.specs.Prelude.{nat_lt, ◌⊎◌}
-use Rattle.std.specs.List.{list_any, flat_map, AllByRecursion}
+use Rattle.std.proofs.Common.{◌≡◌, ℕ, zero, suc, ◌+◌, ◌<◌, ◌≤◌, Bool, true, false, not, ◌||◌, cond, List, [], ◌∷◌, ◌++◌, length, map, filter, take, drop, get_or, Option, Some, None, refl, sym, ap, subst, ◌∙◌, inl, inr, arith, rules, nat_eq, append-nil}
+use Rattle.std.specs.List.{flat_map, AllByRecursion}
 use Rattle.std.specs.Ordering.{is_lt}
 use Rattle.std.proofs.lemmas.List.{take_more, map_more, flat_map_more}
 use Rattle.cool_base.specs.declared.ids.ViewId.{ViewId}
@@ -9,22 +8,22 @@ use Rattle.cool_frame.specs.declared.frame.Frame.{Frame}
 use Rattle.kit_trait.specs.Rules.{Rules, doc, shown}
 use Rattle.kit_trait.specs.declared.values.Input.{Input}
 use Rattle.kit_trait.specs.declared.values.Pixels.{Pixels}
-use Rattle.tile_key.specs.Places.{Place, key_order, same_place, place_of_keys}
+use Rattle.tile_key.specs.Places.{Place, key_order, same_place}
 use Rattle.document_machine.specs.Due.{parts_of, size_of, touched, is_current, asked_after}
 use Rattle.document_machine.specs.Due as due
 use Rattle.document_machine.specs.Keys.{is_among, Pairwise}
-use Rattle.document_machine.specs.Outputs.{named, nothing, frames_only}
-use Rattle.document_machine.specs.State.{Document, Job, View, find_job, without_job}
+use Rattle.document_machine.specs.Outputs.{nothing, frames_only}
+use Rattle.document_machine.specs.State.{Document, Job, find_job, without_job}
 use Rattle.document_machine.specs.Step as step
 use Rattle.document_machine.specs.Step.{Paints, views_offered, tiles_for}
 use Rattle.document_machine.specs.declared.outs.Outs.{Outs}
 use Rattle.document_machine.proofs.Lists.{all_push}
 use Rattle.document_machine.proofs.Present.{untouched}
 use Rattle.view_session.specs.Keeps.{IsViewing}
-use Rattle.view_session.specs.Viewing.{Viewing, Entry, with_entry, without_entry, screen_after, sent}
+use Rattle.view_session.specs.Viewing.{Viewing, Entry, with_entry, screen_after, sent}
 use Rattle.broker_core.specs.Held.{Seat, view_of, views_of, Holds, IsSeated, IsOut}
 use Rattle.broker_core.specs.Serving.{takes, offered, frames_for, job_of, Awaits, Ignores}
-use Rattle.broker_core.proofs.SeatWords.{takes_same, sent_same, same_is}
+use Rattle.broker_core.proofs.SeatWords.{takes_same, sent_same}
 use Rattle.broker_core.proofs.HeardBy.{document_of}
 
 -- a tile of the present number is the present one

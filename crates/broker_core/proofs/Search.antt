@@ -1,16 +1,15 @@
 -- The search for the pair that is served next.
-use Rattle.std.proofs.Common.{◌≡◌, ℕ, zero, suc, ◌+◌, ◌/◌, ◌<◌, ◌≤◌, Bool, true, false, not, ◌&&◌, ◌||◌, cond, List, [], ◌∷◌, ◌++◌, length, map, find, Option, Some, None, refl, sym, ap, subst, ◌∙◌, inl, inr, arith, rules}
-use Rattle.std.specs.Prelude.{nat_lt, ◌⊎◌}
+use Rattle.std.proofs.Common.{◌≡◌, ℕ, zero, suc, ◌+◌, ◌/◌, ◌<◌, ◌≤◌, Bool, true, false, ◌&&◌, ◌||◌, cond, List, [], ◌∷◌, ◌++◌, length, find, Option, Some, None, refl, sym, ap, subst, ◌∙◌, inl, inr, arith, rules}
+use Rattle.std.specs.Prelude.{◌⊎◌}
 use Rattle.std.specs.List.{list_any, AllByRecursion}
 use Rattle.std.specs.Ordering.{is_lt}
-use Rattle.std.proofs.lemmas.Bool.Decides.{nat_tests}
 use Rattle.cool_base.specs.Points.{Rectangle, Extent, cut_of}
 use Rattle.kit_trait.specs.Rules.{Rules}
 use Rattle.kit_trait.specs.declared.values.Input.{Input}
 use Rattle.tile_key.specs.Places.{Place, Scale, key_order, same_place}
 use Rattle.tile_key.specs.Visible.{visible_keys, rows_of, row_of, tile_in, tiles_to, whole_part}
 use Rattle.document_machine.specs.Due.{parts_of, is_due, has_room, is_out, keys}
-use Rattle.document_machine.specs.Keys.{is_among, ordered, inserted}
+use Rattle.document_machine.specs.Keys.{ordered, inserted}
 use Rattle.document_machine.specs.Next.{next_pair, next_among, next_key, none_kept, can_serve, or_later}
 use Rattle.document_machine.specs.State.{Document, View}
 use Rattle.document_machine.specs.Step.{Rests, IsServed, is_owed, is_wanted}

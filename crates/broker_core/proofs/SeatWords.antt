@@ -1,17 +1,15 @@
 -- The machine's words of a view, and the view's own.
-use Rattle.std.proofs.Common.{◌≡◌, ℕ, zero, suc, ◌+◌, ◌<◌, ◌≤◌, Bool, true, false, not, ◌&&◌, ◌||◌, cond, List, [], ◌∷◌, ◌++◌, length, map, filter, find, Option, Some, None, refl, sym, ap, subst, ◌∙◌, arith, rules, nat_eq}
-use Rattle.std.specs.Prelude.{nat_lt, option_map}
+use Rattle.std.proofs.Common.{◌≡◌, ℕ, ◌+◌, Bool, true, false, not, ◌&&◌, ◌||◌, cond, List, [], ◌∷◌, ◌++◌, length, map, Option, Some, refl, sym, ap, ◌∙◌, arith, rules, nat_eq}
+use Rattle.std.specs.Prelude.{option_map}
 use Rattle.std.specs.List.{list_any, list_all, AllByRecursion}
 use Rattle.std.specs.Ordering.{is_lt}
 use Rattle.std.proofs.lemmas.Bool.Decides.{nat_tests}
 use Rattle.kit_trait.specs.Rules.{Rules}
-use Rattle.kit_trait.specs.declared.values.Input.{Input}
 use Rattle.tile_key.specs.Places.{Place, key_order, same_place}
-use Rattle.document_machine.specs.Due.{parts_of, size_of, touched, visible, keys, version_of, is_lacking, is_due, has_room, is_current, is_newer, with_version, without_version, screen_after, asked_after, sent, takes, tile_frame}
+use Rattle.document_machine.specs.Due.{touched, visible, keys, version_of, is_lacking, is_due, has_room, is_current, is_newer, with_version, without_version, screen_after, asked_after, sent, takes}
 use Rattle.document_machine.specs.Keys.{is_among, ordered}
 use Rattle.document_machine.specs.Quiet.{is_still}
-use Rattle.document_machine.specs.State.{Document, Shown, View}
-use Rattle.document_machine.proofs.Present.{untouched}
+use Rattle.document_machine.specs.State.{Document, View}
 use Rattle.view_session.specs.Viewing as viewing
 use Rattle.view_session.specs.Viewing.{Viewing, Entry, entry_of, version_on, with_entry, without_entry}
 use Rattle.broker_core.specs.Held.{Seat, shown_of, view_of, views_of, IsSeated}

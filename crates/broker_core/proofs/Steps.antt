@@ -1,30 +1,29 @@
 -- What the parts of a turn and of a painted result give is a step of the machine, and keeps what holds of them.
-use Rattle.std.proofs.Common.{◌≡◌, ◌≢◌, ℕ, zero, suc, ◌+◌, ◌<◌, ◌≤◌, Bool, true, false, not, ◌&&◌, ◌||◌, cond, List, [], ◌∷◌, ◌++◌, length, map, filter, drop, get_or, Option, Some, None, refl, sym, ap, subst, ◌∙◌, inl, inr, arith, rules, nat_eq, append-nil, append_assoc}
-use Rattle.std.specs.Prelude.{nat_lt, slice_get, ◌⊎◌}
-use Rattle.std.specs.List.{list_any, list_all, flat_map, sum_by, AllByRecursion}
+use Rattle.std.proofs.Common.{◌≡◌, ℕ, zero, suc, ◌+◌, ◌<◌, ◌≤◌, true, false, List, [], ◌∷◌, ◌++◌, length, map, drop, get_or, Option, Some, None, refl, sym, ap, subst, ◌∙◌, inl, inr, arith, rules, append_assoc}
+use Rattle.std.specs.Prelude.{nat_lt, slice_get}
+use Rattle.std.specs.List.{list_any, sum_by}
 use Rattle.std.proofs.lemmas.Bool.Decides.{nat_tests}
 use Rattle.std.proofs.lemmas.List.{drop_more}
 use Rattle.cool_base.specs.declared.ids.ViewId.{ViewId}
 use Rattle.cool_frame.specs.declared.frame.Frame.{Frame}
 use Rattle.cool_frame.specs.declared.frame.Frame.TheVariants.{Invalidate}
-use Rattle.kit_trait.specs.Rules.{Rules, doc, shown}
+use Rattle.kit_trait.specs.Rules.{Rules, shown}
 use Rattle.kit_trait.specs.declared.values.Damage.{Damage}
 use Rattle.kit_trait.specs.declared.values.Input.{Input}
 use Rattle.kit_trait.specs.declared.values.Pixels.{Pixels}
-use Rattle.tile_key.specs.Places.{Place, IsGroup, place_of_keys}
-use Rattle.document_machine.specs.Due.{parts_of, size_of, touched, damage_of, is_out}
-use Rattle.document_machine.specs.Keys.{Pairwise}
+use Rattle.tile_key.specs.Places.{Place, place_of_keys}
+use Rattle.document_machine.specs.Due.{parts_of, damage_of, is_out}
 use Rattle.document_machine.specs.Next.{next_pair, none_kept}
 use Rattle.document_machine.specs.Outputs.{named, frames_only, outs_of}
-use Rattle.document_machine.specs.State.{Document, Job, View, find_job, without_job}
+use Rattle.document_machine.specs.State.{Document, Job}
 use Rattle.document_machine.specs.Step.{Applies, Cuts, TurnsTo, Step, Goes, told, given, is_wanted}
 use Rattle.document_machine.specs.Event.{Turned}
 use Rattle.document_machine.specs.declared.outs.Outs.{Outs}
 use Rattle.document_machine.specs.declared.outs.Turned.{Turned as TurnAnswer}
 use Rattle.document_machine.specs.declared.outs.Turned.TheVariants.{Worked, Idle}
 use Rattle.document_machine.proofs.Journal.{doc_more}
-use Rattle.document_machine.proofs.Lists.{nat_eq_self, all_at}
-use Rattle.broker_core.specs.Held.{Seat, view_of, views_of, Holds, IsSeated, IsOut}
+use Rattle.document_machine.proofs.Lists.{all_at}
+use Rattle.broker_core.specs.Held.{Seat, views_of, Holds}
 use Rattle.broker_core.specs.Serving.{struck_seat, job_of, next_seated, GoesTo}
 use Rattle.broker_core.proofs.HeardBy.{document_of}
 use Rattle.broker_core.proofs.Marks.{damage_is, views_struck, all_struck, ids_all, ids_struck, count_struck}

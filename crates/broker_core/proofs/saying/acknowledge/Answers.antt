@@ -1,5 +1,5 @@
 -- Each number more takes its tile out.
-use Rattle.std.proofs.Common.{◌≡◌, ◌∙◌, get_or, take, sym, ap, arith}
+use Rattle.std.proofs.Common.{◌∙◌, get_or, take, sym, ap, arith}
 use Rattle.std.proofs.lemmas.List.{take_more}
 use Rattle.view_session.specs.Viewing.{processed}
 use Rattle.broker_core.specs.Heard.{acknowledged}

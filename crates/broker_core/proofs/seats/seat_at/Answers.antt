@@ -1,5 +1,5 @@
 -- Where the loop ends no view has the id.
-use Rattle.std.proofs.Common.{◌≡◌, ◌≤◌, length, take, List, subst, arith}
+use Rattle.std.proofs.Common.{◌≡◌, take, List, subst, arith}
 use Rattle.std.proofs.lemmas.List.{take_all}
 use Rattle.broker_core.specs.Held.{Seat}
 use Rattle.broker_core.specs.Places.{LacksView}

@@ -1,5 +1,5 @@
 -- A view leaves: a step of the machine, after which the broker keeps what it kept.
-use Rattle.std.proofs.Common.{◌≡◌, get_or, sym}
+use Rattle.std.proofs.Common.{sym}
 use Rattle.std.specs.Option.{option_to_list}
 use Rattle.broker_core.proofs.Comings.{holds_left, leaves_by}
 use Rattle.broker_core.proofs.core_of.Core.leave.Goals as goal

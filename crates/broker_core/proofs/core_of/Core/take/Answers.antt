@@ -1,4 +1,4 @@
-use Rattle.std.proofs.Common.{sym, ap, List, [], ◌∷◌, ◌∙◌}
+use Rattle.std.proofs.Common.{sym, ap, [], ◌∷◌, ◌∙◌}
 use Rattle.std.specs.Prelude.{option_to_list}
 use Rattle.broker_core.proofs.Offers.{holds_painted, paints_by}
 use Rattle.broker_core.proofs.core_of.Core.take.Goals as goal

@@ -1,6 +1,6 @@
 -- The view at the place is the one with the id.
 use Rattle.std.proofs.Common.{◌≡◌, ◌∙◌, map, Some, sym, ap}
-use Rattle.document_machine.specs.State.{View, Document, find_view}
+use Rattle.document_machine.specs.State.{View, find_view}
 use Rattle.broker_core.specs.Held.{Seat, view_of, views_of}
 use Rattle.broker_core.proofs.SeatPlaces.{place_finds}
 use Rattle.broker_core.proofs.core_of.Core.unprocessed.Goals as goal
