@@ -1,4 +1,6 @@
 // Scripts with ample memory, from their bytes to their transcripts.
+ghost use Rattle.std.specs.Prelude.{◌<◌};
+
 use crate::replay;
 use outside::{MemorySink, MemorySource, ReadStep, Source};
 use std::alloc::Global;

@@ -1,6 +1,5 @@
 -- Turns and answers, by what a broker answers.
-use Rattle.std.proofs.Common.{◌≡◌, ◌∙◌, ℕ, Bool, true, false, List, [], ◌∷◌, ◌++◌, length, Option, None, Some, IsSome, refl, sym, ap, subst, append_assoc, arith}
-use Rattle.std.specs.List.{flat_map}
+use Rattle.std.proofs.Common.{◌≡◌, ◌∙◌, ℕ, true, false, List, [], ◌∷◌, ◌++◌, length, Option, None, Some, IsSome, refl, sym, ap, subst, append_assoc, arith}
 use Rattle.std.specs.Option.{ForSome}
 use Rattle.std.proofs.lemmas.List.{append-nil}
 use Rattle.broker_core.specs.Serving.{GoesTo}
@@ -9,7 +8,6 @@ use Rattle.cool_frame.specs.declared.frame.Frame.{Frame}
 use Rattle.document_machine.specs.Event.{Event, Painted}
 use Rattle.document_machine.specs.Next.{none_kept, IsFirst}
 use Rattle.document_machine.specs.Outputs.{nothing, joined}
-use Rattle.document_machine.specs.Run.{Segment}
 use Rattle.document_machine.specs.State.{Document}
 use Rattle.document_machine.specs.Step.{Step, Goes}
 use Rattle.document_machine.specs.declared.outs.Outs.{Outs}
@@ -19,7 +17,7 @@ use Rattle.kit_trait.specs.Rules.{Rules}
 use Rattle.kit_trait.specs.declared.jobs.PaintJob.{PaintJob}
 use Rattle.kit_trait.specs.declared.values.Pixels.{Pixels}
 use Rattle.script_world.specs.Answered.{AnswersAll}
-use Rattle.script_world.specs.House.{painted_all, TurnsDocument}
+use Rattle.script_world.specs.House.{TurnsDocument}
 use Rattle.script_world.specs.Seats.{Seats, record_to, records}
 
 pub records-append : (seats : Seats) (a b : List (ViewId × Frame)) → records seats (a ++ b) ≡ records seats a ++ records seats b

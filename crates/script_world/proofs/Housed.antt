@@ -1,8 +1,7 @@
 -- What a house keeps: its document is whole, no job of it is out, and each of its views has a link.
-use Rattle.std.proofs.Common.{◌≡◌, ◌≢◌, ◌∙◌, ℕ, ◌<◌, Bool, true, false, cond, ◌&&◌, List, [], ◌∷◌, ◌++◌, map, length, nat_lt, Option, None, Some, inl, inr, refl, sym, ap, subst, arith}
-use Rattle.std.specs.BTreeMap.{insert_entry, is_at}
+use Rattle.std.proofs.Common.{◌≡◌, ◌≢◌, ◌∙◌, ℕ, Bool, true, false, cond, ◌&&◌, List, [], ◌∷◌, ◌++◌, length, nat_lt, Option, None, Some, inl, refl, sym, ap, subst}
+use Rattle.std.specs.BTreeMap.{is_at}
 use Rattle.std.specs.List.{AllByRecursion, list_any}
-use Rattle.std.specs.Map.{lookup, remove_entry}
 use Rattle.std.specs.Option.{is_some, is_none, ForSome}
 use Rattle.std.specs.Ordering.{nat_cmp}
 use Rattle.document_laws.specs.Whole.{IsWhole}
@@ -11,17 +10,15 @@ use Rattle.document_laws.proofs.Whole.{opening_is_whole}
 use Rattle.document_machine.specs.Event.{Event, Joined, Left, Said, Turned}
 use Rattle.document_machine.specs.Message.{effect}
 use Rattle.document_machine.specs.Outputs.{nothing}
-use Rattle.document_machine.specs.Rank.{left_to_do}
 use Rattle.document_machine.specs.Run.{Segment}
-use Rattle.document_machine.specs.State.{View, Document, opening, opening_view, find_view, without_view}
+use Rattle.document_machine.specs.State.{Document, opening, opening_view, find_view, without_view}
 use Rattle.document_machine.specs.Step.{Step, Works, JoinsWhere as MachineJoins}
 use Rattle.document_machine.specs.declared.outs.Outs.{Outs}
 use Rattle.document_machine.specs.declared.rights.Rights.{Rights}
 use Rattle.kit_trait.specs.Rules.{Rules}
-use Rattle.kit_trait.specs.declared.jobs.PaintJob.{PaintJob}
 use Rattle.kit_trait.specs.declared.values.Pixels.{Pixels}
-use Rattle.script_world.specs.House.{House, rights, JoinsWhere, JoinsOne, BeginsWhere, LoadsOne, LoadsWhere, seated_at, seated, SaysAs, LeavesAs, TakesOne, TakesFirst, painted_all, WorksAtOnce, TurnsDocument, PollTurn, ids_of, IsSeated, IsHousedBy, IsHoused}
-use Rattle.script_world.specs.Seats.{Seats, view_of, is_waiting, enters, sits, without, link_in, link_of}
+use Rattle.script_world.specs.House.{House, rights, JoinsWhere, BeginsWhere, LoadsOne, LoadsWhere, seated_at, seated, SaysAs, LeavesAs, TakesOne, TakesFirst, painted_all, WorksAtOnce, TurnsDocument, PollTurn, ids_of, IsSeated, IsHousedBy, IsHoused}
+use Rattle.script_world.specs.Seats.{Seats, view_of, is_waiting, enters, sits, without}
 use Rattle.script_world.specs.declared.event.Waiting.{Waiting}
 use Rattle.script_world.specs.declared.event.Waiting.TheVariants.{Opened, Loads, Says, Gone}
 use Rattle.script_world.proofs.Saying.{one_if}

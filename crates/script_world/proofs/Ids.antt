@@ -8,12 +8,11 @@ use Rattle.std.specs.Ordering.{nat_cmp, is_eq, match_ordering}
 use Rattle.std.specs.declared.cmp.Ordering.{Ordering}
 use Rattle.std.specs.declared.cmp.Ordering.TheVariants.{Less, Equal, Greater}
 use Rattle.document_machine.specs.Due.{sent, takes}
-use Rattle.document_machine.specs.Event.{Event, Said, Painted}
 use Rattle.document_machine.specs.Keys.{Pairwise}
-use Rattle.document_machine.specs.Message.{Effect, Refuses, Greets, Inputs, Asks, Cancels, Looks, Zooms, GoesTo, Acknowledges, Passes, asks, cancels, looks, zooms, goes_to, acknowledged, effect, took}
+use Rattle.document_machine.specs.Message.{Effect, Refuses, Greets, Inputs, Asks, Cancels, Looks, Zooms, GoesTo, Acknowledges, Passes, asks, cancels, looks, zooms, goes_to, acknowledged, took}
 use Rattle.document_machine.specs.Run.{Segment}
 use Rattle.document_machine.specs.State.{View, Document, Job, find_view, with_view, without_view, find_job}
-use Rattle.document_machine.specs.Step.{Step, Works, Applies, Sends, Cuts, Paints, Says, offered, views_offered}
+use Rattle.document_machine.specs.Step.{Works, Paints, offered, views_offered}
 use Rattle.document_machine.specs.declared.outs.Outs.{Outs}
 use Rattle.kit_trait.specs.Rules.{Rules}
 use Rattle.kit_trait.specs.declared.jobs.PaintJob.{PaintJob}

@@ -1,15 +1,14 @@
 -- Loads, by what a broker answers.
 use Rattle.std.proofs.Common.{◌≡◌, ◌∙◌, ℕ, ◌<◌, ◌≤◌, Bool, true, false, List, Option, None, Some, IsSome, nat_lt, length, refl, sym, ap, subst, arith}
 use Rattle.std.specs.Option.{ForSome}
-use Rattle.cool_base.specs.declared.ids.ViewId.{ViewId}
 use Rattle.document_machine.specs.Event.{Joined}
 use Rattle.document_machine.specs.State.{Document}
-use Rattle.document_machine.specs.Step.{Step, Goes}
+use Rattle.document_machine.specs.Step.{Goes}
 use Rattle.document_machine.specs.declared.outs.Outs.{Outs}
 use Rattle.document_machine.specs.declared.rights.Rights.{Rights}
 use Rattle.kit_trait.specs.Rules.{Rules}
 use Rattle.kit_trait.specs.declared.values.Pixels.{Pixels}
-use Rattle.script_world.specs.House.{House, JoinsWhere, JoinsOne, LoadsOne}
+use Rattle.script_world.specs.House.{House, JoinsWhere, LoadsOne}
 use Rattle.script_world.specs.Seats.{Seats, sits, tells, records, views_full}
 use Rattle.script_world.specs.Taken.{JoinsBy}
 

@@ -9,13 +9,13 @@ use Rattle.cool_frame.specs.declared.frame.Frame.{Frame}
 use Rattle.document_laws.proofs.Idle.{next_by}
 use Rattle.document_laws.proofs.Lower.{found_view, some_input}
 use Rattle.document_machine.proofs.Lists.{nat_eq_self}
-use Rattle.document_machine.specs.Event.{Joined, Painted}
+use Rattle.document_machine.specs.Event.{Painted}
 use Rattle.document_machine.specs.Message.{effect, reply, took}
 use Rattle.document_machine.specs.Next.{none_kept, next_pair}
 use Rattle.document_machine.specs.Outputs.{frames_only}
 use Rattle.document_machine.specs.Run.{Segment}
 use Rattle.document_machine.specs.State.{View, Sent, Job, Document, opening, find_view, find_job, without_job}
-use Rattle.document_machine.specs.Step.{Step, Rests, Applies, Cuts, Paints, Says as MachineSays, JoinsWhere as MachineJoins, told, tiles_for, views_offered, given}
+use Rattle.document_machine.specs.Step.{Step, Rests, Cuts, Paints, Says as MachineSays, JoinsWhere as MachineJoins, told, tiles_for, views_offered, given}
 use Rattle.document_machine.specs.declared.outs.Outs.{Outs}
 use Rattle.document_machine.specs.declared.rights.Rights.{Rights}
 use Rattle.kit_trait.specs.Rules.{Rules, doc}
@@ -23,7 +23,7 @@ use Rattle.kit_trait.specs.declared.jobs.PaintJob.{PaintJob}
 use Rattle.kit_trait.specs.declared.values.Input.{Input}
 use Rattle.kit_trait.specs.declared.values.Pixels.{Pixels}
 use Rattle.tile_key.specs.Places.{Place}
-use Rattle.script_world.specs.House.{House, rights, JoinsWhere, JoinsOne, BeginsWhere, LoadsOne, LoadsWhere, seated, SaysAs, LeavesAs, TakesOne, TakesFirst, painted_all, WorksAtOnce, TurnsDocument, PollTurn, wids_of, window_in, acknowledges, acknowledgements_by, acknowledgements, IsSeated, IsHousedBy, IsHoused}
+use Rattle.script_world.specs.House.{House, rights, JoinsWhere, BeginsWhere, LoadsOne, LoadsWhere, seated, SaysAs, LeavesAs, TakesOne, TakesFirst, painted_all, WorksAtOnce, TurnsDocument, PollTurn, wids_of, acknowledges, acknowledgements_by, acknowledgements, IsHousedBy, IsHoused}
 use Rattle.script_world.specs.Seats.{Seats, is_waiting, sits, without, records}
 use Rattle.script_world.specs.World.{Seen, Move, Turn, Acknowledge, Moves, Chain, turns, RestsNow, IsIdle, Turned, Settled, IsAtRest}
 use Rattle.script_world.specs.declared.event.Waiting.{Waiting}

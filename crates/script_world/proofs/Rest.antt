@@ -1,14 +1,14 @@
 -- Acknowledgements: what they are, that they leave less to do, and that without any all is at rest.
-use Rattle.std.proofs.Common.{◌≡◌, ◌≢◌, ◌∙◌, ℕ, zero, suc, ◌+◌, ◌<◌, ◌≤◌, ◌^◌, Bool, true, false, cond, ◌||◌, List, [], ◌∷◌, ◌++◌, length, map, get_or, nat_eq, nat_lt, Option, None, Some, refl, ap, sym, subst, arith}
+use Rattle.std.proofs.Common.{◌≡◌, ◌≢◌, ◌∙◌, ℕ, suc, ◌<◌, ◌≤◌, ◌^◌, Bool, true, false, cond, List, [], ◌∷◌, ◌++◌, length, map, get_or, nat_eq, nat_lt, Option, None, Some, refl, ap, sym, subst, arith}
 use Rattle.std.specs.Prelude.{Ok}
 use Rattle.std.specs.BTreeMap.{is_at}
-use Rattle.std.specs.List.{AllByRecursion, flat_map}
+use Rattle.std.specs.List.{AllByRecursion}
 use Rattle.std.specs.List.Sorted.{IsStrictlySortedBy}
 use Rattle.std.specs.Map.{lookup}
 use Rattle.std.specs.Option.{is_some}
 use Rattle.std.specs.Ordering.{nat_cmp, is_eq}
 use Rattle.std.specs.declared.cmp.Ordering.{Ordering}
-use Rattle.std.specs.declared.cmp.Ordering.TheVariants.{Less, Equal, Greater}
+use Rattle.std.specs.declared.cmp.Ordering.TheVariants.{Less, Equal}
 use Rattle.std.proofs.lemmas.Bool.Decides.{nat_tests}
 use Rattle.std.proofs.lemmas.Map.Keys.{sorted_head, sorted_tail}
 use Rattle.cool_message.specs.Reading.{reading}
@@ -22,11 +22,10 @@ use Rattle.document_machine.specs.Kept.{IsViewKept}
 use Rattle.document_machine.specs.Quiet.{IsQuiet, AllRight}
 use Rattle.document_machine.specs.Rank.{left_to_do}
 use Rattle.document_machine.specs.State.{View, Document, Sent, find_view}
-use Rattle.document_machine.specs.Step.{Rests}
 use Rattle.kit_trait.specs.Rules.{Rules}
 use Rattle.kit_trait.specs.declared.values.Pixels.{Pixels}
-use Rattle.script_world.specs.House.{House, seated, seated_at, SaysAs, TakesOne, PollTurn, wids_of, window_in, acknowledges, acknowledgements_by, acknowledgements, ids_of, IsSeated, IsHousedBy, IsHoused}
-use Rattle.script_world.specs.Moved.{Came, TurnWritten, IsAcknowledgement, AllAcknowledge, AreSmall, left_of}
+use Rattle.script_world.specs.House.{House, seated, seated_at, SaysAs, TakesOne, wids_of, window_in, acknowledges, acknowledgements_by, acknowledgements, ids_of, IsSeated, IsHousedBy, IsHoused}
+use Rattle.script_world.specs.Moved.{Came, TurnWritten, AllAcknowledge, AreSmall, left_of}
 use Rattle.script_world.specs.Seats.{Seats, view_of, link_in}
 use Rattle.script_run.proofs.Moves.{adds_nothing}
 use Rattle.script_world.specs.World.{Seen, Acknowledge, Moves, RestsNow, IsAtRest}

@@ -1,10 +1,9 @@
 -- Messages and leaving, by what a broker answers.
-use Rattle.std.proofs.Common.{◌≡◌, ◌∙◌, ℕ, Bool, true, false, cond, List, Option, None, Some, IsSome, refl, sym, ap, subst}
+use Rattle.std.proofs.Common.{◌≡◌, ℕ, Bool, true, false, cond, List, Option, None, Some, IsSome, refl, sym, ap, subst}
 use Rattle.std.specs.Option.{ForSome, is_some, option_map}
-use Rattle.document_machine.specs.Event.{Left, Said}
-use Rattle.document_machine.specs.Outputs.{nothing}
+use Rattle.document_machine.specs.Event.{Said}
 use Rattle.document_machine.specs.State.{View, Document, find_view}
-use Rattle.document_machine.specs.Step.{Step, Goes}
+use Rattle.document_machine.specs.Step.{Goes}
 use Rattle.document_machine.specs.declared.outs.Outs.{Outs}
 use Rattle.kit_trait.specs.Rules.{Rules}
 use Rattle.kit_trait.specs.declared.values.Pixels.{Pixels}

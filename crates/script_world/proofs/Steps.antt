@@ -1,7 +1,6 @@
 -- Poll turns as moves, with what they wrote, and what they leave to do.
-use Rattle.std.proofs.Common.{◌≡◌, ◌∙◌, ◌⊎◌, ℕ, zero, suc, ◌+◌, ◌<◌, ◌≤◌, Bool, true, false, cond, ◌||◌, List, [], ◌∷◌, ◌++◌, length, length-append, length-drop, drop, nat_eq, nat_lt, inl, inr, refl, ap, sym, subst, arith, Option, None, Some}
+use Rattle.std.proofs.Common.{◌≡◌, ◌∙◌, ℕ, zero, suc, ◌+◌, ◌<◌, ◌≤◌, Bool, true, false, cond, ◌||◌, List, [], ◌∷◌, ◌++◌, length, length-append, length-drop, drop, nat_eq, nat_lt, inl, inr, refl, ap, sym, subst, arith, Option, None, Some}
 use Rattle.std.specs.Prelude.{Result, Ok, Err, IfOk, IfErr}
-use Rattle.std.specs.List.{AllByRecursion}
 use Rattle.std.specs.Result.{IsErrAnd}
 use Rattle.std.proofs.lemmas.Result.{err_from_is_err_and}
 use Rattle.cool_message.specs.Reading.{reading}
@@ -9,27 +8,23 @@ use Rattle.cool_message.specs.declared.message.ClientMessage.TheVariants.{TilePr
 use Rattle.document_laws.proofs.Acknowledged.{said_acknowledges, acknowledging_adds_nothing}
 use Rattle.document_laws.proofs.Lower.{at_once_lowers}
 use Rattle.document_machine.specs.Message.{Acknowledges, took}
-use Rattle.document_machine.specs.Outputs.{nothing}
 use Rattle.document_machine.specs.Rank.{left_to_do}
 use Rattle.document_machine.specs.State.{Document}
-use Rattle.document_machine.specs.Step.{Rests}
-use Rattle.document_machine.specs.declared.outs.Outs.{Outs}
 use Rattle.kit_trait.specs.Rules.{Rules}
 use Rattle.kit_trait.specs.declared.values.Pixels.{Pixels}
-use Rattle.outside.specs.Streams.{Adds}
 use Rattle.script_lines.specs.Records.{AddsPart}
 use Rattle.script_lines.specs.declared.output.Stop.{Stop}
-use Rattle.script_lines.specs.declared.output.Stop.TheVariants.{Sink, Memory as NoMemory}
+use Rattle.script_lines.specs.declared.output.Stop.TheVariants.{Sink}
 use Rattle.script_run.specs.Play.{Stopped}
-use Rattle.script_run.proofs.Moves.{adds_more, adds_nothing, adds_same}
-use Rattle.script_world.specs.House.{House, SaysAs, TakesOne, TakesFirst, seated, WorksAtOnce, TurnsDocument, PollTurn, IsSeated, IsHousedBy, IsHoused}
+use Rattle.script_run.proofs.Moves.{adds_more, adds_nothing}
+use Rattle.script_world.specs.House.{House, SaysAs, TakesOne, seated, WorksAtOnce, TurnsDocument, PollTurn, IsHousedBy, IsHoused}
 use Rattle.script_world.specs.Moved.{Came, MadeFrom, TurnWritten, IsAcknowledgement, AllAcknowledge, MadeTurns, TurnedTo, left_of}
 use Rattle.script_world.specs.Seats.{Seats}
-use Rattle.script_world.specs.World.{Seen, Move, Turn, Acknowledge, Moves, Chain, RestsNow, IsIdle, turns, Turned, Begun}
+use Rattle.script_world.specs.World.{Seen, Move, Turn, Moves, Chain, RestsNow, turns, Begun}
 use Rattle.script_world.specs.declared.event.Waiting.{Waiting}
 use Rattle.script_world.specs.declared.event.Waiting.TheVariants.{Opened, Loads, Says, Gone}
-use Rattle.script_world.proofs.Chains.{came_one, came_joined, came_nowhere, chain_one, chain_joined, stopped_later, stopped_writing, stopped_here}
-use Rattle.script_world.proofs.Housed.{Keeps, first_housed, found_document, housed_at}
+use Rattle.script_world.proofs.Chains.{came_one, came_joined, chain_one, chain_joined, stopped_later, stopped_writing}
+use Rattle.script_world.proofs.Housed.{Keeps, first_housed, found_document}
 
 some_wait : (event : Waiting) (rest : List Waiting) → nat_lt 0 (length (event ∷ rest)) ≡ true
 some_wait event rest = grind arith

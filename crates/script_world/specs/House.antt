@@ -1,6 +1,6 @@
 -- What one poll holds: links and at most one document; and what one turn of it does. It is said by the document
 -- machine's steps, for any kit.
-use Rattle.std.specs.Prelude.{ℕ, ◌≡◌, ◌<◌, nat_lt, List, [], ◌∷◌, ◌++◌, length, map, codes, Option, None, Some, is_some, Bool, true, false, ◌||◌, if◌then◌else◌}
+use Rattle.std.specs.Prelude.{ℕ, ◌≡◌, nat_lt, List, [], ◌∷◌, ◌++◌, length, map, codes, Option, None, Some, is_some, Bool, true, false, ◌||◌, if◌then◌else◌}
 use Rattle.std.specs.List.{flat_map, AllByRecursion}
 use Rattle.cool_base.specs.declared.ids.ViewId.{ViewId}
 use Rattle.cool_frame.specs.declared.frame.Frame.{Frame}
@@ -19,7 +19,7 @@ use Rattle.document_machine.specs.declared.rights.Rights.{Rights}
 use Rattle.kit_trait.specs.Rules.{Rules}
 use Rattle.kit_trait.specs.declared.jobs.PaintJob.{PaintJob}
 use Rattle.kit_trait.specs.declared.values.Pixels.{Pixels}
-use Rattle.script_world.specs.Seats.{Seats, nobody, is_waiting, view_of, enters, sits, without, link_of, tells, records, lobby_frame, bad_file, views_full}
+use Rattle.script_world.specs.Seats.{Seats, is_waiting, view_of, enters, sits, without, link_of, tells, records, lobby_frame, bad_file, views_full}
 use Rattle.script_world.specs.declared.event.Waiting.{Waiting}
 use Rattle.script_world.specs.declared.event.Waiting.TheVariants.{Opened, Loads, Says, Gone}
 

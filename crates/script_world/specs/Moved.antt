@@ -1,5 +1,5 @@
 -- Moves that were made, with what they wrote to a sink.
-use Rattle.std.specs.Prelude.{ℕ, ◌≡◌, ◌<◌, ◌^◌, List, [], Option, None, Some, Bool, Result, Ok, Err}
+use Rattle.std.specs.Prelude.{ℕ, ◌≡◌, ◌<◌, ◌^◌, List, Option, None, Some, Bool, Ok}
 use Rattle.std.specs.List.{AllByRecursion}
 use Rattle.cool_message.specs.Reading.{reading}
 use Rattle.cool_message.specs.declared.message.ClientMessage.TheVariants.{TileProcessed}

@@ -1,4 +1,4 @@
-use Rattle.std.proofs.Common.{◌∙◌, add-one, arith}
+use Rattle.std.proofs.Common.{◌∙◌, arith}
 use Rattle.script_run.specs.Play.{Stopped}
 use Rattle.script_world.specs.House.{held}
 use Rattle.script_world.specs.Moved.{MadeFrom}

@@ -3,7 +3,6 @@ use Rattle.script_run.specs.Play.{Stopped}
 use Rattle.script_world.specs.House.{held}
 use Rattle.script_world.specs.Moved.{MadeFrom}
 use Rattle.script_world.specs.World.{Moves}
-use Rattle.script_world.proofs.Chains.{stopped_later}
 use Rattle.script_world.proofs.Steps.{handed_on, bare_more, bare_left, bare_stopped, idle_rests, falls_busy}
 use Rattle.script_world.proofs.moves.works.Goals as goal
 
