@@ -46,16 +46,16 @@ works_out {C} {B} {S} rules paints old outs new works free = elim works [
       let none : outs.jobs ≡ [] = ap (λ (o : Outs S). o.jobs) applies.outs_are in
       ap (map given) jobs ∙ sym none
   | inr others ↦ elim others [
-      | inl sends ↦
-          let jobs : new.jobs ≡ [] = ap (λ (d : Document S). d.jobs) sends.new_is ∙ free in
-          let none : outs.jobs ≡ [] = ap (λ (o : Outs S). o.jobs) sends.outs_are in
-          ap (map given) jobs ∙ sym none
-      | inr cuts ↦
-          let jobs : new.jobs ≡ old.jobs ++ cuts.job ∷ [] = ap (λ (d : Document S). d.jobs) cuts.new_is in
-          let one : new.jobs ≡ cuts.job ∷ [] = jobs ∙ ap (λ (js : List (Job S)). js ++ cuts.job ∷ []) free in
-          let same : outs.jobs ≡ given cuts.job ∷ [] = ap (λ (o : Outs S). o.jobs) cuts.outs_are in
-          ap (map given) one ∙ sym same
-    ]
+    | inl sends ↦
+        let jobs : new.jobs ≡ [] = ap (λ (d : Document S). d.jobs) sends.new_is ∙ free in
+        let none : outs.jobs ≡ [] = ap (λ (o : Outs S). o.jobs) sends.outs_are in
+        ap (map given) jobs ∙ sym none
+    | inr cuts ↦
+        let jobs : new.jobs ≡ old.jobs ++ cuts.job ∷ [] = ap (λ (d : Document S). d.jobs) cuts.new_is in
+        let one : new.jobs ≡ cuts.job ∷ [] = jobs ∙ ap (λ (js : List (Job S)). js ++ cuts.job ∷ []) free in
+        let same : outs.jobs ≡ given cuts.job ∷ [] = ap (λ (o : Outs S). o.jobs) cuts.outs_are in
+        ap (map given) one ∙ sym same
+  ]
 ]
 
 worked_by : {C B S : Type 0} (rules : Rules C B) (paints : S → Pixels) (old : Option (Document S)) (outs : Outs S) (new : Option (Document S)) → GoesTo rules paints old (Worked outs) new → IsFree old → AreOut new outs.jobs

@@ -20,7 +20,7 @@ pub(crate) enum Act {
     /// A view goes to a part.
     Goes(u32, u32),
     /// A view looks at an area: its upper left corner, its width and height.
-    Looks(u32, (u32, u32), (u32, u32)),
+    Looks(u32, (u16, u16), (u16, u16)),
     /// A view clicks a point.
     Clicks(u32, (u32, u32)),
     /// A view types a character.
@@ -128,11 +128,7 @@ fn compared<K: Kit>(
 }
 
 /// The view acknowledges all that it was sent.
-fn acknowledge<K: Kit>(
-    alloc: Global,
-    document: &mut AtOnce<K>,
-    view: ViewId,
-) -> Result<(), Fail> {
+fn acknowledge<K: Kit>(alloc: Global, document: &mut AtOnce<K>, view: ViewId) -> Result<(), Fail> {
     let wids = document.unprocessed(view);
     if wids.is_empty() {
         return Ok(());
@@ -289,21 +285,13 @@ impl<K: Kit> Stage<K> {
         self.says(alloc, view, text.as_str())
     }
 
-    fn looks(
-        &mut self,
-        alloc: Global,
-        view: u32,
-        corner: (u32, u32),
-        size: (u32, u32),
-    ) -> Result<(), Fail> {
-        let (x, y) = corner;
-        let (w, h) = size;
+    fn looks(&mut self, alloc: Global, view: u32, area: Rect) -> Result<(), Fail> {
         for stand in self.views.iter_mut() {
             if stand.id == view {
-                stand.area = Rect { x, y, w, h };
+                stand.area = area;
             }
         }
-        let text = format!(in alloc; "clientvisiblearea x={x} y={y} width={w} height={h}")?;
+        let text = text_of_area(alloc, &area)?;
         self.says(alloc, view, text.as_str())
     }
 
@@ -411,7 +399,7 @@ impl<K: Kit> Stage<K> {
             }
             Act::Zooms(view, pixels, twips) => self.zooms(alloc, view, pixels, twips),
             Act::Goes(view, part) => self.goes(alloc, view, part),
-            Act::Looks(view, corner, size) => self.looks(alloc, view, corner, size),
+            Act::Looks(view, corner, size) => self.looks(alloc, view, rect(corner, size)),
             Act::Clicks(view, point) => self.clicks(alloc, view, point),
             Act::Types(view, chr) => self.types(alloc, view, chr),
             Act::Serves => self.serves(alloc),
@@ -419,6 +407,21 @@ impl<K: Kit> Stage<K> {
             Act::Shows(view, corner, colours) => self.shows(alloc, view, corner, colours),
         }
     }
+}
+
+fn rect(corner: (u16, u16), size: (u16, u16)) -> Rect {
+    Rect {
+        x: u32::from(corner.0),
+        y: u32::from(corner.1),
+        w: u32::from(size.0),
+        h: u32::from(size.1),
+    }
+}
+
+fn text_of_area(alloc: Global, area: &Rect) -> Result<String, Fail> {
+    let (x, y) = (area.x, area.y);
+    let (w, h) = (area.w, area.h);
+    Ok(format!(in alloc; "clientvisiblearea x={x} y={y} width={w} height={h}")?)
 }
 
 fn text_of_zoom(alloc: Global, pixels: (u32, u32), twips: (u32, u32)) -> Result<String, Fail> {
