@@ -7,7 +7,8 @@ ghost use Rattle.document_machine.specs.Outputs.{nothing};
 ghost use Rattle.document_machine.specs.State.{opening, find_view};
 ghost use Rattle.document_machine.specs.Step.{Goes};
 
-use crate::core_of::{Core, frames_only};
+use crate::core_of::Core;
+use crate::joining::MOST_VIEWS;
 use crate::faults::JoinFault;
 use bytes::Bytes;
 use cool_base::{FileId, Memory, ViewId};
@@ -56,22 +57,22 @@ impl<K: Kit> Broker<K> {
     /// and then nothing changed; after `Memory` the broker is spent.
     pub fn join(
         &mut self,
-        alloc: Global,
         rights: Rights,
     ) -> Result<(ViewId, Outs<K::Scene>), JoinFault>
         ensures step { IfOk result (λ r. Goes K.rules K.Scene.paints self.old (Joined rights) r.1 self.new) }
         ensures view { IfOk result (λ r. ForSome self.old (λ d. (r.0.0 ≡ d.next_view) × (length d.views < 64))) }
-        ensures full { result ≡ Err JoinFault.ViewsFull → ForSome self.old (λ d. 64 ≤ length d.views) × IsSome self.old × (self.new ≡ self.old) }
+        ensures full { (result ≡ Err JoinFault.ViewsFull) ↔ (is_full self.old ≡ true) }
+        ensures unchanged { result ≡ Err JoinFault.ViewsFull → self.new ≡ self.old }
         ensures spent { result ≡ Err JoinFault.Memory → self.new ≡ None }
     {
         let Some(core) = self.core.take() else {
             return Err(JoinFault::Memory);
         };
-        if core.views() >= 64 {
+        if core.views() >= MOST_VIEWS {
             self.core = Some(core);
             return Err(JoinFault::ViewsFull);
         }
-        let (core, view, outs) = core.join(alloc, rights)?;
+        let (core, view, outs) = core.join(rights)?;
         self.core = Some(core);
         Ok((view, outs))
     }
@@ -92,7 +93,6 @@ impl<K: Kit> Broker<K> {
     /// broker is spent.
     pub fn message(
         &mut self,
-        alloc: Global,
         view: ViewId,
         text: &[u8],
     ) -> Result<Outs<K::Scene>, Memory>
@@ -103,9 +103,9 @@ impl<K: Kit> Broker<K> {
         let Some(core) = self.core.take() else {
             return Err(Memory);
         };
-        let (core, frames) = core.message(alloc, view.0, text)?;
+        let (core, outs) = core.message(view.0, text)?;
         self.core = Some(core);
-        Ok(frames_only(alloc, frames))
+        Ok(outs)
     }
 
     /// Whether the document has this view; false where the broker is spent.
