@@ -30,7 +30,7 @@ impl<K: Kit> Broker<K> {
     /// `is_free` tells. After `Memory` the broker is spent.
     pub fn turn(&mut self) -> Result<Turned<K::Scene>, Memory>
         requires { ForSome self.old (λ d. d.jobs ≡ []) }
-        ensures turn { IfOk result (λ turned. GoesTo K.rules K.Scene.paints self.old turned self.new) }
+        ensures turn { IfOk result (λ turned. GoesTo K.rules K.cut self.old turned self.new) }
         ensures first { IfOk result (λ turned. ForSome self.old (λ d. d.applied ≡ length d.journal → IsFirst K.rules none_kept d turned)) }
         ensures spent { OnErr result (self.new ≡ None) }
     {
@@ -46,7 +46,7 @@ impl<K: Kit> Broker<K> {
     /// and each view, in order of ids, gets the tile if it is due and has room; else nothing changes. After
     /// `Memory` the broker is spent.
     pub fn painted(&mut self, done: &Done<K::Scene>) -> Result<Outs<K::Scene>, Memory>
-        ensures step { IfOk result (λ outs. Goes K.rules K.Scene.paints self.old (Painted done.now.ticket.0 done.now.scene) outs self.new) }
+        ensures step { IfOk result (λ outs. Goes K.rules K.cut self.old (Painted done.now.ticket.0 done.now.scene) outs self.new) }
         ensures spent { OnErr result (self.new ≡ None) }
     {
         let Some(core) = self.core.take() else {

@@ -48,6 +48,7 @@ fn key(part: u32, column: u32) -> Result<TileKey, Fail> {
         tileposy: 0,
         tilewidth: 3_840,
         tileheight: 3_840,
+        nviewid: 0,
     };
     Ok(key_of(&words).ok_or("a key")?)
 }
@@ -62,6 +63,7 @@ fn small(column: u32) -> Result<TileKey, Fail> {
         tileposy: 0,
         tilewidth: 15,
         tileheight: 15,
+        nviewid: 0,
     };
     Ok(key_of(&words).ok_or("a key")?)
 }
@@ -110,7 +112,7 @@ fn answer(alloc: Global, changed: Result<(), ViewFault>) -> Result<String, Fail>
 }
 
 fn scaled(view: &mut View, pixels: u32, twips: u32) -> Result<Result<(), ViewFault>, Fail> {
-    let zoom = Zoom::read(pixels, pixels, twips, twips).ok_or("a zoom")?;
+    let zoom = Zoom::read(pixels, pixels, twips, twips, 0).ok_or("a zoom")?;
     Ok(view.set_zoom(&zoom, &PART))
 }
 
@@ -234,7 +236,7 @@ fn joins(rt: HostRuntime) -> Result<(), Fail> {
     view.kept();
     assert!(rt; view.rights().can_write);
     assert_eq!(rt; view.part(), 0);
-    assert_eq!(rt; Some(*view.zoom()), Zoom::read(256, 256, 3_840, 3_840));
+    assert_eq!(rt; Some(*view.zoom()), Zoom::read(256, 256, 3_840, 3_840, 0));
     assert_eq!(rt; *view.area(), area(0, 0)?);
     assert!(rt; view.can_number());
     assert_eq!(rt;

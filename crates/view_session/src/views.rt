@@ -101,7 +101,7 @@ impl View {
     pub fn new(alloc: Global, rights: Rights, size: &Size) -> Result<View, Memory>
         ensures { IfOk result (λ view. view ≡ opening rights size.now) }
     {
-        let Some(zoom) = Zoom::read(256, 256, 3_840, 3_840) else {
+        let Some(zoom) = Zoom::read(256, 256, 3_840, 3_840, 0) else {
             unreachable!()
         };
         let area = Rect {
