@@ -9,8 +9,6 @@
 
 mod asking;
 mod slots;
-#[cfg(test)]
-mod tests;
 mod views;
 
 pub use asking::MOST_ASKED;
