@@ -9,8 +9,8 @@ ghost use Rattle.document_machine.specs.Step.{Goes};
 ghost use Rattle.broker_core.specs.Held.{is_full};
 
 use crate::core_of::Core;
-use crate::joining::MOST_VIEWS;
 use crate::faults::JoinFault;
+use crate::joining::MOST_VIEWS;
 use bytes::Bytes;
 use cool_base::{FileId, Memory, ViewId};
 use document_machine::{Outs, Rights};
@@ -57,10 +57,7 @@ impl<K: Kit> Broker<K> {
     /// A view joins, with the next id, and gets its status. ViewsFull exactly where 64 views are there,
     /// which is judged before any memory is taken, and then nothing changed; after `Memory` the broker is
     /// spent.
-    pub fn join(
-        &mut self,
-        rights: Rights,
-    ) -> Result<(ViewId, Outs<K::Scene>), JoinFault>
+    pub fn join(&mut self, rights: Rights) -> Result<(ViewId, Outs<K::Scene>), JoinFault>
         ensures step { IfOk result (λ r. Goes K.rules K.cut self.old (Joined rights) r.1 self.new) }
         ensures view { IfOk result (λ r. ForSome self.old (λ d. (r.0.0 ≡ d.next_view) × (length d.views < MOST_VIEWS))) }
         ensures full { (result ≡ Err JoinFault.ViewsFull) ↔ (is_full self.old ≡ true) }
@@ -93,11 +90,7 @@ impl<K: Kit> Broker<K> {
 
     /// The view says a text: its one effect, and the frame of a greeting or of a refusal. After `Memory` the
     /// broker is spent.
-    pub fn message(
-        &mut self,
-        view: ViewId,
-        text: &[u8],
-    ) -> Result<Outs<K::Scene>, Memory>
+    pub fn message(&mut self, view: ViewId, text: &[u8]) -> Result<Outs<K::Scene>, Memory>
         requires { ForSome self.old (λ d. IsSome (find_view d.views view.0)) }
         ensures step { IfOk result (λ outs. Goes K.rules K.cut self.old (Said view.0 text.now) outs self.new) }
         ensures spent { OnErr result (self.new ≡ None) }

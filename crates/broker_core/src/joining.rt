@@ -60,10 +60,7 @@ impl<K: Kit> Core<K> {
     }
 
     /// The document gets one more view, with the next id, and the view its status.
-    pub(crate) fn join(
-        self,
-        rights: Rights,
-    ) -> Result<(Core<K>, ViewId, Outs<K::Scene>), Memory>
+    pub(crate) fn join(self, rights: Rights) -> Result<(Core<K>, ViewId, Outs<K::Scene>), Memory>
         requires { length self.views < 64 }
         ensures step { IfOk result (λ r. Joins K.rules self rights r.2 r.0) }
         ensures view { IfOk result (λ r. r.1.0 ≡ self.next_view) }

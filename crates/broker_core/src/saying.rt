@@ -154,11 +154,7 @@ fn obey<K: Kit>(
 
 impl<K: Kit> Core<K> {
     /// The one effect of the text, and its frames.
-    pub(crate) fn message(
-        self,
-        id: u32,
-        text: &[u8],
-    ) -> Result<(Core<K>, Outs<K::Scene>), Memory>
+    pub(crate) fn message(self, id: u32, text: &[u8]) -> Result<(Core<K>, Outs<K::Scene>), Memory>
         requires { IsSome (find_view self.views id) }
         ensures { IfOk result (λ r. Says K.rules self id text.now r.1 r.0) }
     {

@@ -14,6 +14,7 @@ use tile_key::TileKey;
 pub const MOST_ASKED: usize = 1_024;
 
 /// Whether the view would ask for more keys than it may, if it asked for these too. It takes no memory.
+#[tactic(auto, using(crate::proofs::CountFacts::few_together))]
 pub(crate) fn asks_too_many(slots: &[Slot], asked: &[TileKey], keys: &[TileKey]) -> bool
     requires { IsSlotted slots.now asked.now }
     ensures { result ≡ nat_lt MOST_ASKED (length (asked_with_all asked.now keys.now)) }
@@ -25,6 +26,7 @@ pub(crate) fn asks_too_many(slots: &[Slot], asked: &[TileKey], keys: &[TileKey])
 }
 
 // The same, where the new keys have to be told apart: they are kept up to the first that is too many.
+#[tactic(auto, using(crate::proofs::CountFacts::many_before, crate::proofs::CountFacts::all_first, crate::proofs::CountFacts::all_known, crate::proofs::CountFacts::all_new, crate::proofs::CountFacts::too_many, crate::proofs::CountFacts::few_at_end))]
 fn are_more(slots: &[Slot], asked: &[TileKey], keys: &[TileKey]) -> bool
     requires { IsSlotted slots.now asked.now }
     ensures { result ≡ nat_lt MOST_ASKED (length (asked_with_all asked.now keys.now)) }

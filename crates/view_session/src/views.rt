@@ -7,7 +7,7 @@ ghost use Rattle.document_machine.specs.Message.{asked_with_all};
 ghost use Rattle.view_session.specs.Viewing.{opening, looks, zooms, goes_to, asks, cancels, processed, sent, damaged, wants, version_on, is_due, keys, uncurrent};
 ghost use Rattle.view_session.specs.Keeps.{IsViewing};
 
-use crate::asking::{asks_too_many, is_asked, MOST_ASKED};
+use crate::asking::{MOST_ASKED, asks_too_many, is_asked};
 use crate::slots::{
     Shown, Slot, ask_all, damage, due_keys, end_asking, find, first_due, keep_seen, keys, see,
     seeing, sees_due, show,
