@@ -1,21 +1,57 @@
--- The codes of scripts that were played, and of other words.
-use Rattle.std.proofs.Common.{◌≡◌, ◌⊎◌, ◌∙◌, ℕ, List, [], ◌∷◌, get_or, Option, inl, inr, sym, ap, arith}
+-- What the code of a script that was played says of its status.
+use Rattle.std.proofs.Common.{◌≡◌, ◌∙◌, ℕ, List, [], ◌∷◌, get_or, sym, ap, arith}
 use Rattle.std.specs.Prelude.{codes}
 use Rattle.kit_trait.specs.Rules.{Rules}
 use Rattle.kit_trait.specs.declared.values.Pixels.{Pixels}
+use Rattle.outside.specs.Causes.{HasCause}
+use Rattle.script_run.specs.Uses.{SourceUse, SinkUse}
 use Rattle.script_run.specs.declared.status.Status.{Status}
 use Rattle.script_run.specs.declared.status.Status.TheVariants.{Done, WrongWords, FaultLine, ReadFault, WriteFault, Memory, NoEnd}
 use Rattle.cool_script.specs.Replay.{PlaysPatch, PlaysSheet, Plays, code_of}
 
 -- no script that was played has the status of wrong words
-pub never_two : {C B S : Type 0} (rules : Rules C B) (paints : S → Pixels) (a b c d : Option (List ℕ)) (e f g h : ℕ) (status : Status) → Plays rules paints a b c d e f g h status → code_of status ≡ 2 → ⊥
-never_two rules paints a b c d e f g h Done plays is = omega (arith, is)
-never_two rules paints a b c d e f g h WrongWords plays is = plays.ended.cause
-never_two rules paints a b c d e f g h FaultLine plays is = omega (arith, is)
-never_two rules paints a b c d e f g h ReadFault plays is = omega (arith, is)
-never_two rules paints a b c d e f g h WriteFault plays is = omega (arith, is)
-never_two rules paints a b c d e f g h Memory plays is = omega (arith, is)
-never_two rules paints a b c d e f g h NoEnd plays is = omega (arith, is)
+pub never_two : {C B S : Type 0} (rules : Rules C B) (paints : S → Pixels) (source : SourceUse) (sink : SinkUse) (status : Status) → Plays rules paints source sink status → code_of status ≡ 2 → ⊥
+never_two rules paints source sink Done plays is = omega (arith, is)
+never_two rules paints source sink WrongWords plays is = plays.ended.cause
+never_two rules paints source sink FaultLine plays is = omega (arith, is)
+never_two rules paints source sink ReadFault plays is = omega (arith, is)
+never_two rules paints source sink WriteFault plays is = omega (arith, is)
+never_two rules paints source sink Memory plays is = omega (arith, is)
+never_two rules paints source sink NoEnd plays is = omega (arith, is)
+
+is_read : (status : Status) → code_of status ≡ 4 → status ≡ ReadFault
+is_read Done is = absurd (omega (arith, is))
+is_read WrongWords is = absurd (omega (arith, is))
+is_read FaultLine is = absurd (omega (arith, is))
+is_read ReadFault is = cc
+is_read WriteFault is = absurd (omega (arith, is))
+is_read Memory is = absurd (omega (arith, is))
+is_read NoEnd is = absurd (omega (arith, is))
+
+is_write : (status : Status) → code_of status ≡ 5 → status ≡ WriteFault
+is_write Done is = absurd (omega (arith, is))
+is_write WrongWords is = absurd (omega (arith, is))
+is_write FaultLine is = absurd (omega (arith, is))
+is_write ReadFault is = absurd (omega (arith, is))
+is_write WriteFault is = cc
+is_write Memory is = absurd (omega (arith, is))
+is_write NoEnd is = absurd (omega (arith, is))
+
+-- the source failed where its code says so
+pub code_of_read : (before now code : ℕ) (status : Status) → code ≡ code_of status → HasCause before now (status ≡ ReadFault) → HasCause before now (code ≡ 4)
+code_of_read before now code status is cause = record {
+  later = cause.later;
+  failed = λ four. cause.failed (is_read status (sym is ∙ four));
+  kept = λ other. cause.kept (λ read. other (is ∙ ap code_of read));
+}
+
+-- the sink failed where its code says so
+pub code_of_write : (before now code : ℕ) (status : Status) → code ≡ code_of status → HasCause before now (status ≡ WriteFault) → HasCause before now (code ≡ 5)
+code_of_write before now code status is cause = record {
+  later = cause.later;
+  failed = λ five. cause.failed (is_write status (sym is ∙ five));
+  kept = λ other. cause.kept (λ write. other (is ∙ ap code_of write));
+}
 
 -- no words are both forms
 pub not_both : (words : List (List ℕ)) → PlaysPatch words → PlaysSheet words → ⊥

@@ -12,6 +12,7 @@ use Rattle.script_lines.specs.declared.output.Stop.TheVariants.{Sink, Memory as 
 use Rattle.script_run.specs.Play.{Stopped}
 use Rattle.script_run.specs.declared.status.Status.{Status}
 use Rattle.script_run.specs.declared.status.Status.TheVariants.{Done, WrongWords, FaultLine, ReadFault, WriteFault, Memory, NoEnd}
+use Rattle.script_world.specs.House.{IsHoused}
 use Rattle.script_world.specs.World.{Seen, unopened, opening_events, typed_events, Turned, Settled, Begun}
 use Rattle.script_world.specs.declared.event.Waiting.TheVariants.{Says, Gone}
 
@@ -65,6 +66,10 @@ Acting rules paints s line out t = DoesBy rules paints (verdict s.place line) s.
 -- a line that is under way, where the grammar stands
 unfoldable pub UnderWay : {C B S : Type 0} → Rules C B → (S → Pixels) → Standing S → List ℕ → List ℕ → Type 0
 UnderWay rules paints s line out = DoingBy rules paints (verdict s.place line) s.world out
+
+-- the world keeps to its rules, so what a line writes is no choice
+abbrev pub IsGood : {C B S : Type 0} → Rules C B → Standing S → Type 0
+IsGood rules s = IsHoused rules s.world.house
 
 -- How a line was stopped: the sink took a front of what was made, and not all of it; or memory was wanting,
 -- before anything was written or while it was.

@@ -8,7 +8,7 @@ use kit_trait::{Kit, PatchKit};
 use outside::Sink;
 use script_lines::{Judged, Place, ScriptLine, Stop};
 use script_run::{Play, Status, refuse};
-use script_world::World;
+use script_world::{World, settling_has_one_record, turns_have_one_record};
 use sheet_kit::SheetKit;
 use std::alloc::Global;
 use std::marker::Model;
@@ -110,7 +110,7 @@ impl Play for Script<PatchKit> {
     ghost use Rattle.kit_trait.specs.Patch.{patch_rules};
     ghost use Rattle.kit_trait.specs.PatchSeen.{scene_picture};
     ghost use Rattle.kit_trait.specs.declared.patch_scene.PatchScene.{PatchScene};
-    ghost use Rattle.cool_script.specs.Script.{Standing, Acting, UnderWay};
+    ghost use Rattle.cool_script.specs.Script.{Standing, Acting, UnderWay, IsGood};
     ghost use Rattle.cool_script.specs.Follows.{acting_follows};
 
     ghost State = { Standing PatchScene };
@@ -122,6 +122,13 @@ impl Play for Script<PatchKit> {
     ghost step = { Acting patch_rules scene_picture };
 
     ghost under = { UnderWay patch_rules scene_picture };
+
+    ghost is_good = { IsGood patch_rules };
+
+    fn steps_once() {
+        turns_have_one_record::<PatchKit>();
+        settling_has_one_record::<PatchKit>();
+    }
 
     fn answer<T: Sink>(
         &mut self,
@@ -140,7 +147,7 @@ impl Play for Script<SheetKit> {
     ghost use Rattle.sheet_kit.specs.Seen.{scene_picture};
     ghost use Rattle.sheet_kit.specs.SheetKind.{sheet_kind};
     ghost use Rattle.sheet_kit.specs.declared.scene.SheetScene.{SheetScene};
-    ghost use Rattle.cool_script.specs.Script.{Standing, Acting, UnderWay};
+    ghost use Rattle.cool_script.specs.Script.{Standing, Acting, UnderWay, IsGood};
     ghost use Rattle.cool_script.specs.Follows.{acting_follows};
 
     ghost State = { Standing SheetScene };
@@ -152,6 +159,13 @@ impl Play for Script<SheetKit> {
     ghost step = { Acting sheet_kind scene_picture };
 
     ghost under = { UnderWay sheet_kind scene_picture };
+
+    ghost is_good = { IsGood sheet_kind };
+
+    fn steps_once() {
+        turns_have_one_record::<SheetKit>();
+        settling_has_one_record::<SheetKit>();
+    }
 
     fn answer<T: Sink>(
         &mut self,

@@ -5,6 +5,7 @@ use Rattle.kit_trait.specs.Rules.{Rules}
 use Rattle.kit_trait.specs.declared.values.Pixels.{Pixels}
 use Rattle.script_lines.specs.Records.{IsFront}
 use Rattle.script_run.specs.Transcript.{Runs, Writes, Cause, Ended}
+use Rattle.script_run.specs.Uses.{SourceUse, SinkUse}
 use Rattle.script_run.specs.declared.status.Status.{Status}
 use Rattle.script_run.specs.declared.status.Status.TheVariants.{Done, WrongWords, FaultLine, ReadFault, WriteFault, Memory, NoEnd}
 use Rattle.script_world.specs.Seats.{Seats}
@@ -44,24 +45,24 @@ module _ {C B S : Type 0} (rules : Rules C B) (paints : S → Pixels) (keeps : K
     caused FaultLine at_end full number rest tail cause = inr (number, subst (IsFront tail) cause.1 (all_of tail))
     caused ReadFault at_end full number rest tail cause = nothing_more tail cause.1
     caused WriteFault at_end full number rest tail cause = half_way at_end number rest tail cause.0 (record { behind = cause.1.behind; is = cause.1.is }) cause.2
-    caused Memory at_end full number rest tail (inl is) = nothing_more tail is
+    caused Memory at_end full number rest tail (inl is) = nothing_more tail is.1
     caused Memory at_end full number rest tail (inr cut) = half_way at_end number rest tail cut.0 cut.1 cut.2
     caused NoEnd at_end full number rest tail (inl ended) = nothing_more tail ended.1
     caused NoEnd at_end full number rest tail (inr (inl spent)) = nothing_more tail spent.1
     caused NoEnd at_end full number rest tail (inr (inr last)) = on_by written tail tail (script_acting rules paints keeps lines rest written tail s last.0 runs last.3) (all_of tail)
 
-  pub replayed : (source_then source_now sink_then sink_now : Option (List ℕ)) (status : Status) (e : Ended (λ (x : Standing S). x.place) (Acting rules paints) (UnderWay rules paints) first source_then source_now sink_then sink_now status)
+  pub replayed : (source : SourceUse) (sink : SinkUse) (status : Status) (e : Ended (λ (x : Standing S). x.place) (Acting rules paints) (UnderWay rules paints) first source sink status)
       → IsReplayed rules paints e.written e.tail e.state.world.house
-  replayed source_then source_now sink_then sink_now status e =
+  replayed source sink status e =
       (right e.written e.state.world.house.seats e.state.world.house.document (script_played rules paints keeps e.lines e.written e.state e.runs), caused e.lines e.written e.state e.runs status _ _ _ e.rest e.tail e.cause)
 
 -- a script that is done
-pub done_by : {C B S : Type 0} (rules : Rules C B) (paints : S → Pixels) (status : Status) (source_then source_now sink_then sink_now : Option (List ℕ)) → 0 ≡ code_of status
-    → (e : Ended (λ (x : Standing S). x.place) (Acting rules paints) (UnderWay rules paints) first source_then source_now sink_then sink_now status) → e.tail ≡ []
-done_by rules paints Done source_then source_now sink_then sink_now is e = e.cause.3
-done_by rules paints WrongWords source_then source_now sink_then sink_now is e = absurd (cc)
-done_by rules paints FaultLine source_then source_now sink_then sink_now is e = absurd (cc)
-done_by rules paints ReadFault source_then source_now sink_then sink_now is e = absurd (cc)
-done_by rules paints WriteFault source_then source_now sink_then sink_now is e = absurd (cc)
-done_by rules paints Memory source_then source_now sink_then sink_now is e = absurd (cc)
-done_by rules paints NoEnd source_then source_now sink_then sink_now is e = absurd (cc)
+pub done_by : {C B S : Type 0} (rules : Rules C B) (paints : S → Pixels) (status : Status) (source : SourceUse) (sink : SinkUse) → 0 ≡ code_of status
+    → (e : Ended (λ (x : Standing S). x.place) (Acting rules paints) (UnderWay rules paints) first source sink status) → e.tail ≡ []
+done_by rules paints Done source sink is e = e.cause.3
+done_by rules paints WrongWords source sink is e = absurd (cc)
+done_by rules paints FaultLine source sink is e = absurd (cc)
+done_by rules paints ReadFault source sink is e = absurd (cc)
+done_by rules paints WriteFault source sink is e = absurd (cc)
+done_by rules paints Memory source sink is e = absurd (cc)
+done_by rules paints NoEnd source sink is e = absurd (cc)

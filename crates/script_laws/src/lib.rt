@@ -15,6 +15,7 @@ ghost use Rattle.script_laws.specs.LastTiles.{ArePainted};
 ghost use Rattle.script_laws.specs.Played.{given_of, IsPlayed, Shows};
 ghost use Rattle.script_laws.specs.Replayed.{IsReplayed};
 ghost use Rattle.script_run.specs.Transcript.{Runs};
+ghost use Rattle.script_run.specs.Uses.{SourceUse, SinkUse};
 ghost use Rattle.script_world.specs.Seats.{Seats};
 ghost use Rattle.script_world.specs.World.{IsAtRest};
 ghost use Rattle.sheet_kit.specs.Seen.{scene_picture as sheet_picture};
@@ -60,14 +61,14 @@ pub fn last_tiles_are_right<K: Kit>()
 /// or it is the text that names a refused line, or a front of that (`written`). Where `replay` ends with 0 nothing
 /// is written behind it (`done`).
 pub fn replays_are_right<K: Kit>()
-    ensures written { (source_then source_now sink_then sink_now : Option (List ℕ)) (reads reads_now writes writes_now code : ℕ) (plays : PlaysTo K.rules K.Scene.paints source_then source_now sink_then sink_now reads reads_now writes writes_now code) → IsReplayed K.rules K.Scene.paints plays.1.ended.written plays.1.ended.tail plays.1.ended.state.world.house }
-    ensures done { (source_then source_now sink_then sink_now : Option (List ℕ)) (reads reads_now writes writes_now : ℕ) (plays : PlaysTo K.rules K.Scene.paints source_then source_now sink_then sink_now reads reads_now writes writes_now 0) → plays.1.ended.tail ≡ [] }
+    ensures written { (source : SourceUse) (sink : SinkUse) (code : ℕ) (plays : PlaysTo K.rules K.Scene.paints source sink code) → IsReplayed K.rules K.Scene.paints plays.1.ended.written plays.1.ended.tail plays.1.ended.state.world.house }
+    ensures done { (source : SourceUse) (sink : SinkUse) (plays : PlaysTo K.rules K.Scene.paints source sink 0) → plays.1.ended.tail ≡ [] }
 {}
 
 /// The same of the documents that `replay patch` and `replay sheet` play.
 pub fn patches_and_sheets_are_right()
-    ensures patch { (source_then source_now sink_then sink_now : Option (List ℕ)) (reads reads_now writes writes_now code : ℕ) (plays : PlaysTo patch_rules patch_picture source_then source_now sink_then sink_now reads reads_now writes writes_now code) → IsReplayed patch_rules patch_picture plays.1.ended.written plays.1.ended.tail plays.1.ended.state.world.house }
-    ensures sheet { (source_then source_now sink_then sink_now : Option (List ℕ)) (reads reads_now writes writes_now code : ℕ) (plays : PlaysTo sheet_kind sheet_picture source_then source_now sink_then sink_now reads reads_now writes writes_now code) → IsReplayed sheet_kind sheet_picture plays.1.ended.written plays.1.ended.tail plays.1.ended.state.world.house }
+    ensures patch { (source : SourceUse) (sink : SinkUse) (code : ℕ) (plays : PlaysTo patch_rules patch_picture source sink code) → IsReplayed patch_rules patch_picture plays.1.ended.written plays.1.ended.tail plays.1.ended.state.world.house }
+    ensures sheet { (source : SourceUse) (sink : SinkUse) (code : ℕ) (plays : PlaysTo sheet_kind sheet_picture source sink code) → IsReplayed sheet_kind sheet_picture plays.1.ended.written plays.1.ended.tail plays.1.ended.state.world.house }
 {
     replays_are_right::<PatchKit>();
     replays_are_right::<SheetKit>();

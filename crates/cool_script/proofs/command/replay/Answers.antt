@@ -1,7 +1,7 @@
+use Rattle.std.proofs.Common.{map, string_bytes, inl, inr, sym, ◌∙◌, refl, ap, arith}
+use Rattle.kit_trait.specs.Patch.{patch_rules}
+use Rattle.kit_trait.specs.PatchSeen.{scene_picture as patch_picture}
+use Rattle.sheet_kit.specs.Seen.{scene_picture as sheet_picture}
+use Rattle.sheet_kit.specs.SheetKind.{sheet_kind}
+use Rattle.cool_script.proofs.Played.{never_two, code_of_read, code_of_write, not_both}
 use Rattle.cool_script.proofs.command.replay.Goals as goal
-
-pub returns-then-plays-clause-complete : goal.returns-then-plays-clause-complete
-returns-then-plays-clause-complete g c left either told ends no_read no_write = c.patch_played.ensures.complete left told ends no_read no_write
-
-pub returns-then-plays-2-clause-complete : goal.returns-then-plays-2-clause-complete
-returns-then-plays-2-clause-complete g c left either told ends no_read no_write = c.sheet_played.ensures.complete left told ends no_read no_write
