@@ -5,7 +5,6 @@ use Rattle.std.specs.List.{AllByRecursion}
 use Rattle.std.proofs.lemmas.Bool.{cases_Bool, and_parts, leb-true, eqb-true}
 use Rattle.std.proofs.lemmas.Bool.Decides.{nat_tests}
 use Rattle.kit_trait.specs.Rules.{Rules}
-use Rattle.kit_trait.specs.declared.values.Pixels.{Pixels}
 use Rattle.tile_key.specs.Places.{Place, same_place}
 use Rattle.document_machine.specs.Due.{has_room, is_current, is_due, is_lacking, is_newer, is_not_back, takes, visible, version_of, without_version, asked_after, screen_after, sees_or_asks, sent}
 use Rattle.document_machine.specs.Event.{Event, Joined, Left, Said, Turned, Painted}
@@ -273,7 +272,7 @@ find_without (v ∷ vs) i id w order e =
 without_rise : (views : List View) (i id : ℕ) (v w : View) → Pairwise (λ v w. v.id < w.id) views → find_view views id ≡ Some v → find_view (without_view views i) id ≡ Some w → IsNoStepBack v w
 without_rise views i id v w order live later = unchanged_rise views id v w live (find_without views i id w order later)
 
-module _ {C B S : Type 0} (rules : Rules C B) (paints : S → Pixels) where
+module _ {C B S : Type 0} (rules : Rules C B) (cut : C → Place → S) where
   -- no view's screen takes a step back
   abbrev AllRise : List View → Document S → Type 0
   AllRise views new = (id : ℕ) (v w : View) → find_view views id ≡ Some v → find_view new.views id ≡ Some w → IsNoStepBack v w
@@ -290,7 +289,7 @@ module _ {C B S : Type 0} (rules : Rules C B) (paints : S → Pixels) where
   took_rise old id (Acknowledges wids) = with_rise old.views id (acknowledged wids) (λ v. refl) (λ v live. same_screen v (acknowledged wids v) refl)
   took_rise old id Passes = unchanged_rise old.views
 
-  works_rise : (old new : Document S) (outs : Outs S) → Works rules paints old outs new → AllRise old.views new
+  works_rise : (old new : Document S) (outs : Outs S) → Works rules cut old outs new → AllRise old.views new
   works_rise old new outs works =
       elim works [
         | inl applies ↦ subst (AllRise old.views) (sym applies.new_is) (unchanged_rise old.views)
@@ -321,7 +320,7 @@ module _ {C B S : Type 0} (rules : Rules C B) (paints : S → Pixels) where
         | inr taken ↦ subst (AllRise old.views) (sym taken.2) (offers_rise rules old job.number job.keys old.views)
       ]
 
-  pub steps_rise : (old new : Document S) (event : Event S) (outs : Outs S) → IsWhole rules old → Step rules paints old event outs new → AllRise old.views new
+  pub steps_rise : (old new : Document S) (event : Event S) (outs : Outs S) → IsWhole rules old → Step rules cut old event outs new → AllRise old.views new
   steps_rise old new (Joined rights) outs whole step = join_rises old new rights outs (nat_lt (length old.views) 64) step
   steps_rise old new (Left view) outs whole step = subst (AllRise old.views) (sym step.1) (λ id v w. without_rise old.views view id v w whole.kept.ids)
   steps_rise old new (Said id text) outs whole step = subst (AllRise old.views) (sym step.new_is) (took_rise old id (effect rules old step.view text))
