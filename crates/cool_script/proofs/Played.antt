@@ -2,7 +2,7 @@
 use Rattle.std.proofs.Common.{◌≡◌, ◌∙◌, ℕ, List, [], ◌∷◌, get_or, sym, ap, arith}
 use Rattle.std.specs.Prelude.{codes}
 use Rattle.kit_trait.specs.Rules.{Rules}
-use Rattle.kit_trait.specs.declared.values.Pixels.{Pixels}
+use Rattle.tile_key.specs.Places.{Place}
 use Rattle.outside.specs.Causes.{HasCause}
 use Rattle.script_run.specs.Uses.{SourceUse, SinkUse}
 use Rattle.script_run.specs.declared.status.Status.{Status}
@@ -10,14 +10,14 @@ use Rattle.script_run.specs.declared.status.Status.TheVariants.{Done, WrongWords
 use Rattle.cool_script.specs.Replay.{PlaysPatch, PlaysSheet, Plays, code_of}
 
 -- no script that was played has the status of wrong words
-pub never_two : {C B S : Type 0} (rules : Rules C B) (paints : S → Pixels) (source : SourceUse) (sink : SinkUse) (status : Status) → Plays rules paints source sink status → code_of status ≡ 2 → ⊥
-never_two rules paints source sink Done plays is = omega (arith, is)
-never_two rules paints source sink WrongWords plays is = plays.ended.cause
-never_two rules paints source sink FaultLine plays is = omega (arith, is)
-never_two rules paints source sink ReadFault plays is = omega (arith, is)
-never_two rules paints source sink WriteFault plays is = omega (arith, is)
-never_two rules paints source sink Memory plays is = omega (arith, is)
-never_two rules paints source sink NoEnd plays is = omega (arith, is)
+pub never_two : {C B S : Type 0} (rules : Rules C B) (cut : C → Place → S) (source : SourceUse) (sink : SinkUse) (status : Status) → Plays rules cut source sink status → code_of status ≡ 2 → ⊥
+never_two rules cut source sink Done plays is = omega (arith, is)
+never_two rules cut source sink WrongWords plays is = plays.ended.cause
+never_two rules cut source sink FaultLine plays is = omega (arith, is)
+never_two rules cut source sink ReadFault plays is = omega (arith, is)
+never_two rules cut source sink WriteFault plays is = omega (arith, is)
+never_two rules cut source sink Memory plays is = omega (arith, is)
+never_two rules cut source sink NoEnd plays is = omega (arith, is)
 
 is_read : (status : Status) → code_of status ≡ 4 → status ≡ ReadFault
 is_read Done is = absurd (omega (arith, is))

@@ -1,9 +1,9 @@
 //! The command `replay`.
 ghost use Rattle.std.specs.Prelude.{◌≡◌, ◌↔◌, ◌∷◌, [], codes, map, string_bytes, IsTrue};
 ghost use Rattle.kit_trait.specs.Patch.{patch_rules};
-ghost use Rattle.kit_trait.specs.PatchSeen.{scene_picture as patch_picture};
+ghost use Rattle.kit_trait.specs.PatchSeen.{patch_cut};
 ghost use Rattle.script_run.specs.Uses.{source_use, sink_use};
-ghost use Rattle.sheet_kit.specs.Seen.{scene_picture as sheet_picture};
+ghost use Rattle.sheet_kit.specs.Seen.{sheet_cut};
 ghost use Rattle.sheet_kit.specs.SheetKind.{sheet_kind};
 ghost use Rattle.cool_script.specs.Replay.{Plays, Replays, code_of};
 
@@ -24,8 +24,7 @@ pub fn replay<S: Source, T: Sink>(
     source: &mut S,
     sink: &mut T,
 ) -> u8
-    ensures replays {
-        let of_source = source_use S.left S.faults source.old source.new in
+    ensures replays { let of_source = source_use S.left S.faults source.old source.new in
         let of_sink = sink_use T.written T.faults sink.old sink.new in
         Replays (map string_bytes words.now) of_source of_sink result }
 
@@ -63,10 +62,9 @@ fn plays(words: &[String], name: &str) -> bool
 
 // The script on a patch document, from its first line on.
 fn patch_run<S: Source, T: Sink>(alloc: Global, source: &mut S, sink: &mut T) -> Status
-    ensures {
-        let of_source = source_use S.left S.faults source.old source.new in
+    ensures { let of_source = source_use S.left S.faults source.old source.new in
         let of_sink = sink_use T.written T.faults sink.old sink.new in
-        Plays patch_rules patch_picture of_source of_sink result }
+        Plays patch_rules patch_cut of_source of_sink result }
 {
     let mut script = Script::<PatchKit>::new(alloc);
     run(alloc, &mut script, source, sink)
@@ -74,10 +72,9 @@ fn patch_run<S: Source, T: Sink>(alloc: Global, source: &mut S, sink: &mut T) ->
 
 // The script on a sheet, from its first line on.
 fn sheet_run<S: Source, T: Sink>(alloc: Global, source: &mut S, sink: &mut T) -> Status
-    ensures {
-        let of_source = source_use S.left S.faults source.old source.new in
+    ensures { let of_source = source_use S.left S.faults source.old source.new in
         let of_sink = sink_use T.written T.faults sink.old sink.new in
-        Plays sheet_kind sheet_picture of_source of_sink result }
+        Plays sheet_kind sheet_cut of_source of_sink result }
 {
     let mut script = Script::<SheetKit>::new(alloc);
     run(alloc, &mut script, source, sink)

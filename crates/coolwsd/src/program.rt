@@ -37,8 +37,7 @@ pub fn program<S: Source, T: Sink, E: Sink>(
     sink: &mut T,
     errors: &mut E,
 ) -> u8
-    ensures replays {
-        let of_source = source_use S.left S.faults source.old source.new in
+    ensures replays { let of_source = source_use S.left S.faults source.old source.new in
         let of_sink = sink_use T.written T.faults sink.old sink.new in
         IfOk words (λ words. Replays (map string_bytes words.items) of_source of_sink result) }
     ensures fault { IfErr words (λ fault. result ≡ code_of_fault fault) }
@@ -63,8 +62,7 @@ fn answer<S: Source, T: Sink>(
     source: &mut S,
     sink: &mut T,
 ) -> u8
-    ensures replays {
-        let of_source = source_use S.left S.faults source.old source.new in
+    ensures replays { let of_source = source_use S.left S.faults source.old source.new in
         let of_sink = sink_use T.written T.faults sink.old sink.new in
         IfOk words (λ words. Replays (map string_bytes words.items) of_source of_sink result) }
     ensures fault { IfErr words (λ fault. result ≡ code_of_fault fault) }

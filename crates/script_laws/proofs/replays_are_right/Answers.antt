@@ -9,10 +9,10 @@ pub returns-clause-written : goal.returns-clause-written
 returns-clause-written g c =
     let laws = g.met.K.Kit g.world.𝓛 g.world.𝓜 g.world.𝓡 ((λ s x. x), (λ x. x), (λ x. x), λ x. x) in
     λ source sink code plays.
-    Law.replayed g.K.Kit.rules g.K.Scene.Scene.paints
-    (Whole.steps_keep g.K.Kit.rules g.K.Scene.Scene.paints (λ base. laws.some_part (g.K.Kit.rules.start base) (laws.sound_start base)))
+    Law.replayed g.K.Kit.rules g.K.Kit.cut
+    (Whole.steps_keep g.K.Kit.rules g.K.Kit.cut (λ base. laws.some_part (g.K.Kit.rules.start base) (laws.sound_start base)))
     (λ out seats document played.
-    Shown.transcript_right g.K.Kit.rules g.K.Scene.Scene.paints (λ base. laws.some_part (g.K.Kit.rules.start base) (laws.sound_start base))
+    Shown.transcript_right g.K.Kit.rules g.K.Kit.cut (λ base. laws.some_part (g.K.Kit.rules.start base) (laws.sound_start base))
     (λ d kept quiet.
     Quiet.quiet_is_right g.K.Kit.rules d
     (λ base journal version n place wide high le clean.
@@ -23,4 +23,4 @@ returns-clause-written g c =
 
 pub returns-clause-done : goal.returns-clause-done
 returns-clause-done g c = λ source sink plays.
-    Law.done_by g.K.Kit.rules g.K.Scene.Scene.paints plays.0 source sink plays.2 plays.1.ended
+    Law.done_by g.K.Kit.rules g.K.Kit.cut plays.0 source sink plays.2 plays.1.ended
