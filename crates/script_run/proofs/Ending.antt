@@ -1,17 +1,16 @@
 -- A script that has its end comes to it.
-use Rattle.std.proofs.Common.{◌≡◌, ◌≢◌, ◌∙◌, ℕ, ◌+◌, ◌<◌, ◌≤◌, ◌⊎◌, inl, inr, List, [], ◌∷◌, ◌++◌, length, length-append, refl, ap, sym, subst, append_assoc, arith, Option, None, Some}
+use Rattle.std.proofs.Common.{◌≡◌, ◌∙◌, ℕ, ◌+◌, ◌<◌, ◌≤◌, ◌⊎◌, inl, inr, List, [], ◌∷◌, ◌++◌, length, length-append, refl, ap, sym, subst, append_assoc, arith, Option, None, Some}
 use Rattle.std.specs.List.{AllByRecursion}
 use Rattle.std.proofs.lemmas.List.{append-nil}
-use Rattle.outside.specs.Causes.{Rose, HasCause}
+use Rattle.outside.specs.Causes.{Rose}
 use Rattle.outside.specs.Streams.{Takes, IsAtEnd}
 use Rattle.script_lines.specs.Places.{Place}
-use Rattle.script_lines.specs.Grammar.{Verdict}
-use Rattle.script_lines.specs.Grammar.{Acts, Ends, Refused}
+use Rattle.script_lines.specs.Grammar.{Ends, Refused}
 use Rattle.script_lines.specs.Grammar.{verdict, followed, place_after}
 use Rattle.script_lines.specs.Lines.{IsUnbroken, IsLine, joined}
 use Rattle.script_run.specs.declared.status.Status.{Status}
 use Rattle.script_run.specs.declared.status.Status.TheVariants.{Done, WrongWords, FaultLine, ReadFault, WriteFault, Memory, NoEnd}
-use Rattle.script_run.specs.Transcript.{budget, Runs, Spells, Ended}
+use Rattle.script_run.specs.Transcript.{budget, Ended}
 use Rattle.script_run.specs.Outcome.{Outcome}
 use Rattle.script_run.specs.Uses.{SourceUse, SinkUse}
 use Rattle.script_run.specs.Complete.{HasEnd}

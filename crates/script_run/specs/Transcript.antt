@@ -1,7 +1,7 @@
 -- The transcript of a script, and why it ends with a status. A script is played on states: `place` says
 -- where its grammar stands, `step` what a line that acts writes and leads to, `under` what a line that is
 -- under way has made so far.
-use Rattle.std.specs.Prelude.{ℕ, ◌≡◌, ◌+◌, ◌<◌, ◌≤◌, List, [], ◌∷◌, ◌++◌, length, Option, ◌⊎◌}
+use Rattle.std.specs.Prelude.{ℕ, ◌≡◌, ◌+◌, ◌<◌, ◌≤◌, List, [], ◌∷◌, ◌++◌, length, ◌⊎◌}
 use Rattle.std.specs.List.{AllByRecursion}
 use Rattle.outside.specs.Streams.{Takes, Adds, IsAtEnd}
 use Rattle.script_lines.specs.Places.{Place}
