@@ -102,8 +102,8 @@ pub replayed_nothing : (words : List (List ℕ)) (source : SourceUse) (sink : Si
 replayed_nothing words source sink no_patch no_sheet same_source same_sink = record {
   patch = λ form. absurd (no_patch form);
   sheet = λ form. absurd (no_sheet form);
-  words = (λ _ form. elim form [ | inl patch ↦ no_patch patch | inr sheet ↦ no_sheet sheet ], λ _. refl);
+  words = (λ _ form. elim form [ inl patch ↦ no_patch patch | inr sheet ↦ no_sheet sheet ], λ _. refl);
   read = record { later = omega (arith, same_source); failed = λ is. absurd (omega (arith, is)); kept = λ _. same_source };
   write = record { later = omega (arith, same_sink); failed = λ is. absurd (omega (arith, is)); kept = λ _. same_sink };
-  complete = λ left form told ends read write. elim form [ | inl patch ↦ absurd (no_patch patch) | inr sheet ↦ absurd (no_sheet sheet) ];
+  complete = λ left form told ends read write. elim form [ inl patch ↦ absurd (no_patch patch) | inr sheet ↦ absurd (no_sheet sheet) ];
 }

@@ -2,7 +2,8 @@
 ghost use Rattle.std.specs.Prelude.{◌≡◌, ℕ, List, Some, Err, OnOk, IfErr};
 ghost use Rattle.outside.specs.Causes.{HasCause};
 ghost use Rattle.outside.specs.Streams.{Adds};
-ghost use Rattle.cool_script.specs.Script.{Does, Doing, Halted, Obeys};
+ghost use Rattle.script_run.specs.Determined.{StepsOnce, StaysGood};
+ghost use Rattle.cool_script.specs.Script.{Acting, Does, Doing, Halted, IsGood, Obeys};
 
 use kit_trait::{Kit, PatchKit};
 use outside::Sink;
@@ -106,6 +107,15 @@ fn act<K: Kit, T: Sink>(
     }
 }
 
+// A law: what a line that acts writes, and where it leads, is no choice.
+fn steps_once<K: Kit>()
+    ensures once { StepsOnce (Acting K.rules K.cut) (IsGood K.rules) }
+    ensures stays { StaysGood (Acting K.rules K.cut) (IsGood K.rules) }
+{
+    turns_have_one_record::<K>();
+    settling_has_one_record::<K>();
+}
+
 impl Play for Script<PatchKit> {
     ghost use Rattle.kit_trait.specs.Patch.{patch_rules};
     ghost use Rattle.kit_trait.specs.PatchSeen.{patch_cut};
@@ -126,8 +136,7 @@ impl Play for Script<PatchKit> {
     ghost is_good = { IsGood patch_rules };
 
     fn steps_once() {
-        turns_have_one_record::<PatchKit>();
-        settling_has_one_record::<PatchKit>();
+        steps_once::<PatchKit>();
     }
 
     fn answer<T: Sink>(
@@ -163,8 +172,7 @@ impl Play for Script<SheetKit> {
     ghost is_good = { IsGood sheet_kind };
 
     fn steps_once() {
-        turns_have_one_record::<SheetKit>();
-        settling_has_one_record::<SheetKit>();
+        steps_once::<SheetKit>();
     }
 
     fn answer<T: Sink>(
