@@ -2,7 +2,8 @@
 # Plays each tests/scripts/NAME.script by built programs, and compares what they write with NAME.transcript, byte for
 # byte, and their status with that in NAME.status (no file: 0). NAME.words has the program's words (no file: replay
 # patch). The programs are those of COOLWSD, paths that blanks divide, else the two that `rt ci` left in
-# crates/coolwsd/out: the one that LLVM built and the one that Rattle's own compiler built.
+# crates/coolwsd/out: the one that LLVM built and the one that Rattle's own compiler built. Where that compiler left
+# none, which rt ci tells, a line `skipped: ..` says so.
 #
 #     tests/run_scripts.sh           all scripts
 #     tests/run_scripts.sh NAME..    these
@@ -52,7 +53,10 @@ fi
 [ ${#names[@]} -gt 0 ] || fail "tests/scripts" "there are no scripts"
 
 for program in "${programs[@]}"; do
-    if [ ! -x "$program" ]; then
+    if [ ! -x "$program" ] && [ -z "${COOLWSD:-}" ] && [ "${program##*.}" = by-rattle ]; then
+        echo "skipped: the golden scripts by Rattle's own compiler, which left no program"
+        continue
+    elif [ ! -x "$program" ]; then
         fail "${program##*/}" "there is no such program: run rt ci first"
         continue
     fi

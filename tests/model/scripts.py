@@ -288,6 +288,29 @@ class Drawn:
                 self.add(self.pick("settle", f"turn 0 {self.draw.randint(1, 12)}"))
         self.end()
 
+    def looks(self):
+        """Tiles with grid lines and without, side by side, on either document."""
+        self.is_sheet, self.across, self.down = self.chance(0.6), 3840, 1200
+        self.open("rw")
+        self.open("ro")
+        look = lambda: self.pick("", "", " nviewid=0", " nviewid=1", " nviewid=1", " nviewid=01", " nviewid=2", " nviewid=2147483647")
+        bad = lambda: self.pick(" nviewid=", " nviewid=x", " nviewid=-1", " nviewid=1 nviewid=1", " nviewid=2147483648")
+        for _ in range(self.draw.randint(12, 20)):
+            link = self.draw.choice(self.live)
+            kind = self.draw.randrange(7)
+            if kind < 2:
+                self.tile(link, self.pick((8, 8, 960, 240), (8, 8, 240, 120)))
+                self.lines[-1] += look() if self.chance(0.9) else bad()
+            elif kind == 2:
+                zoom = self.zoom(link, self.pick((8, 8, 960, 240), (8, 8, 480, 240)))
+                self.lines[-1] += look() if self.chance(0.9) else bad()
+                self.area(link, zoom, 2, 2)
+            elif kind < 5:
+                self.act(self.live[0])
+            else:
+                self.add(self.pick("settle", "turn 0 2", f"say {link} canceltiles"))
+        self.end()
+
     def edges(self):
         """A sheet at its edges: the last cell, long texts, keys that change nothing, many cells at once."""
         self.is_sheet = True
