@@ -4,13 +4,16 @@ use Rattle.std.specs.List.{list_all}
 use Rattle.cool_message.specs.declared.message.ClientMessage.{ClientMessage}
 use Rattle.cool_message.specs.declared.message.ClientMessage.TheVariants.{Tile, TileCombine}
 use Rattle.cool_message.specs.declared.message.CombineWords.{CombineWords}
-use Rattle.tile_key.specs.Places.{Place, is_key}
+use Rattle.tile_key.specs.Places.{Place, is_key, look_of}
 use Rattle.tile_key.specs.Words.{place_of}
 
 -- the place of a `tilecombine` at one pair of its positions
 abbrev pub place_at : CombineWords → ℕ × ℕ → Place
 place_at w at =
-    record { part = w.part; width = w.width; height = w.height; posx = at.0; posy = at.1; tilewidth = w.tilewidth; tileheight = w.tileheight }
+    record {
+      part = w.part; width = w.width; height = w.height; posx = at.0; posy = at.1;
+      tilewidth = w.tilewidth; tileheight = w.tileheight; nviewid = look_of w.nviewid;
+    }
 
 -- the places that a message names, in the order given: the one of `tile`, the pairs of `tilecombine`, and
 -- none of another

@@ -61,6 +61,7 @@ fn words_at(words: &CombineWords, tileposx: u32, tileposy: u32) -> TileWords
         tileposy,
         tilewidth: words.tilewidth,
         tileheight: words.tileheight,
+        nviewid: words.nviewid,
     }
 }
 

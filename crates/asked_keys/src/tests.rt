@@ -15,6 +15,7 @@ fn tile(part: u32, tileposx: u32) -> ClientMessage {
         tileposy: 240,
         tilewidth: 240,
         tileheight: 240,
+        nviewid: 0,
     })
 }
 
@@ -27,6 +28,7 @@ fn combine(alloc: Global, part: u32, xs: &[u32], ys: &[u32]) -> Result<ClientMes
         tileposy: ListOf::of(Vec::from_slice(alloc, ys)?),
         tilewidth: 240,
         tileheight: 240,
+        nviewid: 0,
     }))
 }
 

@@ -97,7 +97,7 @@ fn fits(words: &[&str], kind: Kind, text: &str) -> bool
         Kind::Address => 1 <= text.len() && text.len() <= 8192,
         Kind::KeyType => text == "input" || text == "up",
         Kind::MouseType => text == "buttondown" || text == "buttonup" || text == "move",
-        Kind::Number => read_u31(text.as_bytes()).is_some(),
+        Kind::Number | Kind::Look => read_u31(text.as_bytes()).is_some(),
         Kind::Numbers => is_list_31(text),
         Kind::AsManyNumbers => {
             is_list_31(text) && count_parts(text) == count_parts(text_of(words, Word::TilePosX))

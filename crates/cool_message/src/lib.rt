@@ -20,6 +20,3 @@ pub use message::{ClientMessage, CombineWords, KeyKind, MouseKind};
 pub use reading::read_message;
 pub use table::{Command, Field, Kind};
 pub use write::write_message;
-
-#[cfg(test)]
-mod tests;

@@ -3,7 +3,7 @@ use Rattle.std.proofs.Common.{◌≡◌, ◌≢◌, ℕ, ◌<◌, ◌≤◌, Boo
 use Rattle.std.specs.Prelude.{nat_lt, nat_le, IfSome, Result}
 use Rattle.std.specs.List.{list_any, list_all, AllByRecursion}
 use Rattle.std.proofs.lemmas.Bool.{and_parts, or_parts, ltb-true, ltb-false}
-use Rattle.asked_keys.specs.Asked.{is_key_of, keys_of, places_of}
+use Rattle.cool_message.specs.Asked.{is_key_of, keys_of, places_of}
 use Rattle.cool_base.specs.Points.{Rectangle}
 use Rattle.cool_frame.specs.declared.kind.ErrorKind.TheVariants.{InputsFull, ReadOnly, AskedFull, BadTile, TooLarge}
 use Rattle.cool_message.specs.Reading.{reading}
@@ -164,7 +164,8 @@ module _ {C B S : Type 0} (rules : Rules C B) (d : Document S) (view : View) whe
     message_fine count (TileCombine words) = asking_fine _ (keys_of (parts_of rules d.base) (TileCombine words)) (keys_are (parts_of rules d.base) (TileCombine words))
     message_fine count CancelTiles = tt
     message_fine count (VisibleArea area) = looking_fine area _
-    message_fine count (Zoom pixel_w pixel_h twip_w twip_h) = zooming_fine (record { pixel_w = pixel_w; pixel_h = pixel_h; twip_w = twip_w; twip_h = twip_h })
+    message_fine count (Zoom pixel_w pixel_h twip_w twip_h nviewid) =
+        zooming_fine (record { pixel_w = pixel_w; pixel_h = pixel_h; twip_w = twip_w; twip_h = twip_h; nviewid = nviewid })
     message_fine count (SetPart part) = going_fine part
     message_fine count (TileProcessed wids) = tt
     message_fine count (Save keep skip) = tt
