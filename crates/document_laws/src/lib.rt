@@ -10,7 +10,7 @@ ghost use Rattle.std.specs.List.{list_any, AllByRecursion};
 ghost use Rattle.document_laws.specs.Apart.{AreApart};
 ghost use Rattle.document_laws.specs.AtOnce.{all_answered, numbers, IsAcknowledged};
 ghost use Rattle.document_laws.specs.InARow.{WorkInARow};
-ghost use Rattle.document_laws.specs.Tiles.{IsShown, IsNoStepBack, AreNumbered};
+ghost use Rattle.document_laws.specs.Tiles.{IsShown, IsNoStepBack, AreNumbered, AreDelivered, StepsWith, versions_to};
 ghost use Rattle.document_laws.specs.Whole.{IsWhole};
 ghost use Rattle.document_machine.specs.Due.{touched, is_due, is_out, has_room, keys};
 ghost use Rattle.document_machine.specs.Event.{Event as Happening, Painted};
@@ -20,7 +20,7 @@ ghost use Rattle.document_machine.specs.Next.{next_pair, none_kept};
 ghost use Rattle.document_machine.specs.Outputs.{nothing};
 ghost use Rattle.document_machine.specs.Quiet.{IsQuiet, is_quiet, IsRight, AllRight};
 ghost use Rattle.document_machine.specs.Rank.{IsLower, due_pairs, jobs_due, left_to_do, rank};
-ghost use Rattle.document_machine.specs.Run.{Segment};
+ghost use Rattle.document_machine.specs.Run.{Run, Segment};
 ghost use Rattle.document_machine.specs.State.{View, Document, find_view, opening};
 ghost use Rattle.document_machine.specs.Step.{Applies, Cuts, Rests, Says, Sends, Step, Works};
 ghost use Rattle.document_machine.specs.declared.outs.Outs.{Outs as Given};
@@ -63,6 +63,22 @@ pub fn tiles_show_prefixes<K: Kit>()
 /// screen has the key.
 pub fn screens_never_step_back<K: Kit>()
     ensures { (old new : Document K.Scene) (event : Happening K.Scene) (outs : Given K.Scene) → IsWhole K.rules old → Step K.rules K.cut old event outs new → (id : ℕ) (before later : View) → find_view old.views id ≡ Some before → find_view new.views id ≡ Some later → IsNoStepBack before later }
+{}
+
+/// Of the tiles of a key that a step gives to a view none is a step back on the screen that the view had,
+/// and each is what its screen then has (`step`). Of two tiles of a key that a view was given in a run, and
+/// between which its screen had the key, the later has no lower version (`run`).
+pub fn frames_never_step_back<K: Kit>()
+    ensures step { (old new : Document K.Scene) (event : Happening K.Scene) (outs : Given K.Scene)
+        → IsWhole K.rules old → Step K.rules K.cut old event outs new
+        → (id : ℕ) (key : Place) → (versions_to id key outs.frames ≡ [])
+        ⊎ AreDelivered K.rules old new id key (versions_to id key outs.frames) }
+    ensures run { (old mid late new : Document K.Scene) (first last : Happening K.Scene)
+        (between : List (Happening K.Scene)) (outs held later : Given K.Scene) (id : ℕ) (key : Place)
+        → IsWhole K.rules old → StepsWith K.rules K.cut id key old first outs mid
+        → Run (StepsWith K.rules K.cut id key) mid between held late → Step K.rules K.cut late last later new
+        → AllByRecursion (λ n. AllByRecursion (λ m. n ≤ m) (versions_to id key later.frames))
+        (versions_to id key outs.frames) }
 {}
 
 /// The tiles that a step gives to a view that was there and stays have the view's next numbers, one after
