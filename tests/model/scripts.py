@@ -291,8 +291,8 @@ class Drawn:
     def looks(self):
         """Tiles with grid lines and without, side by side, on either document."""
         self.is_sheet, self.across, self.down = self.chance(0.6), 3840, 1200
-        self.open("rw")
-        self.open("ro")
+        for rights in ("rw", "ro"):
+            self.zoom(self.open(rights), (8, 8, 960, 240))
         look = lambda: self.pick("", "", " nviewid=0", " nviewid=1", " nviewid=1", " nviewid=01", " nviewid=2", " nviewid=2147483647")
         bad = lambda: self.pick(" nviewid=", " nviewid=x", " nviewid=-1", " nviewid=1 nviewid=1", " nviewid=2147483648")
         for _ in range(self.draw.randint(12, 20)):

@@ -4,7 +4,7 @@ use Rattle.std.specs.Prelude.{nat_le, nat_lt, IfSome, Ok, Err, codes}
 use Rattle.std.specs.List.{list_all, AllByRecursion}
 use Rattle.std.proofs.lemmas.Bool.{and_parts}
 use Rattle.std.proofs.lemmas.Bool.Decides.{nat_tests}
-use Rattle.asked_keys.specs.Asked.{is_key_of, keys_of, places_of}
+use Rattle.cool_message.specs.Asked.{is_key_of, keys_of, places_of}
 use Rattle.cool_base.specs.Points.{Rectangle, Extent}
 use Rattle.cool_frame.specs.declared.kind.ErrorKind.TheVariants.{InputsFull, ReadOnly, AskedFull, TooLarge, BadTile}
 use Rattle.cool_message.specs.Reading.{reading}

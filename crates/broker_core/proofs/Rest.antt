@@ -16,7 +16,8 @@ use Rattle.view_session.specs.Viewing.{Viewing, is_due, keys, entry_of, is_lacki
 use Rattle.broker_core.specs.Held.{Seat, views_of, IsSeated, Holds}
 use Rattle.broker_core.specs.Serving as serving
 use Rattle.broker_core.proofs.HeardBy.{document_of}
-use Rattle.broker_core.proofs.SeatWords.{same_is, stills_same}
+use Rattle.broker_core.proofs.SeatWords.{stills_same}
+use Rattle.view_session.proofs.OrderFacts.{same_is}
 
 or_true : (b : Bool) → (b || true) ≡ true
 or_true true = refl

@@ -1,8 +1,9 @@
 //! `Broker`: turns, painted jobs, and what is left to do.
 ghost use Rattle.std.specs.Prelude.{◌≡◌, ◌≢◌, [], length, map, true, false, None, IsSome, IfOk, OnErr};
 ghost use Rattle.std.specs.Option.{ForSome, option_map_or};
-ghost use Rattle.document_machine.specs.Event.{Painted};
+ghost use Rattle.document_machine.specs.Event.{Painted, Turned as TurnMade};
 ghost use Rattle.document_machine.specs.Next.{none_kept, IsFirst};
+ghost use Rattle.document_machine.specs.Outputs.{outs_of};
 ghost use Rattle.document_machine.specs.Quiet.{is_quiet};
 ghost use Rattle.document_machine.specs.State.{find_view};
 ghost use Rattle.document_machine.specs.Step.{Goes};
@@ -28,8 +29,10 @@ impl<K: Kit> Broker<K> {
     /// One turn: the next input is applied, or else a job is cut for the first key, in order of views and
     /// then of keys, that a view with room is due. Idle exactly where there is nothing to do. No job may be out, as
     /// `is_free` tells. After `Memory` the broker is spent.
+    #[tactic(auto, using(crate::proofs::Steps::turn_goes))]
     pub fn turn(&mut self) -> Result<Turned<K::Scene>, Memory>
         requires { ForSome self.old (λ d. d.jobs ≡ []) }
+        ensures step { IfOk result (λ turned. Goes K.rules K.cut self.old TurnMade (outs_of turned) self.new) }
         ensures turn { IfOk result (λ turned. GoesTo K.rules K.cut self.old turned self.new) }
         ensures first { IfOk result (λ turned. ForSome self.old (λ d. d.applied ≡ length d.journal → IsFirst K.rules none_kept d turned)) }
         ensures spent { OnErr result (self.new ≡ None) }

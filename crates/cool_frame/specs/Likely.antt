@@ -17,7 +17,8 @@ use Rattle.cool_frame.specs.declared.fault.FrameFault.TheVariants.{WrongLength, 
 use Rattle.cool_frame.specs.declared.kind.ErrorKind.{ErrorKind}
 use Rattle.cool_frame.specs.declared.kind.ErrorKind.TheVariants.{BadMessage, NotLoaded, AlreadyLoaded, BadUrl, LoadFailed, DocsFull, BookFull, MailFull, DocGone, BadFile, ViewsFull, ReadOnly, InputsFull, SavesFull, BadTile, TooLarge, AskedFull, SaveFailed}
 use Rattle.cool_frame.specs.Frames.{kind_text, frame_bytes, tile_line}
-use Rattle.cool_frame.specs.Reading.{is_command, is_letter, has_code, picture_length}
+use Rattle.cool_words.specs.Words.{is_command, is_letter}
+use Rattle.cool_frame.specs.Reading.{has_code, picture_length}
 
 infixl 10 ◌>>=◌
 abbrev pub ◌>>=◌ : {A B : Type 0} → Option A → (A → Option B) → Option B

@@ -11,8 +11,9 @@ ghost use Rattle.tile_key.specs.Words.{place_of};
 
 use crate::frame::Frame;
 use crate::kind::ErrorKind;
-use crate::scan::{command_text, is_command, large_in, number_in, side_in, small_in, word_in};
+use crate::scan::{large_in, number_in, side_in, small_in, word_in};
 use cool_base::{Memory, Rect, Size, TextOf, ViewId, Wid};
+use cool_words::{command_text, is_command};
 use kit_trait::KitName;
 use std::alloc::Global;
 use tile_key::{TileKey, TileWords, key_of};

@@ -2,7 +2,6 @@
 use Rattle.std.specs.Prelude.{ℕ, Bool, ◌&&◌, ◌||◌, not, ◌==◌, nat_lt, nat_le, List, [], ◌∷◌, length, Option, Some, None, is_some, is_none, unwrap_or, map, Result, Ok, Err, codes, if◌then◌else◌}
 use Rattle.std.specs.Borrow.{Bor}
 use Rattle.std.specs.Option.{option_map, option_or}
-use Rattle.std.specs.Result.{result_ok}
 use Rattle.std.specs.List.{list_all, find}
 use Rattle.std.specs.Str.{bytes_eq, is_utf8}
 use Rattle.cool_base.specs.Numbers.{number_31, number_64}
@@ -24,6 +23,7 @@ use Rattle.cool_message.specs.declared.table.Command.TheVariants as command
 use Rattle.cool_message.specs.declared.table.Field.{Field}
 use Rattle.cool_message.specs.declared.table.Kind.{Kind}
 use Rattle.cool_message.specs.declared.table.Kind.TheVariants as kind
+use Rattle.cool_message.specs.declared.limits.TheConstants.{MESSAGE_LIMIT, URL_LIMIT}
 use Rattle.cool_message.specs.Names.{name_of, command_named}
 use Rattle.cool_message.specs.Table.{fields_of, default_of}
 
@@ -40,7 +40,7 @@ text_of list name = unwrap_or (standing list name) []
 
 -- whether a text is a value of the kind, among these words
 abbrev pub fits : List (List ℕ) → Kind → List ℕ → Bool
-fits list kind.Address text = nat_le 1 (length text) && nat_le (length text) 8192
+fits list kind.Address text = nat_le 1 (length text) && nat_le (length text) URL_LIMIT
 fits list kind.KeyType text = bytes_eq text (codes "input") || bytes_eq text (codes "up")
 fits list kind.MouseType text =
     bytes_eq text (codes "buttondown") || bytes_eq text (codes "buttonup") || bytes_eq text (codes "move")
@@ -156,9 +156,5 @@ said (first ∷ others) =
 unfoldable pub reading : List ℕ → Result ClientMessage MessageFault
 reading text =
     if list_all is_blank text then Err Empty
-    else (if nat_lt 65536 (length text) then Err TooLong
+    else (if nat_lt MESSAGE_LIMIT (length text) then Err TooLong
     else (if not (is_utf8 text) then Err NotUtf8 else said (words text)))
-
--- the message that the text says, if it says one
-abbrev pub message_of : List ℕ → Option ClientMessage
-message_of text = result_ok (reading text)

@@ -7,7 +7,7 @@ use std::fmt;
 use thiserror::Error;
 
 /// Why a text is no message: the first of these that applies, in this order. `Memory` may come in
-/// place of any answer.
+/// place of any answer but the first three.
 #[derive(Clone, Copy, Debug, PartialEq, Eq, Error)]
 pub enum MessageFault {
     #[error("no word")]

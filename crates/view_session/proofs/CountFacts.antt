@@ -1,7 +1,6 @@
 -- How many keys are asked for, where some more are.
 use Rattle.std.proofs.Common.{◌≡◌, ℕ, suc, ◌+◌, ◌<◌, ◌≤◌, Bool, true, false, ◌||◌, cond, List, [], ◌∷◌, ◌++◌, length, drop, get_or, nat_lt, refl, ap, sym, subst, ◌∙◌, append_assoc, length-append, arith}
-use Rattle.std.proofs.lemmas.List.{drop_all, append-nil}
-use Rattle.std.proofs.Math.Seq.{drop-cons}
+use Rattle.std.proofs.lemmas.List.{drop_all, drop_more, append-nil}
 use Rattle.tile_key.specs.Places.{Place, same_place}
 use Rattle.document_machine.specs.Keys.{is_among}
 use Rattle.document_machine.specs.Message.{asked_with, asked_with_all}
@@ -56,6 +55,9 @@ not_above m n h = grind (arith, h)
 pub few_together : (most : ℕ) (asked keys : List Place) → length asked + length keys ≤ most → false ≡ nat_lt most (length (asked_with_all asked keys))
 few_together most asked keys h = let m = all_most keys asked in not_above most _ (omega (arith, m, h))
 
+pub few_by : (most n : ℕ) → false ≡ nat_lt most n → n ≤ most
+few_by most n e = grind (arith, e)
+
 pub many_before : (most : ℕ) (asked keys : List Place) → most < length asked → true ≡ nat_lt most (length (asked_with_all asked keys))
 many_before most asked keys h = let m = all_grows keys asked in above most _ (omega (arith, m, h))
 
@@ -65,7 +67,7 @@ all_first asked keys fresh e = ap (λ (f : List Place). asked_with_all (asked ++
 
 all_next : (known keys : List Place) (i : ℕ) (key : Place) → i < length keys → key ≡ get_or keys i key → asked_with_all known (drop i keys) ≡ asked_with_all (asked_with known key) (drop (i + 1) keys)
 all_next known keys i key h e =
-    let cut : drop i keys ≡ key ∷ drop (suc i) keys = drop-cons keys i key ∙ ap (λ (k : Place). k ∷ drop (suc i) keys) (sym e) in
+    let cut : drop i keys ≡ key ∷ drop (i + 1) keys = drop_more keys i key h ∙ ap (λ (k : Place). k ∷ drop (i + 1) keys) (sym e) in
     rw cut refl
 
 pub all_known : (known keys all : List Place) (i : ℕ) (key : Place) → i < length keys → key ≡ get_or keys i key → true ≡ is_among known key → asked_with_all known (drop i keys) ≡ all → asked_with_all known (drop (i + 1) keys) ≡ all
