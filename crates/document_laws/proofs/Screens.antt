@@ -1,5 +1,5 @@
 -- Why a tile is what its view's screen then has, and why versions of tiles never go down.
-use Rattle.std.proofs.Common.{◌≡◌, ◌≢◌, ℕ, ◌<◌, ◌≤◌, Bool, true, false, ◌&&◌, ◌||◌, cond, nat_eq, List, [], ◌∷◌, ◌++◌, length, map, Option, None, Some, refl, ap, sym, subst, ◌∙◌, arith, inl, inr, append_assoc, append-nil}
+use Rattle.std.proofs.Common.{◌≡◌, ℕ, ◌<◌, ◌≤◌, Bool, true, false, ◌&&◌, ◌||◌, cond, nat_eq, List, [], ◌∷◌, ◌++◌, length, map, Option, None, Some, refl, ap, sym, subst, ◌∙◌, arith, inl, inr, append_assoc, append-nil}
 use Rattle.std.specs.Prelude.{◌⊎◌, nat_lt}
 use Rattle.std.specs.List.{flat_map, AllByRecursion}
 use Rattle.std.proofs.lemmas.Bool.{cases_Bool, and_parts, eqb-true, leb-true}
@@ -20,7 +20,7 @@ use Rattle.document_machine.specs.State.{View, Job, Document, find_view, with_vi
 use Rattle.document_machine.specs.Step.{JoinsWhere, Works, Paints, Step, told, offered, views_offered, tile_for, tiles_for}
 use Rattle.document_machine.specs.declared.outs.Outs.{Outs}
 use Rattle.document_machine.specs.declared.rights.Rights.{Rights}
-use Rattle.document_laws.specs.Tiles.{IsNoStepBack, IsOnScreen, AreDelivered, HasKey, StepsWith, version_in, versions_to}
+use Rattle.document_laws.specs.Tiles.{IsOnScreen, AreDelivered, HasKey, StepsWith, version_in, versions_to}
 use Rattle.document_laws.specs.Whole.{IsWhole}
 use Rattle.document_laws.proofs.Acknowledged.{found_with}
 use Rattle.document_laws.proofs.KeyOrder.{same_is}

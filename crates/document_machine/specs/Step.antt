@@ -4,7 +4,7 @@ use Rattle.std.specs.List.{list_any, flat_map, AllByRecursion}
 use Rattle.cool_base.specs.declared.ids.ViewId.{ViewId}
 use Rattle.cool_frame.specs.declared.frame.Frame.{Frame}
 use Rattle.cool_frame.specs.declared.frame.Frame.TheVariants.{Status, Invalidate}
-use Rattle.kit_trait.specs.Rules.{Rules, doc, shown}
+use Rattle.kit_trait.specs.Rules.{Rules, doc}
 use Rattle.kit_trait.specs.declared.values.Damage.{Damage}
 use Rattle.kit_trait.specs.declared.values.Input.{Input}
 use Rattle.kit_trait.specs.declared.jobs.PaintJob.{PaintJob}
