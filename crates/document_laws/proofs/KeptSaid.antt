@@ -3,7 +3,7 @@ use Rattle.std.proofs.Common.{◌≡◌, ◌≢◌, ℕ, ◌<◌, ◌≤◌, Boo
 use Rattle.std.specs.Prelude.{nat_lt, nat_le, IfSome, Result}
 use Rattle.std.specs.List.{list_any, list_all, AllByRecursion}
 use Rattle.std.proofs.lemmas.Bool.{and_parts, or_parts, ltb-true, ltb-false}
-use Rattle.asked_keys.specs.Asked.{is_key_of, keys_of, places_of}
+use Rattle.cool_message.specs.Asked.{is_key_of, keys_of, places_of}
 use Rattle.cool_base.specs.Points.{Rectangle}
 use Rattle.cool_frame.specs.declared.kind.ErrorKind.TheVariants.{InputsFull, ReadOnly, AskedFull, BadTile, TooLarge}
 use Rattle.cool_message.specs.Reading.{reading}

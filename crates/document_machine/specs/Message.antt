@@ -2,7 +2,7 @@
 use Rattle.std.specs.Prelude.{ℕ, not, List, [], ◌∷◌, ◌++◌, length, filter, nat_eq, nat_le, nat_lt, Option, None, Some, Result, Ok, Err, codes, if◌then◌else◌}
 use Rattle.std.specs.List.{list_any}
 use Rattle.cool_base.specs.Points.{Rectangle, Extent}
-use Rattle.asked_keys.specs.Asked.{keys_of}
+use Rattle.cool_message.specs.Asked.{keys_of}
 use Rattle.cool_frame.specs.declared.kind.ErrorKind.{ErrorKind}
 use Rattle.cool_frame.specs.declared.kind.ErrorKind.TheVariants.{BadMessage, AlreadyLoaded, ReadOnly, InputsFull, BadTile, TooLarge, AskedFull}
 use Rattle.cool_base.specs.declared.ids.ViewId.{ViewId}
