@@ -28,6 +28,7 @@ use Rattle.document_laws.proofs.KeptViews.{asked_still, map_ids}
 use Rattle.document_laws.proofs.Ordered.{weaker}
 use Rattle.document_laws.proofs.Rising.{Follows, back_before, find_map, find_offers, newer_not_back, offered_follows, offered_id, offers_to, steps_rise, without_same}
 use Rattle.document_laws.proofs.Sending.{with_same, screen_other}
+use Rattle.document_laws.proofs.Tiles.{all_append}
 use Rattle.document_laws.proofs.Whole.{steps_keep}
 
 -- versions in two lists of frames
@@ -36,11 +37,6 @@ versions_append id key [] ys = refl
 versions_append id key (x ∷ xs) ys =
     ap (λ ns. version_in id key x ++ ns) (versions_append id key xs ys)
     ∙ sym (append_assoc (version_in id key x) (versions_to id key xs) (versions_to id key ys))
-
--- what holds of two lists holds of both together
-all_both : {X : Type 0} (P : X → Type 0) (xs ys : List X) → AllByRecursion P xs → AllByRecursion P ys → AllByRecursion P (xs ++ ys)
-all_both P [] ys a b = b
-all_both P (x ∷ xs) ys a b = (a.0, all_both P xs ys a.1 b)
 
 -- frames that are no tiles
 one_told : (id : ℕ) (key : Place) (view : View) (damage : List Damage) → versions_to id key (map (λ d. (named view.id, Invalidate d.part d.rect)) damage) ≡ []
@@ -182,7 +178,7 @@ module _ {C B S : Type 0} (rules : Rules C B) (d : Document S) (n : ℕ) where
       let rest : AllByRecursion P (versions_to id key (tiles_for rules d n keys (map (offered rules d n k) views))) =
       all_delivered v keys (map (offered rules d n k) views) id (offered rules d n k u) key (map_ids views (offered rules d n k) (offered_id rules d n k) order) (find_map rules d n k views id u live) (offered_follows rules d n v k key u follows) in
       subst (AllByRecursion P) (sym (versions_append id key (flat_map (tile_for rules d n k) views) (tiles_for rules d n keys (map (offered rules d n k) views))))
-      (all_both P (versions_to id key (flat_map (tile_for rules d n k) views)) (versions_to id key (tiles_for rules d n keys (map (offered rules d n k) views))) first rest)
+      (all_append P (versions_to id key (flat_map (tile_for rules d n k) views)) (versions_to id key (tiles_for rules d n keys (map (offered rules d n k) views))) first rest)
 
   -- painted tiles go to no view that isn't there
   nobody_there : (views : List View) (k key : Place) (id : ℕ) → find_view views id ≡ None → versions_to id key (flat_map (tile_for rules d n k) views) ≡ []

@@ -24,7 +24,7 @@ use Rattle.document_laws.specs.Whole.{IsWhole}
 use Rattle.document_laws.proofs.Whole.{found_job, steps_keep}
 
 -- what holds of two lists holds of both together
-all_append : {X : Type 0} (P : X → Type 0) (xs ys : List X) → AllByRecursion P xs → AllByRecursion P ys → AllByRecursion P (xs ++ ys)
+pub all_append : {X : Type 0} (P : X → Type 0) (xs ys : List X) → AllByRecursion P xs → AllByRecursion P ys → AllByRecursion P (xs ++ ys)
 all_append P [] ys a b = b
 all_append P (x ∷ xs) ys a b = (a.0, all_append P xs ys a.1 b)
 
