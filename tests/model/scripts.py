@@ -264,6 +264,22 @@ class Drawn:
             self.say(200, "tile part=0 width=4 height=4 tileposx=0 tileposy=0 tilewidth=240 tileheight=240")
             self.add("say 166 coolclient", "settle", "end")
 
+    def zooms(self):
+        """Zooms under which a view would see as many tiles and pixels as it may, and one more."""
+        link = self.open("rw")
+        whole = (1, 1, 61440, 61440)
+        self.zoom(link, whole)
+        self.say(link, f"clientvisiblearea x=0 y=0 width={self.pick(3840, 9999)} height=3840")
+        for zoom in self.draw.sample([(1, 1, 60, 60), (1, 1, 60, 59), (1, 1, 59, 60), (2, 1, 15, 960), (2, 1, 15, 240), (2, 1, 15, 239),
+                                      (64, 64, 60, 60), (64, 65, 60, 60), (65, 64, 60, 60), (128, 128, 120, 120), (128, 128, 119, 120),
+                                      (256, 16, 60, 60), (256, 17, 60, 60), (1, 1, 15, 15), (256, 256, 239, 240)], 11):
+            self.zoom(link, zoom)
+            if self.chance(0.3):
+                self.add("turn 0 5")
+            self.zoom(link, whole)
+        self.act(link)
+        self.end()
+
     def sheet(self):
         """Writers in a sheet: cursors, formulas, circles, and the tiles of the cells that they change."""
         self.is_sheet, self.across, self.down = True, 3840, 1200

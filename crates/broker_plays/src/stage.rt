@@ -141,9 +141,10 @@ impl<K: Kit> Stage<K> {
     }
 
     fn loads(&mut self, alloc: Global, count: u32, value: u32) -> Result<(), Memory> {
+        let byte = u8::try_from(value).unwrap_or(0);
         let mut file = Vec::new(alloc);
         for _ in 0..count {
-            file.push(value as u8)?;
+            file.push(byte)?;
         }
         let file = Bytes::copy_from_slice(alloc, file.as_slice())?;
         let Some(broker) = started(alloc, &file)? else {

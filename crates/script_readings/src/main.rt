@@ -47,17 +47,23 @@ fn characters(alloc: Global, link: u32, typed: &[char]) -> Result<String, Memory
 }
 
 /// What the last of these lines does behind the others.
-fn judged(alloc: Global, lines: &str) -> Result<&'static str, Memory> {
+fn judged(alloc: Global, lines: &str) -> Result<Option<Judged>, Memory> {
     let mut place = Place::start(alloc);
-    let mut last = "none";
+    let mut last = None;
     for line in lines.split(';') {
-        last = match place.judge(alloc, line.as_bytes())? {
-            Judged::Acts(_) => "acts",
-            Judged::Ends => "ends",
-            Judged::Refused => "refused",
-        };
+        last = Some(place.judge(alloc, line.as_bytes())?);
     }
     Ok(last)
+}
+
+/// The word for what a line does.
+fn judgement(judged: &Option<Judged>) -> &'static str {
+    match judged {
+        None => "none",
+        Some(Judged::Acts(_)) => "acts",
+        Some(Judged::Ends) => "ends",
+        Some(Judged::Refused) => "refused",
+    }
 }
 
 /// The lines that are taken off a source of these bytes.
@@ -99,7 +105,10 @@ fn reading(alloc: Global, line: &str) -> Result<Vec<u8>, Memory> {
             let said = saying(alloc, &read_line(alloc, &text)?)?;
             Ok(said.into_bytes())
         }
-        "place" => Ok(Vec::from_slice(alloc, judged(alloc, rest)?.as_bytes())?),
+        "place" => {
+            let judged = judged(alloc, rest)?;
+            Ok(Vec::from_slice(alloc, judgement(&judged).as_bytes())?)
+        }
         "source" => {
             let bytes = percent_decoded(alloc, rest.as_bytes())?;
             Ok(taken(alloc, &bytes)?.into_bytes())
