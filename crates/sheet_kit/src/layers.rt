@@ -3,6 +3,7 @@ ghost use Rattle.std.specs.Prelude.{◌≡◌, ◌<◌, ◌≤◌, List, [], ◌
 ghost use Rattle.kit_trait.specs.Pictures.{white};
 ghost use Rattle.tile_raster.specs.Painting.{Shows};
 ghost use Rattle.sheet_rules.specs.declared.cuts.ShownText.{ShownText};
+ghost use Rattle.sheet_rules.specs.Colours.{has_lines};
 ghost use Rattle.sheet_rules.specs.Cuts.{cut_colour};
 ghost use Rattle.sheet_kit.specs.Layers.{column_line, row_line, on_columns, on_edges, on_lines, lined, cell_within};
 
@@ -13,6 +14,13 @@ use tile_raster::Canvas;
 
 // The colour of lines.
 const GREY: [u8; 4] = [192, 192, 192, 255];
+
+// Whether the area's look has lines.
+pub(crate) fn has_lines(area: &Area) -> bool
+    ensures { result ≡ has_lines area.now.nviewid }
+{
+    area.nviewid() == 0
+}
 
 // Draws the lines of the cells that the area meets, where there are lines.
 #[tactic(auto, using(crate::proofs::Layering::lines_drawn, crate::proofs::Layering::lines_left))]
@@ -90,10 +98,8 @@ pub(crate) fn draw_texts(canvas: &mut Canvas, area: &Area, lines: bool, texts: &
 fn draw_text(canvas: &mut Canvas, area: &Area, lines: bool, shown: &ShownText)
     requires width { area.now.width ≡ canvas.old.width }
     requires height { area.now.height ≡ canvas.old.height }
-    ensures {
-        (texts : List ShownText) → Shows (λ part. cut_colour lines texts) area.now canvas.old
-        → Shows (λ part. cut_colour lines (texts ++ shown.now ∷ [])) area.now canvas.new
-    }
+    ensures { (texts : List ShownText) → Shows (λ part. cut_colour lines texts) area.now canvas.old
+        → Shows (λ part. cut_colour lines (texts ++ shown.now ∷ [])) area.now canvas.new }
 {
     if shown.row >= 4_096 || shown.col >= 256 {
         return;
