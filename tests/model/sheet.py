@@ -130,7 +130,6 @@ class PatchScene:
 # ---- the sheet document
 
 LEAST, MOST = -2 ** 63, 2 ** 63 - 1
-TERM = r"(?:[A-Za-z]{1,2}[1-9][0-9]{0,3}|[0-9]{1,18})"
 
 
 def column_name(col):
@@ -148,24 +147,62 @@ def ref_of(word):
     return (row - 1, col - 1) if col <= 256 and row <= 4096 else None
 
 
-def terms_of(raw):
-    """The terms of a formula of the few kinds that the cases have: sums of references and numbers."""
-    if not re.fullmatch(rf"=\s*{TERM}(?: *\+ *{TERM})* *", raw):
+def formula_of(raw):
+    """The formula of a raw text, None where it has none: of the grammar the part that the cases have, which is
+    sums and differences of numbers and references, and one `=` between two of them."""
+    tokens = re.findall(r"[A-Za-z]+[0-9]*|[0-9]+|[^ ]", raw[1:]) if raw.startswith("=") else []
+    place = 0
+
+    def peek():
+        return tokens[place] if place < len(tokens) else ""
+
+    def factor():
+        nonlocal place
+        token = peek()
+        place += 1
+        if token == "-":
+            return ("-", factor())
+        if re.fullmatch(r"[0-9]{1,19}", token) and int(token) <= MOST:
+            return int(token)
+        if ref_of(token) is None:
+            raise ValueError
+        return ref_of(token)
+
+    def total():
+        nonlocal place
+        found = factor()
+        while peek() in ("+", "-"):
+            sign = peek()
+            place += 1
+            found = (sign, found, factor())
+        return found
+
+    try:
+        found = total()
+        if peek() == "=":
+            place += 1
+            found = ("=", found, total())
+        return found if place == len(tokens) else None
+    except ValueError:
         return None
-    terms = [term.strip() for term in raw[1:].split("+")]
-    if any(term[0].isalpha() and ref_of(term) is None for term in terms):
-        return None
-    return terms
+
+
+def refs_of(found):
+    if isinstance(found, int):
+        return []
+    if isinstance(found[0], int):
+        return [found]
+    return [ref for part in found[1:] for ref in refs_of(part)]
 
 
 def reads(cells, at):
-    terms = terms_of(cells.get(at, ""))
-    return [ref_of(term) for term in terms if term[0].isalpha()] if terms else []
+    found = formula_of(cells.get(at, ""))
+    return [] if found is None else refs_of(found)
 
 
 def circular(cells):
     """The cells from which a walk begins that has more steps than there are formulas."""
-    formulas = [at for at in cells if terms_of(cells[at])]
+    formulas = [at for at in cells if formula_of(cells[at]) is not None]
     walking = set(formulas)
     for _ in range(len(formulas) + 1):
         walking = {at for at in walking if any(to in walking for to in reads(cells, at))}
@@ -183,37 +220,42 @@ def values(cells):
             return int(raw)
         return raw
 
-    def operand(value):
-        if value is None:
-            return 0
-        if isinstance(value, str):
-            return ("#VALUE!",)
-        return value
+    def number(value):
+        return 0 if value is None else ("#VALUE!",) if isinstance(value, str) else value
+
+    def within(result):
+        return result if LEAST <= result <= MOST else ("#NUM!",)
+
+    def equal(left, right):
+        if left is None:
+            left = "" if isinstance(right, str) else 0
+        if right is None:
+            right = "" if isinstance(left, str) else 0
+        return 1 if left == right else 0
+
+    def evaluated(found):
+        if isinstance(found, int):
+            return found
+        if isinstance(found[0], int):
+            return value(found)
+        operands = [evaluated(part) for part in found[1:]]
+        if found[0] != "=":
+            operands = [number(operand) for operand in operands]
+        for operand in operands:
+            if isinstance(operand, tuple):
+                return operand
+        if found[0] == "=":
+            return equal(*operands)
+        if len(operands) == 1:
+            return within(-operands[0])
+        return within(operands[0] + operands[1] if found[0] == "+" else operands[0] - operands[1])
 
     def value(at):
-        if at in known:
-            return known[at]
-        raw = cells.get(at, "")
-        terms = terms_of(raw)
-        if not terms:
-            result = plain(raw)
-        elif at in ring:
-            result = ("#CIRC!",)
-        else:
-            parts = [value(ref_of(term)) if term[0].isalpha() else int(term) for term in terms]
-            result = parts[0]
-            for right in parts[1:]:
-                left, right = operand(result), operand(right)
-                if isinstance(left, tuple):
-                    result = left
-                elif isinstance(right, tuple):
-                    result = right
-                else:
-                    result = left + right
-                    if not LEAST <= result <= MOST:
-                        result = ("#NUM!",)
-        known[at] = result
-        return result
+        if at not in known:
+            raw = cells.get(at, "")
+            found = formula_of(raw)
+            known[at] = plain(raw) if found is None else ("#CIRC!",) if at in ring else evaluated(found)
+        return known[at]
 
     for at in cells:
         value(at)
@@ -224,7 +266,7 @@ def shown(cells):
     texts = {}
     known = values(cells)
     for at, raw in cells.items():
-        if terms_of(raw):
+        if formula_of(raw) is not None:
             value = known[at]
             texts[at] = ("0" if value is None else value[0] if isinstance(value, tuple)
                          else str(value) if isinstance(value, int) else value)
