@@ -84,17 +84,13 @@ fn compare<S: Scene>(
 // Prints a letter for each pixel, row by row.
 fn print_picture(rt: &impl Print, pixels: &Pixels) -> anyhow::Result<()> {
     println!(rt; "  {} by {}", pixels.width, pixels.height)?;
-    let mut column = 0;
-    for pixel in pixels.rgba.chunks(4) {
-        if column == 0 {
-            print!(rt; "  ")?;
+    let across = (4 * pixels.width as usize).max(4);
+    for row in pixels.rgba.chunks(across) {
+        print!(rt; "  ")?;
+        for pixel in row.chunks(4) {
+            print!(rt; "{}", letter_of(pixel))?;
         }
-        print!(rt; "{}", letter_of(pixel))?;
-        column += 1;
-        if column >= pixels.width {
-            println!(rt)?;
-            column = 0;
-        }
+        println!(rt)?;
     }
     Ok(())
 }

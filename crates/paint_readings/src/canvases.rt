@@ -99,17 +99,13 @@ fn rect_of(x: u32, y: u32, w: u32, h: u32) -> Option<Rect> {
 /// Prints a sign for each pixel, row by row.
 pub fn show(rt: &impl Print, pixels: &Pixels) -> anyhow::Result<()> {
     println!(rt; "  {} by {}", pixels.width, pixels.height)?;
-    let mut column = 0;
-    for pixel in pixels.rgba.chunks(4) {
-        if column == 0 {
-            print!(rt; "  ")?;
+    let across = (4 * pixels.width as usize).max(4);
+    for row in pixels.rgba.chunks(across) {
+        print!(rt; "  ")?;
+        for pixel in row.chunks(4) {
+            print!(rt; "{}", sign_of(pixel))?;
         }
-        print!(rt; "{}", sign_of(pixel))?;
-        column += 1;
-        if column >= pixels.width {
-            println!(rt)?;
-            column = 0;
-        }
+        println!(rt)?;
     }
     Ok(())
 }
