@@ -1,5 +1,5 @@
 -- The laws of the sheet document.
-use Rattle.std.proofs.Common.{◌≡◌, ℕ, zero, suc, ◌+◌, ◌<◌, ◌≤◌, Bool, true, false, nat_lt, List, [], ◌∷◌, length, Result, Ok, Err, ap, sym, ◌∙◌, subst, arith, lit≤, lit<, if◌then◌else◌, ltb-true, ltb-false}
+use Rattle.std.proofs.Common.{◌≡◌, ℕ, zero, suc, ◌+◌, ◌<◌, ◌≤◌, Bool, true, false, nat_lt, List, [], ◌∷◌, length, Result, Ok, Err, ap, sym, ◌∙◌, subst, arith, lit≤, lit<, if◌then◌else◌, ltb-true, ltb-false, lt-ltb}
 pub use Rattle.std.proofs.Common.{refl}
 use Rattle.std.specs.List.{list_any, AllByRecursion}
 use Rattle.std.specs.Result.{is_ok}
@@ -53,6 +53,11 @@ no_larger file parts e = by (nat_lt 2097152 (length file)) refl e
     by : (b : Bool) → nat_lt 2097152 (length file) ≡ b → (if b then Err TooLarge else lines_read (lines_of file)) ≡ Ok parts → length file ≤ 2097152
     by true h told = cc
     by false h told = ltb-false 2097152 (length file) h
+
+-- a file of more than 2,097,152 bytes is no book
+pub too_large : (file : List ℕ) → 2097152 < length file → is_ok (book_of file) ≡ false
+unfolding book_of
+too_large file h = rw (lt-ltb 2097152 (length file) h) refl
 
 empty_says : (parts : Parts) → book_of [] ≡ Ok parts → parts ≡ [] ∷ []
 unfolding book_of lines_of
