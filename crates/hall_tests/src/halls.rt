@@ -1,8 +1,8 @@
 ghost use Rattle.std.specs.Prelude.{◌≡◌, ◌≤◌};
 
-use crate::{Hall, HallPort, Port};
 use cool_base::{DocId, FileId};
 use hall_machine::{Entered, HallState, Label, Labelled, MailBag};
+use poll_hall::{Hall, HallPort, Port};
 use std::alloc::Global;
 use std::sync::Wait;
 use std::test::Fail;

@@ -1,5 +1,5 @@
-use crate::{CloseFault, Entered, HallFault, HallState, Label, Labelled, MailBag, Owner};
 use cool_base::{DocId, FileId};
+use hall_machine::{CloseFault, Entered, HallFault, HallState, Label, Labelled, MailBag, Owner};
 use std::test::Fail;
 use turn_lock::Booked;
 

@@ -1,11 +1,11 @@
 ghost use Rattle.std.specs.Prelude.{◌≡◌, ◌<◌, [], ◌∷◌, ◌++◌, length, List};
 ghost use Rattle.turn_lock.specs.Seats.{StaysOrAdds};
 
-use crate::{Booked, Seat, TurnLock};
 use std::alloc::Global;
 use std::sync::Wait;
 use std::test::Fail;
 use std::thread;
+use turn_lock::{Booked, Seat, TurnLock};
 
 // A list of numbers with a name.
 #[derive(Drop)]
