@@ -420,7 +420,6 @@ def cell_of(text):
 class Desk:
     def __init__(self, out):
         self.out = out
-        self.cell_parts, self.cells = 1, {}
         self.book = Book(1)
 
     def say(self, text):
@@ -461,12 +460,8 @@ class Desk:
             opening, _, closing = signs.partition(" ")
             depth = min(number_31(depth), 100)
             self.formula("=" + opening * depth + "1" + closing * depth, ROWS)
-        elif word == "cells":
-            if not 1 <= number_31(rest) <= 16:
-                return self.say("no cells")
-            self.cell_parts, self.cells = number_31(rest), {}
-        elif word in ("text", "look"):
-            self.cell(word, cell_of(rest))
+        elif word == "texts":
+            self.texts([cell_of(it) for it in (rest.split("|", 3) + [""] * 3)[:4]])
         elif word == "book":
             if not 1 <= number_31(rest) <= 16:
                 return self.say("no book")
@@ -497,14 +492,21 @@ class Desk:
         else:
             self.say("no such case")
 
-    def cell(self, word, cell):
-        if cell is None or word == "look" and cell[0][0] >= self.cell_parts:
-            return self.say("no cell")
-        if word == "text":
-            if cell[0][0] >= self.cell_parts or not is_raw(cell[1]):
-                return self.say("no cell or no raw text")
-            self.cells[cell[0]] = cell[1]
-        self.say(f"[{self.cells.get(cell[0], '')}]")
+    def texts(self, four):
+        cells = {}
+        four = [it if it and it[0][0] < 16 else None for it in four]
+        look = lambda it: self.say(f"[{cells.get(it[0], '')}]" if it else "no cell")
+        for number, it in enumerate(four):
+            if it and not is_raw(it[1]):
+                self.say("no raw text")
+            else:
+                if it:
+                    cells[it[0]] = it[1]
+                look(it)
+            if number % 2:
+                look(four[number - 1])
+        look(four[0])
+        look(four[1])
 
     def of_book(self, word, cell):
         if cell is None or word == "show" and cell[0][0] >= self.book.parts:

@@ -8,7 +8,5 @@
 
 mod dots;
 mod glyphs;
-#[cfg(test)]
-mod tests;
 
 pub use dots::{dot, other_characters_are_boxes, the_last_column_is_empty};

@@ -1,5 +1,5 @@
 -- A document once a view joined or left.
-use Rattle.std.proofs.Common.{◌≡◌, ◌∙◌, ℕ, ◌<◌, ◌+◌, true, not, List, [], ◌∷◌, ◌++◌, length, length-append, get_or, refl, sym, ap, subst, arith}
+use Rattle.std.proofs.Common.{◌≡◌, ◌∙◌, ℕ, ◌<◌, ◌≤◌, ◌+◌, true, Option, Some, None, not, List, [], ◌∷◌, ◌++◌, length, length-append, get_or, refl, sym, ap, subst, arith}
 use Rattle.std.specs.Prelude.{nat_lt, remove}
 use Rattle.std.proofs.lemmas.List.{length-map, map-append}
 use Rattle.std.proofs.lemmas.Bool.Decides.{nat_tests}
@@ -19,7 +19,7 @@ use Rattle.document_machine.specs.declared.rights.Rights.{Rights}
 use Rattle.document_machine.proofs.Lists.{all_push}
 use Rattle.view_session.specs.Keeps.{IsViewing}
 use Rattle.view_session.specs.Viewing.{Viewing, opening}
-use Rattle.broker_core.specs.Held.{Seat, view_of, views_of, IsSeated, Holds}
+use Rattle.broker_core.specs.Held.{Seat, view_of, views_of, IsSeated, IsFull, Holds}
 use Rattle.broker_core.specs.Places.{IsPlace}
 use Rattle.broker_core.proofs.HeardBy.{document_of}
 use Rattle.broker_core.proofs.SeatLists.{all_weaker, all_remove, pairs_push, pairs_remove, length-remove_one}
@@ -28,6 +28,18 @@ use Rattle.broker_core.proofs.SeatPlaces.{place_leaves}
 -- fewer than 64 views sit on fewer than 64 seats
 pub few_seats : (seats : List Seat) → length (views_of seats) < 64 → length seats < 64
 few_seats seats few = simp length-map at few
+
+-- a broker is full where its document has 64 views, and no spent one is
+pub full_by : {S : Type 0} (broker : Option (Document S)) (d : Document S) → broker ≡ Some d → 64 ≤ length d.views → IsFull broker
+full_by {S} broker d is many = subst (λ (b : Option (Document S)). IsFull b) (sym is) many
+
+pub not_full_by : {S : Type 0} (broker : Option (Document S)) (d : Document S) → broker ≡ Some d → length d.views < 64 → IsFull broker → ⊥
+not_full_by {S} broker d is few full =
+    let many : 64 ≤ length d.views = subst (λ (b : Option (Document S)). IsFull b) is full in
+    omega (arith, few, many)
+
+pub spent_not_full : {S : Type 0} (broker : Option (Document S)) → broker ≡ None → IsFull broker → ⊥
+spent_not_full {S} broker is full = subst (λ (b : Option (Document S)). IsFull b) is full
 
 -- one frame alone
 pub outs_by : {S : Type 0} (outs : Outs S) (frames : List (ViewId × Frame)) (id : ℕ) (frame told : Frame) → outs ≡ frames_only frames → frames ≡ (named id, frame) ∷ [] → frame ≡ told → outs ≡ one_frame id told

@@ -14,3 +14,4 @@ pub mod Search
 pub mod Steps
 pub mod Offers
 pub mod Rest
+pub mod Looks

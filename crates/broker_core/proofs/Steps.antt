@@ -1,5 +1,5 @@
 -- What the parts of a turn and of a painted result give is a step of the machine, and keeps what holds of them.
-use Rattle.std.proofs.Common.{◌≡◌, ℕ, zero, suc, ◌+◌, ◌<◌, ◌≤◌, true, false, List, [], ◌∷◌, ◌++◌, length, map, drop, get_or, Option, Some, None, refl, sym, ap, subst, ◌∙◌, inl, inr, arith, rules, append_assoc}
+use Rattle.std.proofs.Common.{◌≡◌, ℕ, zero, suc, ◌+◌, ◌<◌, ◌≤◌, true, false, List, [], ◌∷◌, ◌++◌, length, map, drop, get_or, Option, Some, None, refl, sym, ap, subst, ◌∙◌, arith, rules, append_assoc}
 use Rattle.std.specs.Prelude.{nat_lt, slice_get}
 use Rattle.std.specs.List.{list_any, sum_by}
 use Rattle.std.proofs.lemmas.Bool.Decides.{nat_tests}
@@ -13,17 +13,14 @@ use Rattle.kit_trait.specs.declared.values.Input.{Input}
 use Rattle.tile_key.specs.Places.{Place, IsArea, place_of_keys}
 use Rattle.document_machine.specs.Due.{parts_of, damage_of, is_out}
 use Rattle.document_machine.specs.Next.{next_pair, none_kept}
-use Rattle.document_machine.specs.Outputs.{named, frames_only, outs_of}
+use Rattle.document_machine.specs.Outputs.{named, frames_only}
 use Rattle.document_machine.specs.State.{Document, Job}
-use Rattle.document_machine.specs.Step.{Applies, Cuts, TurnsTo, Step, Goes, told, given, is_wanted}
-use Rattle.document_machine.specs.Event.{Turned}
+use Rattle.document_machine.specs.Step.{Applies, Cuts, told, given, is_wanted}
 use Rattle.document_machine.specs.declared.outs.Outs.{Outs}
-use Rattle.document_machine.specs.declared.outs.Turned.{Turned as TurnAnswer}
-use Rattle.document_machine.specs.declared.outs.Turned.TheVariants.{Worked, Idle}
 use Rattle.document_machine.proofs.Journal.{doc_more}
 use Rattle.document_machine.proofs.Lists.{all_at}
 use Rattle.broker_core.specs.Held.{Seat, views_of, Holds}
-use Rattle.broker_core.specs.Serving.{struck_seat, job_of, next_seated, GoesTo}
+use Rattle.broker_core.specs.Serving.{struck_seat, job_of, next_seated}
 use Rattle.broker_core.proofs.HeardBy.{document_of}
 use Rattle.broker_core.proofs.Marks.{damage_is, views_struck, all_struck, ids_all, ids_struck, count_struck}
 use Rattle.broker_core.proofs.Search.{next_wanted, next_owed, next_part, pair_same}
@@ -191,13 +188,3 @@ told_more seats i seat id hurt frames now whole lt is id_is more before =
     ap (λ fs. fs ++ rest) more ∙ append_assoc frames piece rest
     ∙ ap (λ (n : ℕ). frames ++ (map (λ (d : Damage). (named n, Invalidate d.part d.rect)) hurt ++ rest)) id_is
     ∙ ap (λ (ss : List Seat). frames ++ told (views_of ss) hurt) (sym e) ∙ before
-
--- a turn, as a step that gives out what it did
-pub turn_steps : {C B S : Type 0} (rules : Rules C B) (cut : C → Place → S) (old : Document S) (turned : TurnAnswer S) (new : Document S) → TurnsTo rules cut old turned new → Step rules cut old Turned (outs_of turned) new
-turn_steps rules cut old (Worked outs) new works = inl works
-turn_steps rules cut old Idle new (rests, same) = inr (rests, refl, same)
-
-pub turn_goes : {C B S : Type 0} (rules : Rules C B) (cut : C → Place → S) (old : Option (Document S)) (turned : TurnAnswer S) (new : Option (Document S)) → GoesTo rules cut old turned new → Goes rules cut old Turned (outs_of turned) new
-turn_goes rules cut (Some old) turned (Some new) goes = turn_steps rules cut old turned new goes
-turn_goes rules cut (Some old) turned None goes = absurd goes
-turn_goes rules cut None turned new goes = absurd goes

@@ -1,5 +1,5 @@
 -- What a broker keeps, and the document that it is.
-use Rattle.std.specs.Prelude.{◌≡◌, ℕ, ◌<◌, ◌≤◌, Bool, true, false, nat_le, List, length, map, Option, None, Some}
+use Rattle.std.specs.Prelude.{◌≡◌, ℕ, ◌<◌, ◌≤◌, true, List, length, map, Option, None, Some}
 use Rattle.std.specs.List.{AllByRecursion}
 use Rattle.kit_trait.specs.Rules.{Rules, doc}
 use Rattle.kit_trait.specs.declared.values.Input.{Input}
@@ -78,6 +78,6 @@ pub record Holds {C B S : Type 0} (rules : Rules C B) (cut : C → Place → S) 
   pub out : AllByRecursion (IsOut rules cut base journal applied) jobs
 
 -- a broker that isn't spent has as many views as it may have
-abbrev pub is_full : {S : Type 0} → Option (Document S) → Bool
-is_full None = false
-is_full (Some d) = nat_le MOST_VIEWS (length d.views)
+abbrev pub IsFull : {S : Type 0} → Option (Document S) → Type 0
+IsFull None = ⊥
+IsFull (Some d) = MOST_VIEWS ≤ length d.views

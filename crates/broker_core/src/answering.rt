@@ -29,7 +29,6 @@ impl<K: Kit> Broker<K> {
     /// One turn: the next input is applied, or else a job is cut for the first key, in order of views and
     /// then of keys, that a view with room is due. Idle exactly where there is nothing to do. No job may be out, as
     /// `is_free` tells. After `Memory` the broker is spent.
-    #[tactic(auto, using(crate::proofs::Steps::turn_goes))]
     pub fn turn(&mut self) -> Result<Turned<K::Scene>, Memory>
         requires { ForSome self.old (λ d. d.jobs ≡ []) }
         ensures step { IfOk result (λ turned. Goes K.rules K.cut self.old TurnMade (outs_of turned) self.new) }

@@ -6,7 +6,7 @@ ghost use Rattle.document_machine.specs.Kept.{IsKept};
 ghost use Rattle.document_machine.specs.Outputs.{nothing};
 ghost use Rattle.document_machine.specs.State.{opening, find_view};
 ghost use Rattle.document_machine.specs.Step.{Goes};
-ghost use Rattle.broker_core.specs.Held.{is_full};
+ghost use Rattle.broker_core.specs.Held.{IsFull};
 
 use crate::core_of::Core;
 use crate::faults::JoinFault;
@@ -57,10 +57,11 @@ impl<K: Kit> Broker<K> {
     /// A view joins, with the next id, and gets its status. ViewsFull exactly where 64 views are there,
     /// which is judged before any memory is taken, and then nothing changed; after `Memory` the broker is
     /// spent.
+    #[tactic(auto, using(crate::proofs::Comings::full_by, crate::proofs::Comings::not_full_by, crate::proofs::Comings::spent_not_full))]
     pub fn join(&mut self, rights: Rights) -> Result<(ViewId, Outs<K::Scene>), JoinFault>
         ensures step { IfOk result (λ r. Goes K.rules K.cut self.old (Joined rights) r.1 self.new) }
         ensures view { IfOk result (λ r. ForSome self.old (λ d. (r.0.0 ≡ d.next_view) × (length d.views < MOST_VIEWS))) }
-        ensures full { (result ≡ Err JoinFault.ViewsFull) ↔ (is_full self.old ≡ true) }
+        ensures full { (result ≡ Err JoinFault.ViewsFull) ↔ IsFull self.old }
         ensures unchanged { result ≡ Err JoinFault.ViewsFull → self.new ≡ self.old }
         ensures spent { result ≡ Err JoinFault.Memory → self.new ≡ None }
     {

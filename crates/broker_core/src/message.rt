@@ -4,6 +4,7 @@ ghost use Rattle.cool_message.specs.Asked.{keys_of};
 ghost use Rattle.cool_base.specs.Points.{Extent};
 ghost use Rattle.document_machine.specs.Message.{effect_of, message_effect, asking_effect, zooming_effect, input_effect, key_effect, mouse_effect, Refuses};
 ghost use Rattle.document_machine.specs.State.{View as Viewed};
+ghost use Rattle.tile_key.specs.Places.{zoom_of};
 ghost use Rattle.broker_core.specs.Held.{view_of};
 ghost use Rattle.broker_core.specs.Verdicts.{verdict};
 
@@ -110,7 +111,7 @@ fn judge_message(
             twip_w,
             twip_h,
             nviewid,
-        } => zoom(alloc, Zoom::read(pixel_w, pixel_h, twip_w, twip_h, nviewid)),
+        } => zoom(alloc, zoom_of(pixel_w, pixel_h, twip_w, twip_h, nviewid)),
         ClientMessage::SetPart { part } => Ok(Said::Gone(part)),
         ClientMessage::TileProcessed { wids } => Ok(Said::Acknowledged(wids)),
         ClientMessage::Save {
@@ -201,4 +202,15 @@ fn zoom(alloc: Global, zoom: Option<Zoom>) -> Result<Said, Memory>
         Some(zoom) => Ok(Said::Zoomed(zoom)),
         None => refused(alloc, "clientzoom", ErrorKind::BadTile),
     }
+}
+
+/// The zoom of these numbers; None exactly where they make none.
+#[tactic(auto, using(crate::proofs::Looks::no_look, crate::proofs::Looks::same_look))]
+fn zoom_of(pixel_w: u32, pixel_h: u32, twip_w: u32, twip_h: u32, nviewid: u32) -> Option<Zoom>
+    ensures { result ≡ zoom_of (record { pixel_w = pixel_w; pixel_h = pixel_h; twip_w = twip_w; twip_h = twip_h; nviewid = nviewid }) }
+{
+    if nviewid > 1 {
+        return None;
+    }
+    Zoom::read(pixel_w, pixel_h, twip_w, twip_h, nviewid)
 }

@@ -1,7 +1,9 @@
 //! A turn: the next input is applied, or else the pair that is next is served.
 ghost use Rattle.std.specs.Prelude.{◌≡◌, ◌≤◌, [], length, nat_lt, None, Some, IfOk};
 ghost use Rattle.document_machine.specs.Next.{next_pair, none_kept, IsFirst};
-ghost use Rattle.document_machine.specs.Step.{TurnsTo};
+ghost use Rattle.document_machine.specs.Event.{Turned as TurnMade};
+ghost use Rattle.document_machine.specs.Outputs.{outs_of};
+ghost use Rattle.document_machine.specs.Step.{Step, TurnsTo};
 ghost use Rattle.broker_core.specs.Serving.{next_due, next_seated};
 
 use crate::core_of::Core;
@@ -55,6 +57,7 @@ impl<K: Kit> Core<K> {
     /// One turn. Idle exactly where there is nothing to do.
     pub(crate) fn turn(self) -> Result<(Core<K>, Turned<K::Scene>), Memory>
         requires { self.jobs ≡ [] }
+        ensures step { IfOk result (λ r. Step K.rules K.cut self TurnMade (outs_of r.1) r.0) }
         ensures turn { IfOk result (λ r. TurnsTo K.rules K.cut self r.1 r.0) }
         ensures first { IfOk result (λ r. self.applied ≡ length self.journal → IsFirst K.rules none_kept self r.1) }
     {

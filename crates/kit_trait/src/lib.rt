@@ -15,8 +15,6 @@ mod jobs;
 mod keys;
 mod patch;
 mod patch_scene;
-#[cfg(test)]
-mod tests;
 mod traits;
 mod values;
 

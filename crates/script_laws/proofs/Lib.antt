@@ -7,3 +7,4 @@ mod Screens
 mod Sent
 mod Shown
 mod Replays
+pub mod Rising

@@ -1,3 +1,4 @@
 pub mod Played
 pub mod LastTiles
 pub mod Replayed
+pub mod Rising

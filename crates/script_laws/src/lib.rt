@@ -14,6 +14,9 @@ ghost use Rattle.kit_trait.specs.PatchSeen.{patch_cut};
 ghost use Rattle.script_laws.specs.LastTiles.{ArePainted};
 ghost use Rattle.script_laws.specs.Played.{given_of, IsPlayed, Shows};
 ghost use Rattle.script_laws.specs.Replayed.{IsReplayed};
+ghost use Rattle.script_laws.specs.Rising.{Rises};
+ghost use Rattle.document_machine.specs.Event.{Event as Happening};
+ghost use Rattle.tile_key.specs.Places.{Place};
 ghost use Rattle.script_run.specs.Transcript.{Runs};
 ghost use Rattle.script_run.specs.Uses.{SourceUse, SinkUse};
 ghost use Rattle.script_world.specs.Seats.{Seats};
@@ -38,6 +41,16 @@ pub fn scripts_are_runs<K: Kit>()
 /// says, point by point.
 pub fn script_tiles_show_prefixes<K: Kit>()
     ensures { (out : List ℕ) (seats : Seats) (document : Option (Document K.Scene)) (played : IsPlayed K.rules K.cut out seats document) → AllByRecursion (Shows K.rules document) played.pieces }
+{}
+
+/// No screen falls back: of two tiles of a key that a transcript gives to a view, and between which the view's screen
+/// had the key, the later has no lower version. The run of which the transcript has the frames is cut at any two of
+/// its events for that.
+pub fn versions_never_fall<K: Kit>()
+    ensures { (out : List ℕ) (seats : Seats) (d : Document K.Scene) (played : IsPlayed K.rules K.cut out seats (Some d)) (id : ℕ) (key : Place)
+        (before : List (Happening K.Scene)) (first : Happening K.Scene) (between : List (Happening K.Scene)) (last : Happening K.Scene) (after : List (Happening K.Scene))
+        → played.run.events ≡ before ++ first ∷ (between ++ last ∷ after)
+        → Rises K.rules K.cut played.run.file (flat_map given_of played.pieces) d id key before first between last after }
 {}
 
 /// Behind a line `settle` nothing waits, and the document, if there is one, is quiet, and all that its views see

@@ -1,11 +1,13 @@
 //! What an input means at a cursor.
-ghost use Rattle.std.specs.Prelude.{◌≡◌, ◌<◌, ◌≤◌, List, [], length, Some, None, string_bytes, IfOk, if◌then◌else◌};
+ghost use Rattle.std.specs.Prelude.{◌≡◌, ◌<◌, ◌≤◌, List, [], length, false, string_bytes, IfOk, if◌then◌else◌};
 ghost use Rattle.sheet_cells.specs.Cells.{IsCell};
 ghost use Rattle.sheet_calc.specs.Books.{text_of};
-ghost use Rattle.sheet_rules.specs.Typing.{act_of, key_act, jump_act, edit_act, char_act, mouse_act, row_start, row_end, cell_below, cell_above, cell_left, cell_right, is_typed, without_last, is_inside};
+ghost use Rattle.sheet_rules.specs.Typing.{act_of, key_act, code_act, char_act, mouse_act, row_start, row_end, cell_below, cell_above, cell_left, cell_right, without_last, is_inside};
+ghost use Rattle.sheet_rules.specs.declared.cursors.Act.TheVariants.{Writes};
+ghost use Rattle.kit_trait.specs.Keys.{key_with};
 
 use cool_base::{Memory, TextOf};
-use kit_trait::What;
+use kit_trait::{KeyCode, What, typed};
 use sheet_calc::Book;
 use sheet_cells::CellRef;
 use sheet_rules::{Act, Cursor};
@@ -46,46 +48,46 @@ fn mouse_act(part: u32, x: u32, y: u32) -> Act
     }
 }
 
-// DOWN, UP, LEFT and RIGHT.
+// A key is judged by its code first, and else by its char.
 fn key_act(alloc: Global, book: &Book, cursor: &Cursor, chr: u32, code: u32) -> Result<Act, Memory>
     requires { IsCell (length book.now) cursor.now.at }
-    ensures { IfOk result (λ act. act ≡ key_act book.now cursor.now chr code) }
+    ensures { IfOk result (λ act. act ≡ key_act book.now cursor.now chr (key_with code)) }
 {
-    let at = cursor.at;
-    if code == 1024 {
-        return Ok(Act::Goes(cell_below(at)));
+    match KeyCode::with(code) {
+        Some(key) => code_act(alloc, book, cursor, key),
+        None => char_act(alloc, book, cursor, chr),
     }
-    if code == 1025 {
-        return Ok(Act::Goes(cell_above(at)));
-    }
-    if code == 1026 {
-        return Ok(Act::Goes(cell_left(at)));
-    }
-    if code == 1027 {
-        return Ok(Act::Goes(cell_right(at)));
-    }
-    jump_act(alloc, book, cursor, chr, code)
 }
 
-// HOME, END, RETURN and TAB.
-fn jump_act(alloc: Global, book: &Book, cursor: &Cursor, chr: u32, code: u32) -> Result<Act, Memory>
+// What a key means that acts by its code.
+fn code_act(alloc: Global, book: &Book, cursor: &Cursor, key: KeyCode) -> Result<Act, Memory>
     requires { IsCell (length book.now) cursor.now.at }
-    ensures { IfOk result (λ act. act ≡ jump_act book.now cursor.now chr code) }
+    ensures { IfOk result (λ act. act ≡ code_act book.now cursor.now key) }
 {
     let at = cursor.at;
-    if code == 1028 {
-        return Ok(Act::Goes(row_start(at)));
+    match key {
+        KeyCode::Down => Ok(Act::Goes(cell_below(at))),
+        KeyCode::Up => Ok(Act::Goes(cell_above(at))),
+        KeyCode::Left => Ok(Act::Goes(cell_left(at))),
+        KeyCode::Right => Ok(Act::Goes(cell_right(at))),
+        KeyCode::Home => Ok(Act::Goes(row_start(at))),
+        KeyCode::End => Ok(Act::Goes(row_end(book, at))),
+        KeyCode::Return => Ok(Act::Goes(cell_below(at))),
+        KeyCode::Tab => Ok(Act::Goes(cell_right(at))),
+        KeyCode::Backspace => backspace(alloc, book.raw(&at)),
+        KeyCode::Delete => Ok(Act::Writes {
+            raw: TextOf::of(String::new(alloc)),
+            fresh: true,
+        }),
     }
-    if code == 1029 {
-        return Ok(Act::Goes(row_end(book, at)));
-    }
-    if code == 1280 {
-        return Ok(Act::Goes(cell_below(at)));
-    }
-    if code == 1282 {
-        return Ok(Act::Goes(cell_right(at)));
-    }
-    edit_act(alloc, book, cursor, chr, code)
+}
+
+// BACKSPACE over a text.
+fn backspace(alloc: Global, text: &str) -> Result<Act, Memory>
+    ensures { IfOk result (λ act. act ≡ Writes (without_last text.now) false) }
+{
+    let raw = without_last(alloc, text)?;
+    Ok(Act::Writes { raw, fresh: false })
 }
 
 fn cell_below(at: CellRef) -> CellRef
@@ -139,22 +141,6 @@ fn row_end(book: &Book, at: CellRef) -> CellRef
     CellRef { col: last, ..at }
 }
 
-// BACKSPACE, DELETE, and any other key.
-fn edit_act(alloc: Global, book: &Book, cursor: &Cursor, chr: u32, code: u32) -> Result<Act, Memory>
-    requires { IsCell (length book.now) cursor.now.at }
-    ensures { IfOk result (λ act. act ≡ edit_act book.now cursor.now chr code) }
-{
-    if code == 1283 {
-        let raw = without_last(alloc, book.raw(&cursor.at))?;
-        return Ok(Act::Writes { raw, fresh: false });
-    }
-    if code == 1286 {
-        let raw = TextOf::of(String::new(alloc));
-        return Ok(Act::Writes { raw, fresh: true });
-    }
-    char_act(alloc, book, cursor, chr)
-}
-
 // The text without its last character.
 fn without_last(alloc: Global, text: &str) -> Result<TextOf, Memory>
     ensures { IfOk result (λ shorter. shorter ≡ without_last text.now) }
@@ -180,14 +166,4 @@ fn char_act(alloc: Global, book: &Book, cursor: &Cursor, chr: u32) -> Result<Act
     text.push(character)?;
     let raw = TextOf::of(text);
     Ok(Act::Writes { raw, fresh: false })
-}
-
-// The char, where it is typed.
-fn typed(chr: u32) -> Option<char>
-    ensures { result ≡ (if is_typed chr then Some chr else None) }
-{
-    if chr < 32 || chr == 127 {
-        return None;
-    }
-    char::from_u32(chr)
 }

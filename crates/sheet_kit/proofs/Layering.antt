@@ -13,11 +13,11 @@ use Rattle.tile_raster.specs.Painting.{Painting, IsBlank, IsPainted, Shows, pixe
 use Rattle.tile_raster.specs.Lettering.{is_inked, text_dot}
 use Rattle.sheet_rules.specs.declared.cuts.ShownText.{ShownText}
 use Rattle.sheet_rules.specs.Typing.{is_inside}
-use Rattle.sheet_rules.specs.Colours.{black, grey, is_line, is_lettered, has_dot}
+use Rattle.sheet_rules.specs.Colours.{black, grey, is_edge, is_line, is_lettered, has_dot}
 use Rattle.sheet_rules.specs.Cuts.{is_dot_of, cut_colour}
 use Rattle.sheet_rules.specs.ShownTexts.{iff_same}
-use Rattle.sheet_rules.proofs.Hurts.{has_facts, facts_has}
-use Rattle.sheet_kit.specs.Layers.{column_line, row_line, cell_within, on_columns, on_rows, on_grid_to, on_lines, lined}
+use Rattle.sheet_rules.proofs.Hurts.{Has, has_facts, facts_has}
+use Rattle.sheet_kit.specs.Layers.{column_line, row_line, cell_within, on_columns, on_rows, on_grid_to, on_edges, on_lines, lined}
 
 pub blank_shows : (p : Place) (c : Painting) → IsBlank p.width p.height c → Shows (λ part x y. white) p c
 blank_shows p c blank = record { width = blank.width; height = blank.height; pixels = blank.pixels }
@@ -107,7 +107,7 @@ row_all end row posy size x y e h k = grind (arith, nat_tests)
 column_full : (x y : ℕ) → on_columns 256 x y ≡ (is_inside x y && nat_le 945 (x % 960))
 column_full x y = grind (arith, nat_tests)
 
-grid_all : (end row posy size x y : ℕ) → end ≡ min ((posy + size - 1) / 240 + 1) 4096 → end ≤ row → y < posy + size → lined (on_grid_to row x y) ≡ lined (on_lines x y)
+grid_all : (end row posy size x y : ℕ) → end ≡ min ((posy + size - 1) / 240 + 1) 4096 → end ≤ row → y < posy + size → lined (on_grid_to row x y) ≡ lined (on_edges x y)
 grid_all end row posy size x y e h k =
     ap (λ (b : Bool). lined (b || on_rows row x y)) (column_full x y)
     ∙ ap (λ (b : Bool). lined ((is_inside x y && nat_le 945 (x % 960)) || b)) (row_all end row posy size x y e h k)
@@ -125,30 +125,71 @@ rows_more p old new row r colour h is paint painted shows =
     shows_painted (λ part x y. lined (on_grid_to row x y)) (λ part x y. lined (on_grid_to (row + 1) x y)) (has_point (row_line row)) grey p old new (λ x y. row_point row x y h) shows
     (subst (λ (k : Colour). IsPainted p (has_point (row_line row)) k old new) paint (subst (λ (q : Rectangle). IsPainted p (has_point q) colour old new) is painted))
 
-pub rows_all : (p : Place) (c : Painting) (end row : ℕ) → IsArea p → end ≡ min ((p.posy + p.tileheight - 1) / 240 + 1) 4096 → end ≤ row → Shows (λ part x y. lined (on_grid_to row x y)) p c → Shows (λ part x y. lined (on_lines x y)) p c
+pub rows_all : (p : Place) (c : Painting) (end row : ℕ) → IsArea p → end ≡ min ((p.posy + p.tileheight - 1) / 240 + 1) 4096 → end ≤ row → Shows (λ part x y. lined (on_grid_to row x y)) p c → Shows (λ part x y. lined (on_edges x y)) p c
 rows_all p c end row area e h shows =
-    shows_sampled (λ part x y. lined (on_grid_to row x y)) (λ part x y. lined (on_lines x y)) p c area (λ x y i j k l. grid_all end row p.posy p.tileheight x y e h l) shows
+    shows_sampled (λ part x y. lined (on_grid_to row x y)) (λ part x y. lined (on_edges x y)) p c area (λ x y i j k l. grid_all end row p.posy p.tileheight x y e h l) shows
+
+-- with lines, the canvas that shows the edges shows the lines; without, the blank one does
+pub lines_drawn : (lines : Bool) (p : Place) (c : Painting) → lines ≡ true
+    → Shows (λ part x y. lined (on_edges x y)) p c → Shows (λ part x y. lined (on_lines lines x y)) p c
+lines_drawn true p c is shows = shows
+lines_drawn false p c is shows = cc
+
+pub lines_left : (lines : Bool) (p : Place) (c : Painting) → lines ≡ false
+    → Shows (λ part x y. white) p c → Shows (λ part x y. lined (on_lines lines x y)) p c
+lines_left true p c is shows = cc
+lines_left false p c is shows =
+    shows_same (λ part x y. white) (λ part x y. lined (on_lines false x y)) p c
+    (λ i j h k. ap lined (sym (none (is_inside (x_at p i) (y_at p j))))) shows
+  where
+    none : (a : Bool) → (a && false) ≡ false
+    none true = refl
+    none false = refl
 
 -- ---- the texts
 
-no_texts : (x y : ℕ) → lined (on_lines x y) ≡ cut_colour [] x y
-no_texts x y = by (is_inside x y) (is_line (x % 960) (y % 240))
+no_texts : (lines : Bool) (x y : ℕ) → lined (on_lines lines x y) ≡ cut_colour lines [] x y
+no_texts lines x y = by (is_inside x y) (is_line lines (x % 960) (y % 240))
   where
     by : (a l : Bool) → lined (a && l) ≡ (if a then (if l then grey else (if false then black else white)) else white)
     by true true = refl
     by true false = refl
     by false l = refl
 
-pub texts_none : (p : Place) (c : Painting) → Shows (λ part x y. lined (on_lines x y)) p c → Shows (λ part. cut_colour []) p c
-texts_none p c shows = shows_same (λ part x y. lined (on_lines x y)) (λ part. cut_colour []) p c (λ i j h k. no_texts (x_at p i) (y_at p j)) shows
+pub texts_none : (lines : Bool) (p : Place) (c : Painting) → Shows (λ part x y. lined (on_lines lines x y)) p c → Shows (λ part. cut_colour lines []) p c
+texts_none lines p c shows =
+    shows_same (λ part x y. lined (on_lines lines x y)) (λ part. cut_colour lines []) p c (λ i j h k. no_texts lines (x_at p i) (y_at p j)) shows
+
+-- a point that no line of a cell takes lies in the cell, and on no line
+in_cell : (lines : Bool) (row col x y : ℕ) → has_point (cell_within lines row col) x y ≡ true → Has (cell_within false row col) x y
+in_cell true row col x y e =
+    let cell = has_facts (cell_within true row col) x y e in
+    record { left = cell.left; right = omega (arith, cell.right); upper = cell.upper; lower = omega (arith, cell.lower) }
+in_cell false row col x y e = has_facts (cell_within false row col) x y e
+
+clear_there : (lines : Bool) (row col x y : ℕ) → has_point (cell_within lines row col) x y ≡ true → not (is_line lines (x % 960) (y % 240)) ≡ true
+clear_there true row col x y e =
+    let cell = has_facts (cell_within true row col) x y e in
+    not_from_false (is_edge (x % 960) (y % 240)) (or_from (nat_le 945 (x % 960)) (nat_le 225 (y % 240)) (lt-leb 945 (x % 960) (omega (arith, cell.left, cell.right))) (lt-leb 225 (y % 240) (omega (arith, cell.upper, cell.lower))))
+clear_there false row col x y e = refl
+
+-- and the point of a cell that lies on no line is one of these
+clear_here : (lines : Bool) (row col x y : ℕ) → row ≡ y / 240 → col ≡ x / 960 → not (is_line lines (x % 960) (y % 240)) ≡ true → has_point (cell_within lines row col) x y ≡ true
+clear_here true row col x y row_is col_is e =
+    let lines = or_parts (nat_le 945 (x % 960)) (nat_le 225 (y % 240)) (not-true (is_edge (x % 960) (y % 240)) e) in
+    let wide = leb-false 945 (x % 960) lines.0 in
+    let high = leb-false 225 (y % 240) lines.1 in
+    facts_has (cell_within true row col) x y (record { left = omega (arith, col_is); right = omega (arith, col_is, wide); upper = omega (arith, row_is); lower = omega (arith, row_is, high) })
+clear_here false row col x y row_is col_is e =
+    facts_has (cell_within false row col) x y (record { left = omega (arith, col_is); right = omega (arith, col_is); upper = omega (arith, row_is); lower = omega (arith, row_is) })
 
 -- a dot of a text lies within its cell
-dot_there : (row col x y : ℕ) (text : List ℕ) → row < 4096 → col < 256 → (has_point (cell_within row col) x y && text_dot (col * 960 + 30) (row * 240 + 60) (chars text) x y) ≡ true
-    → ((is_inside x y && not (is_line (x % 960) (y % 240))) && is_dot_of x y (record { row = row; col = col; text = text })) ≡ true
+dot_there : (lines : Bool) (row col x y : ℕ) (text : List ℕ) → row < 4096 → col < 256 → (has_point (cell_within lines row col) x y && text_dot (col * 960 + 30) (row * 240 + 60) (chars text) x y) ≡ true
+    → ((is_inside x y && not (is_line lines (x % 960) (y % 240))) && is_dot_of x y (record { row = row; col = col; text = text })) ≡ true
 unfolding text_dot
-dot_there row col x y text h k e =
-    let parts = and_parts (has_point (cell_within row col) x y) (text_dot (col * 960 + 30) (row * 240 + 60) (chars text) x y) e in
-    let cell = has_facts (cell_within row col) x y parts.0 in
+dot_there lines row col x y text h k e =
+    let parts = and_parts (has_point (cell_within lines row col) x y) (text_dot (col * 960 + 30) (row * 240 + 60) (chars text) x y) e in
+    let cell = in_cell lines row col x y parts.0 in
     let dot = and_parts ((nat_le (col * 960 + 30) x && nat_le (row * 240 + 60) y) && nat_lt y (row * 240 + 60 + 120)) (is_inked (chars text) (x - (col * 960 + 30)) (y - (row * 240 + 60))) parts.1 in
     let beside = and_parts (nat_le (col * 960 + 30) x && nat_le (row * 240 + 60) y) (nat_lt y (row * 240 + 60 + 120)) dot.0 in
     let behind = and_parts (nat_le (col * 960 + 30) x) (nat_le (row * 240 + 60) y) beside.0 in
@@ -157,10 +198,10 @@ dot_there row col x y text h k e =
     let low = ltb-true y (row * 240 + 60 + 120) beside.1 in
     let across : x - (col * 960 + 30) ≡ x % 960 - 30 = omega (arith, cell.left, cell.right) in
     let down : y - (row * 240 + 60) ≡ y % 240 - 60 = omega (arith, cell.upper, cell.lower) in
-    and_from (is_inside x y && not (is_line (x % 960) (y % 240))) (is_dot_of x y (record { row = row; col = col; text = text }))
-    (and_from (is_inside x y) (not (is_line (x % 960) (y % 240)))
+    and_from (is_inside x y && not (is_line lines (x % 960) (y % 240))) (is_dot_of x y (record { row = row; col = col; text = text }))
+    (and_from (is_inside x y) (not (is_line lines (x % 960) (y % 240)))
     (and_from (nat_lt x 245760) (nat_lt y 983040) (lt-ltb x 245760 (omega (arith, cell.right, k))) (lt-ltb y 983040 (omega (arith, cell.lower, h))))
-    (not_from_false (is_line (x % 960) (y % 240)) (or_from (nat_le 945 (x % 960)) (nat_le 225 (y % 240)) (lt-leb 945 (x % 960) (omega (arith, cell.left, cell.right))) (lt-leb 225 (y % 240) (omega (arith, cell.upper, cell.lower))))))
+    (clear_there lines row col x y parts.0))
     (and_from (nat_eq row (y / 240) && nat_eq col (x / 960)) (is_lettered text (x % 960) (y % 240))
     (and_from (nat_eq row (y / 240)) (nat_eq col (x / 960)) (eq-eqb row (y / 240) (omega (arith, cell.upper, cell.lower))) (eq-eqb col (x / 960) (omega (arith, cell.left, cell.right))))
     (and_from (nat_le 30 (x % 960) && (nat_le 60 (y % 240) && nat_le (y % 240) 179)) (has_dot (chars text) (x % 960 - 30) (y % 240 - 60))
@@ -169,15 +210,12 @@ dot_there row col x y text h k e =
     (ap (λ (n : ℕ). is_inked (chars text) n (y % 240 - 60)) (sym across) ∙ ap (λ (n : ℕ). is_inked (chars text) (x - (col * 960 + 30)) n) (sym down) ∙ dot.1)))
 
 -- and the point of a cell that lies on a dot of its text is one
-dot_here : (row col x y : ℕ) (text : List ℕ) → ((is_inside x y && not (is_line (x % 960) (y % 240))) && is_dot_of x y (record { row = row; col = col; text = text })) ≡ true
-    → (has_point (cell_within row col) x y && text_dot (col * 960 + 30) (row * 240 + 60) (chars text) x y) ≡ true
+dot_here : (lines : Bool) (row col x y : ℕ) (text : List ℕ) → ((is_inside x y && not (is_line lines (x % 960) (y % 240))) && is_dot_of x y (record { row = row; col = col; text = text })) ≡ true
+    → (has_point (cell_within lines row col) x y && text_dot (col * 960 + 30) (row * 240 + 60) (chars text) x y) ≡ true
 unfolding text_dot
-dot_here row col x y text e =
-    let parts = and_parts (is_inside x y && not (is_line (x % 960) (y % 240))) (is_dot_of x y (record { row = row; col = col; text = text })) e in
-    let clear = and_parts (is_inside x y) (not (is_line (x % 960) (y % 240))) parts.0 in
-    let lines = or_parts (nat_le 945 (x % 960)) (nat_le 225 (y % 240)) (not-true (is_line (x % 960) (y % 240)) clear.1) in
-    let wide = leb-false 945 (x % 960) lines.0 in
-    let high = leb-false 225 (y % 240) lines.1 in
+dot_here lines row col x y text e =
+    let parts = and_parts (is_inside x y && not (is_line lines (x % 960) (y % 240))) (is_dot_of x y (record { row = row; col = col; text = text })) e in
+    let clear = and_parts (is_inside x y) (not (is_line lines (x % 960) (y % 240))) parts.0 in
     let dot = and_parts (nat_eq row (y / 240) && nat_eq col (x / 960)) (is_lettered text (x % 960) (y % 240)) parts.1 in
     let cell = and_parts (nat_eq row (y / 240)) (nat_eq col (x / 960)) dot.0 in
     let row_is = eqb-true row (y / 240) cell.0 in
@@ -190,18 +228,18 @@ dot_here row col x y text e =
     let low = leb-true (y % 240) 179 heights.1 in
     let across : x - (col * 960 + 30) ≡ x % 960 - 30 = omega (arith, col_is) in
     let down : y - (row * 240 + 60) ≡ y % 240 - 60 = omega (arith, row_is) in
-    and_from (has_point (cell_within row col) x y) (text_dot (col * 960 + 30) (row * 240 + 60) (chars text) x y)
-    (facts_has (cell_within row col) x y (record { left = omega (arith, col_is); right = omega (arith, col_is, wide); upper = omega (arith, row_is); lower = omega (arith, row_is, high) }))
+    and_from (has_point (cell_within lines row col) x y) (text_dot (col * 960 + 30) (row * 240 + 60) (chars text) x y)
+    (clear_here lines row col x y row_is col_is clear.1)
     (and_from ((nat_le (col * 960 + 30) x && nat_le (row * 240 + 60) y) && nat_lt y (row * 240 + 60 + 120)) (is_inked (chars text) (x - (col * 960 + 30)) (y - (row * 240 + 60)))
     (and_from (nat_le (col * 960 + 30) x && nat_le (row * 240 + 60) y) (nat_lt y (row * 240 + 60 + 120))
     (and_from (nat_le (col * 960 + 30) x) (nat_le (row * 240 + 60) y) (le-leb (col * 960 + 30) x (omega (arith, col_is, left))) (le-leb (row * 240 + 60) y (omega (arith, row_is, top))))
     (lt-ltb y (row * 240 + 60 + 120) (omega (arith, row_is, low))))
     (ap (λ (n : ℕ). is_inked (chars text) n (y - (row * 240 + 60))) across ∙ ap (λ (n : ℕ). is_inked (chars text) (x % 960 - 30) n) down ∙ letter.1))
 
-dot_is : (x y : ℕ) (t : ShownText) → t.row < 4096 → t.col < 256 → (has_point (cell_within t.row t.col) x y && text_dot (t.col * 960 + 30) (t.row * 240 + 60) (chars t.text) x y) ≡ ((is_inside x y && not (is_line (x % 960) (y % 240))) && is_dot_of x y t)
-dot_is x y t h k =
-    iff_same (has_point (cell_within t.row t.col) x y && text_dot (t.col * 960 + 30) (t.row * 240 + 60) (chars t.text) x y) ((is_inside x y && not (is_line (x % 960) (y % 240))) && is_dot_of x y t)
-    (dot_there t.row t.col x y t.text h k) (dot_here t.row t.col x y t.text)
+dot_is : (lines : Bool) (x y : ℕ) (t : ShownText) → t.row < 4096 → t.col < 256 → (has_point (cell_within lines t.row t.col) x y && text_dot (t.col * 960 + 30) (t.row * 240 + 60) (chars t.text) x y) ≡ ((is_inside x y && not (is_line lines (x % 960) (y % 240))) && is_dot_of x y t)
+dot_is lines x y t h k =
+    iff_same (has_point (cell_within lines t.row t.col) x y && text_dot (t.col * 960 + 30) (t.row * 240 + 60) (chars t.text) x y) ((is_inside x y && not (is_line lines (x % 960) (y % 240))) && is_dot_of x y t)
+    (dot_there lines t.row t.col x y t.text h k) (dot_here lines t.row t.col x y t.text)
 
 -- one more text over those that were drawn
 text_over : (a l o d : Bool) → (if (a && not l) && d then black else (if a then (if l then grey else (if o then black else white)) else white)) ≡ (if a then (if l then grey else (if o || (d || false) then black else white)) else white)
@@ -212,31 +250,31 @@ text_over true false true false = refl
 text_over true false false true = refl
 text_over true false false false = refl
 
-text_point : (x y : ℕ) (texts : List ShownText) (t : ShownText) → t.row < 4096 → t.col < 256
-    → (if has_point (cell_within t.row t.col) x y && text_dot (t.col * 960 + 30) (t.row * 240 + 60) (chars t.text) x y then black else cut_colour texts x y) ≡ cut_colour (texts ++ t ∷ []) x y
-text_point x y texts t h k =
-    ap (λ (b : Bool). if b then black else cut_colour texts x y) (dot_is x y t h k)
-    ∙ text_over (is_inside x y) (is_line (x % 960) (y % 240)) (list_any (is_dot_of x y) texts) (is_dot_of x y t)
-    ∙ ap (λ (b : Bool). if is_inside x y then (if is_line (x % 960) (y % 240) then grey else (if b then black else white)) else white) (sym (list_any-append (is_dot_of x y) texts (t ∷ [])))
+text_point : (lines : Bool) (x y : ℕ) (texts : List ShownText) (t : ShownText) → t.row < 4096 → t.col < 256
+    → (if has_point (cell_within lines t.row t.col) x y && text_dot (t.col * 960 + 30) (t.row * 240 + 60) (chars t.text) x y then black else cut_colour lines texts x y) ≡ cut_colour lines (texts ++ t ∷ []) x y
+text_point lines x y texts t h k =
+    ap (λ (b : Bool). if b then black else cut_colour lines texts x y) (dot_is lines x y t h k)
+    ∙ text_over (is_inside x y) (is_line lines (x % 960) (y % 240)) (list_any (is_dot_of x y) texts) (is_dot_of x y t)
+    ∙ ap (λ (b : Bool). if is_inside x y then (if is_line lines (x % 960) (y % 240) then grey else (if b then black else white)) else white) (sym (list_any-append (is_dot_of x y) texts (t ∷ [])))
 
-pub text_more : (p : Place) (old new : Painting) (texts : List ShownText) (t : ShownText) (r : Rectangle) (tx ty : ℕ) (text : List ℕ) → t.row < 4096 → t.col < 256 → r ≡ cell_within t.row t.col → tx ≡ t.col * 960 + 30 → ty ≡ t.row * 240 + 60 → text ≡ t.text
-    → IsPainted p (λ px py. has_point r px py && text_dot tx ty (chars text) px py) black old new → Shows (λ part. cut_colour texts) p old → Shows (λ part. cut_colour (texts ++ t ∷ [])) p new
-text_more p old new texts t r tx ty text h k cell left top is painted shows =
-    shows_painted (λ part. cut_colour texts) (λ part. cut_colour (texts ++ t ∷ [])) (λ px py. has_point r px py && text_dot tx ty (chars text) px py) black p old new
-    (λ x y. points x y ∙ text_point x y texts t h k) shows painted
+pub text_more : (lines : Bool) (p : Place) (old new : Painting) (texts : List ShownText) (t : ShownText) (r : Rectangle) (tx ty : ℕ) (text : List ℕ) → t.row < 4096 → t.col < 256 → r ≡ cell_within lines t.row t.col → tx ≡ t.col * 960 + 30 → ty ≡ t.row * 240 + 60 → text ≡ t.text
+    → IsPainted p (λ px py. has_point r px py && text_dot tx ty (chars text) px py) black old new → Shows (λ part. cut_colour lines texts) p old → Shows (λ part. cut_colour lines (texts ++ t ∷ [])) p new
+text_more lines p old new texts t r tx ty text h k cell left top is painted shows =
+    shows_painted (λ part. cut_colour lines texts) (λ part. cut_colour lines (texts ++ t ∷ [])) (λ px py. has_point r px py && text_dot tx ty (chars text) px py) black p old new
+    (λ x y. points x y ∙ text_point lines x y texts t h k) shows painted
   where
-    points : (x y : ℕ) → (if has_point r x y && text_dot tx ty (chars text) x y then black else cut_colour texts x y) ≡ (if has_point (cell_within t.row t.col) x y && text_dot (t.col * 960 + 30) (t.row * 240 + 60) (chars t.text) x y then black else cut_colour texts x y)
+    points : (x y : ℕ) → (if has_point r x y && text_dot tx ty (chars text) x y then black else cut_colour lines texts x y) ≡ (if has_point (cell_within lines t.row t.col) x y && text_dot (t.col * 960 + 30) (t.row * 240 + 60) (chars t.text) x y then black else cut_colour lines texts x y)
     points x y =
-        ap (λ (q : Rectangle). if has_point q x y && text_dot tx ty (chars text) x y then black else cut_colour texts x y) cell
-        ∙ ap (λ (n : ℕ). if has_point (cell_within t.row t.col) x y && text_dot n ty (chars text) x y then black else cut_colour texts x y) left
-        ∙ ap (λ (n : ℕ). if has_point (cell_within t.row t.col) x y && text_dot (t.col * 960 + 30) n (chars text) x y then black else cut_colour texts x y) top
-        ∙ ap (λ (s : List ℕ). if has_point (cell_within t.row t.col) x y && text_dot (t.col * 960 + 30) (t.row * 240 + 60) (chars s) x y then black else cut_colour texts x y) is
+        ap (λ (q : Rectangle). if has_point q x y && text_dot tx ty (chars text) x y then black else cut_colour lines texts x y) cell
+        ∙ ap (λ (n : ℕ). if has_point (cell_within lines t.row t.col) x y && text_dot n ty (chars text) x y then black else cut_colour lines texts x y) left
+        ∙ ap (λ (n : ℕ). if has_point (cell_within lines t.row t.col) x y && text_dot (t.col * 960 + 30) n (chars text) x y then black else cut_colour lines texts x y) top
+        ∙ ap (λ (s : List ℕ). if has_point (cell_within lines t.row t.col) x y && text_dot (t.col * 960 + 30) (t.row * 240 + 60) (chars s) x y then black else cut_colour lines texts x y) is
 
 -- a text of a cell outside of the part shows nowhere
-no_dot : (x y : ℕ) (texts : List ShownText) (t : ShownText) → (is_inside x y && is_dot_of x y t) ≡ false → cut_colour texts x y ≡ cut_colour (texts ++ t ∷ []) x y
-no_dot x y texts t e =
-    by (is_inside x y) (is_line (x % 960) (y % 240)) (list_any (is_dot_of x y) texts) (is_dot_of x y t) e
-    ∙ ap (λ (b : Bool). if is_inside x y then (if is_line (x % 960) (y % 240) then grey else (if b then black else white)) else white) (sym (list_any-append (is_dot_of x y) texts (t ∷ [])))
+no_dot : (lines : Bool) (x y : ℕ) (texts : List ShownText) (t : ShownText) → (is_inside x y && is_dot_of x y t) ≡ false → cut_colour lines texts x y ≡ cut_colour lines (texts ++ t ∷ []) x y
+no_dot lines x y texts t e =
+    by (is_inside x y) (is_line lines (x % 960) (y % 240)) (list_any (is_dot_of x y) texts) (is_dot_of x y t) e
+    ∙ ap (λ (b : Bool). if is_inside x y then (if is_line lines (x % 960) (y % 240) then grey else (if b then black else white)) else white) (sym (list_any-append (is_dot_of x y) texts (t ∷ [])))
   where
     by : (a l o d : Bool) → (a && d) ≡ false → (if a then (if l then grey else (if o then black else white)) else white) ≡ (if a then (if l then grey else (if o || (d || false) then black else white)) else white)
     by false l o d e = refl
@@ -255,6 +293,6 @@ nowhere x y t out =
     ⊎_elim (λ (h : 4096 ≤ t.row). omega (arith, h, eqb-true t.row (y / 240) cell.0, ltb-true y 983040 sides.1))
     (λ (h : 256 ≤ t.col). omega (arith, h, eqb-true t.col (x / 960) cell.1, ltb-true x 245760 sides.0)) out)
 
-pub text_outside : (p : Place) (c : Painting) (texts : List ShownText) (t : ShownText) → (4096 ≤ t.row) ⊎ (256 ≤ t.col) → Shows (λ part. cut_colour texts) p c → Shows (λ part. cut_colour (texts ++ t ∷ [])) p c
-text_outside p c texts t out shows =
-    shows_same (λ part. cut_colour texts) (λ part. cut_colour (texts ++ t ∷ [])) p c (λ i j h k. no_dot (x_at p i) (y_at p j) texts t (nowhere (x_at p i) (y_at p j) t out)) shows
+pub text_outside : (lines : Bool) (p : Place) (c : Painting) (texts : List ShownText) (t : ShownText) → (4096 ≤ t.row) ⊎ (256 ≤ t.col) → Shows (λ part. cut_colour lines texts) p c → Shows (λ part. cut_colour lines (texts ++ t ∷ [])) p c
+text_outside lines p c texts t out shows =
+    shows_same (λ part. cut_colour lines texts) (λ part. cut_colour lines (texts ++ t ∷ [])) p c (λ i j h k. no_dot lines (x_at p i) (y_at p j) texts t (nowhere (x_at p i) (y_at p j) t out)) shows

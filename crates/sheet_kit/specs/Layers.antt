@@ -4,7 +4,7 @@ use Rattle.std.specs.Prelude.{ℕ, ◌+◌, ◌*◌, ◌/◌, ◌%◌, Bool, ◌
 use Rattle.cool_base.specs.Points.{Rectangle}
 use Rattle.kit_trait.specs.Pictures.{Colour, white}
 use Rattle.sheet_rules.specs.Typing.{is_inside}
-use Rattle.sheet_rules.specs.Colours.{grey, is_line}
+use Rattle.sheet_rules.specs.Colours.{grey, is_edge, is_line}
 
 -- the line of a column, and that of a row, as rectangles
 abbrev pub column_line : ℕ → Rectangle
@@ -28,10 +28,15 @@ on_grid_to count x y = on_columns 256 x y || on_rows count x y
 abbrev pub lined : Bool → Colour
 lined b = if b then grey else white
 
--- the points of a cell within its lines, and where its text begins
-abbrev pub cell_within : ℕ → ℕ → Rectangle
-cell_within row col = record { x = col * 960; y = row * 240; w = 945; h = 225 }
+-- with lines or without: the points of a cell that no line takes
+abbrev pub cell_within : Bool → ℕ → ℕ → Rectangle
+cell_within lines row col =
+    record { x = col * 960; y = row * 240; w = if lines then 945 else 960; h = if lines then 225 else 240 }
 
--- whether a point lies on any line
-abbrev pub on_lines : ℕ → ℕ → Bool
-on_lines x y = is_inside x y && is_line (x % 960) (y % 240)
+-- whether a point lies where lines are
+abbrev pub on_edges : ℕ → ℕ → Bool
+on_edges x y = is_inside x y && is_edge (x % 960) (y % 240)
+
+-- with lines or without: whether a point lies on one
+abbrev pub on_lines : Bool → ℕ → ℕ → Bool
+on_lines lines x y = is_inside x y && is_line lines (x % 960) (y % 240)

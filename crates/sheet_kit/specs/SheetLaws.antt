@@ -1,5 +1,5 @@
 -- The laws of the sheet document.
-use Rattle.std.proofs.Common.{◌≡◌, ℕ, zero, suc, ◌+◌, ◌<◌, ◌≤◌, Bool, true, false, nat_lt, List, [], ◌∷◌, length, Result, Ok, Err, ap, sym, ◌∙◌, subst, arith, lit≤, lit<, if◌then◌else◌, ltb-true, ltb-false}
+use Rattle.std.proofs.Common.{◌≡◌, ℕ, zero, suc, ◌+◌, ◌<◌, ◌≤◌, Bool, true, false, nat_lt, List, [], ◌∷◌, length, Result, Ok, Err, ap, sym, ◌∙◌, subst, arith, lit≤, lit<, if◌then◌else◌, ltb-true, ltb-false, lt-ltb}
 pub use Rattle.std.proofs.Common.{refl}
 use Rattle.std.specs.List.{list_any, AllByRecursion}
 use Rattle.std.specs.Result.{is_ok}
@@ -7,7 +7,7 @@ use Rattle.std.specs.List.Sorted.{IsStrictlySortedBy}
 use Rattle.sheet_rules.specs.declared.cursors.Cursor.{Cursor}
 use Rattle.kit_trait.specs.declared.values.Input.{Input}
 use Rattle.kit_trait.specs.declared.values.Damage.{Damage}
-use Rattle.kit_trait.specs.Rules.{hurts_point, IsWithin, ReadsAs}
+use Rattle.kit_trait.specs.Rules.{shown, hurts_point, IsWithin, ReadsAs}
 use Rattle.part_calc.specs.Text.{part_lines}
 use Rattle.part_calc.proofs.LengthLaws.{one_digit}
 use Rattle.sheet_calc.specs.Books.{Parts, IsBook}
@@ -25,7 +25,10 @@ use Rattle.sheet_rules.specs.Sheets.{IsSheet}
 use Rattle.sheet_rules.proofs.Hurts.{IsInside}
 use Rattle.sheet_rules.proofs.Soundness.{step_sound}
 use Rattle.sheet_rules.proofs.Covering.{step_kept, step_covered, step_few, step_inside, step_nowhere}
+use Rattle.tile_key.specs.Places.{Place, IsArea}
+use Rattle.sheet_rules.proofs.CutLaws.{cut_shows}
 use Rattle.sheet_kit.specs.SheetKind.{said_parts, opened, sheet_kind}
+use Rattle.sheet_kit.specs.Seen.{scene_picture, sheet_cut}
 
 -- ---- a file's document is sound
 
@@ -51,6 +54,11 @@ no_larger file parts e = by (nat_lt 2097152 (length file)) refl e
     by true h told = cc
     by false h told = ltb-false 2097152 (length file) h
 
+-- a file of more than 2,097,152 bytes is no book
+pub too_large : (file : List ℕ) → 2097152 < length file → is_ok (book_of file) ≡ false
+unfolding book_of
+too_large file h = rw (lt-ltb 2097152 (length file) h) refl
+
 empty_says : (parts : Parts) → book_of [] ≡ Ok parts → parts ≡ [] ∷ []
 unfolding book_of lines_of
 empty_says parts e = cc
@@ -74,8 +82,18 @@ sound_step c input sound = step_sound c input sound
 
 -- ---- what an input damages
 
-pub covered : (c : Sheet) (input : Input) (part x y : ℕ) → IsSheet c → list_any (λ d. hurts_point d part x y) (step_hurt c input) ≡ false → colour_of (stepped c input).parts part x y ≡ colour_of c.parts part x y
-covered c input part x y sound away = step_covered c input part x y away
+pub covered : (c : Sheet) (input : Input) (nviewid part x y : ℕ) → IsSheet c
+    → list_any (λ d. hurts_point d part x y) (step_hurt c input) ≡ false
+    → colour_of (stepped c input).parts nviewid part x y ≡ colour_of c.parts nviewid part x y
+covered c input nviewid part x y sound away = step_covered c input nviewid part x y away
+
+-- ---- scenes
+
+pub pictures : (c : Sheet) (place : Place) → IsSheet c → IsArea place → place.part < length c.parts
+    → scene_picture (sheet_cut c place) ≡ shown sheet_kind c place
+pictures c place sound area part = cut_shows c.parts place area part
+
+-- ---- where damage lies
 
 each_within : (c : Sheet) (part : ℕ) (ds : List Damage) → part < length c.parts → AllByRecursion (IsInside part) ds → AllByRecursion (IsWithin sheet_kind c) ds
 each_within c part [] h all = tt

@@ -39,10 +39,12 @@ impl Model for SheetKit {
 impl Kit for SheetKit {
     type Scene = SheetScene;
 
+    ghost use Rattle.std.specs.Prelude.{nat_lt, length};
     ghost use Rattle.sheet_calc.specs.Books.{Parts};
     ghost use Rattle.sheet_rules.specs.Typing.{Sheet};
     ghost use Rattle.sheet_rules.specs.Sheets.{IsSheet};
     ghost use Rattle.sheet_kit.specs.SheetKind.{sheet_kind};
+    ghost use Rattle.sheet_kit.specs.Seen.{sheet_cut};
 
     ghost Contents = { Sheet };
 
@@ -54,7 +56,14 @@ impl Kit for SheetKit {
 
     ghost IsSound = { IsSheet };
 
+    ghost cut = { sheet_cut };
+
+    ghost refuses = { λ file. nat_lt 2097152 (length file) };
+
     fn load(alloc: Global, file: &[u8]) -> Result<SheetKit, LoadFault> {
+        if file.len() > 2_097_152 {
+            return Err(LoadFault::BadFile);
+        }
         match read_book(alloc, file) {
             Ok(book) => Ok(SheetKit {
                 book,
@@ -113,6 +122,8 @@ impl Kit for SheetKit {
     ghost sound_step = { law.sound_step };
 
     ghost covered = { law.covered };
+
+    ghost pictures = { law.pictures };
 
     ghost within = { law.within };
 

@@ -3,8 +3,9 @@ ghost use Rattle.std.specs.Prelude.{◌≡◌, ◌<◌, ◌≤◌, List, [], ◌
 ghost use Rattle.kit_trait.specs.Pictures.{white};
 ghost use Rattle.tile_raster.specs.Painting.{Shows};
 ghost use Rattle.sheet_rules.specs.declared.cuts.ShownText.{ShownText};
+ghost use Rattle.sheet_rules.specs.Colours.{has_lines};
 ghost use Rattle.sheet_rules.specs.Cuts.{cut_colour};
-ghost use Rattle.sheet_kit.specs.Layers.{column_line, row_line, on_columns, on_lines, lined};
+ghost use Rattle.sheet_kit.specs.Layers.{column_line, row_line, on_columns, on_edges, on_lines, lined, cell_within};
 
 use cool_base::Rect;
 use sheet_rules::ShownText;
@@ -14,8 +15,27 @@ use tile_raster::Canvas;
 // The colour of lines.
 const GREY: [u8; 4] = [192, 192, 192, 255];
 
+// Whether the area's look has lines.
+pub(crate) fn has_lines(area: &Area) -> bool
+    ensures { result ≡ has_lines area.now.nviewid }
+{
+    area.nviewid() == 0
+}
+
+// Draws the lines of the cells that the area meets, where there are lines.
+#[tactic(auto, using(crate::proofs::Layering::lines_drawn, crate::proofs::Layering::lines_left))]
+pub(crate) fn draw_lines(canvas: &mut Canvas, area: &Area, lines: bool)
+    requires { Shows (λ part x y. white) area.now canvas.old }
+    ensures { Shows (λ part x y. lined (on_lines lines x y)) area.now canvas.new }
+{
+    if lines {
+        draw_columns(canvas, area);
+        draw_rows(canvas, area);
+    }
+}
+
 // Draws the lines of the columns that the area meets.
-pub(crate) fn draw_columns(canvas: &mut Canvas, area: &Area)
+fn draw_columns(canvas: &mut Canvas, area: &Area)
     requires { Shows (λ part x y. white) area.now canvas.old }
     ensures { Shows (λ part x y. lined (on_columns 256 x y)) area.now canvas.new }
 {
@@ -27,9 +47,9 @@ pub(crate) fn draw_columns(canvas: &mut Canvas, area: &Area)
 }
 
 // Draws the lines of the rows that the area meets.
-pub(crate) fn draw_rows(canvas: &mut Canvas, area: &Area)
+fn draw_rows(canvas: &mut Canvas, area: &Area)
     requires { Shows (λ part x y. lined (on_columns 256 x y)) area.now canvas.old }
-    ensures { Shows (λ part x y. lined (on_lines x y)) area.now canvas.new }
+    ensures { Shows (λ part x y. lined (on_edges x y)) area.now canvas.new }
 {
     let first = area.posy() / 240;
     let end = (area.posy() + area.tileheight() - 1) / 240 + 1;
@@ -64,32 +84,40 @@ fn row_line(row: u32) -> Rect
     }
 }
 
-// Draws the texts in their cells.
-pub(crate) fn draw_texts(canvas: &mut Canvas, area: &Area, texts: &[ShownText])
-    requires { Shows (λ part x y. lined (on_lines x y)) area.now canvas.old }
-    ensures { Shows (λ part. cut_colour texts.now) area.now canvas.new }
+// Draws the texts in their cells, between lines or without any.
+pub(crate) fn draw_texts(canvas: &mut Canvas, area: &Area, lines: bool, texts: &[ShownText])
+    requires { Shows (λ part x y. lined (on_lines lines x y)) area.now canvas.old }
+    ensures { Shows (λ part. cut_colour lines texts.now) area.now canvas.new }
 {
     for shown in texts {
-        draw_text(canvas, area, shown);
+        draw_text(canvas, area, lines, shown);
     }
 }
 
-// Draws the text in its cell.
-fn draw_text(canvas: &mut Canvas, area: &Area, shown: &ShownText)
+// Draws the text in its cell, between lines or without any.
+fn draw_text(canvas: &mut Canvas, area: &Area, lines: bool, shown: &ShownText)
     requires width { area.now.width ≡ canvas.old.width }
     requires height { area.now.height ≡ canvas.old.height }
-    ensures { (texts : List ShownText) → Shows (λ part. cut_colour texts) area.now canvas.old → Shows (λ part. cut_colour (texts ++ shown.now ∷ [])) area.now canvas.new }
+    ensures { (texts : List ShownText) → Shows (λ part. cut_colour lines texts) area.now canvas.old
+        → Shows (λ part. cut_colour lines (texts ++ shown.now ∷ [])) area.now canvas.new }
 {
     if shown.row >= 4_096 || shown.col >= 256 {
         return;
     }
-    let x = shown.col * 960;
-    let y = shown.row * 240;
-    let cell = Rect {
-        x,
-        y,
-        w: 945,
-        h: 225,
-    };
-    canvas.draw_text(area, x + 30, y + 60, &cell, shown.text.get());
+    let cell = cell_within(lines, shown.row, shown.col);
+    canvas.draw_text(area, cell.x + 30, cell.y + 60, &cell, shown.text.get());
+}
+
+// The points of a cell that no line takes.
+fn cell_within(lines: bool, row: u32, col: u32) -> Rect
+    requires row { row < 4096 }
+    requires col { col < 256 }
+    ensures { result ≡ cell_within lines row col }
+{
+    Rect {
+        x: col * 960,
+        y: row * 240,
+        w: if lines { 945 } else { 960 },
+        h: if lines { 225 } else { 240 },
+    }
 }

@@ -8,8 +8,6 @@ mod cuts;
 mod kit;
 mod layers;
 mod scene;
-#[cfg(test)]
-mod tests;
 
 pub use kit::SheetKit;
 pub use scene::SheetScene;

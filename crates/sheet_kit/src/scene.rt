@@ -1,7 +1,7 @@
 //! `SheetScene`: what an area of a sheet document shows.
 ghost use Rattle.std.specs.Prelude.{◌≡◌, IfOk};
 
-use crate::layers::{draw_columns, draw_rows, draw_texts};
+use crate::layers::{draw_lines, draw_texts, has_lines};
 use cool_base::{ListOf, Memory, TextOf};
 use kit_trait::{Pixels, Scene};
 use sheet_rules::ShownText;
@@ -47,9 +47,9 @@ impl Scene for SheetScene {
 
     fn paint(&self, alloc: Global) -> Result<Pixels, Memory> {
         let mut canvas = Canvas::new(alloc, self.area.width(), self.area.height())?;
-        draw_columns(&mut canvas, &self.area);
-        draw_rows(&mut canvas, &self.area);
-        draw_texts(&mut canvas, &self.area, self.texts.get());
+        let lines = has_lines(&self.area);
+        draw_lines(&mut canvas, &self.area, lines);
+        draw_texts(&mut canvas, &self.area, lines, self.texts.get());
         canvas.finish()
     }
 

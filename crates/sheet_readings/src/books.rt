@@ -1,50 +1,92 @@
 //! Cases of cells and of books: raw texts that are set, what an edit changes, and what cells show.
+ghost use Rattle.std.specs.Prelude.{◌≡◌, OnOk, length};
+ghost use Rattle.std.specs.Option.{IfSome};
+ghost use Rattle.sheet_cells.specs.Cells.{IsCell};
+
 use crate::desk::Desk;
 use crate::spelling::{cell, number};
 use sheet_calc::{Book, is_raw};
-use sheet_cells::Cells;
+use sheet_cells::{CellRef, Cells};
 use std::alloc::Global;
 use std::io::Print;
 
-/// New cells of so many parts.
-pub fn begin_cells(
-    rt: &impl Print,
-    alloc: Global,
-    desk: &mut Desk,
-    text: &str,
-) -> anyhow::Result<()> {
-    let parts = number(text);
-    if parts < 1 || parts > 16 {
-        println!(rt; "  no cells")?;
-        return Ok(());
-    }
-    desk.cells = Cells::new(alloc, parts)?;
-    desk.parts = parts;
-    Ok(())
+/// Four times `<part> <name> <raw>`, parted by bars: cells of sixteen parts are given the raw texts one after
+/// the other, and what they have is printed in between.
+pub fn texts(rt: &impl Print, alloc: Global, text: &str) -> anyhow::Result<()> {
+    let (first, rest) = text.split_once('|').unwrap_or((text, ""));
+    let (second, rest) = rest.split_once('|').unwrap_or((rest, ""));
+    let (third, fourth) = rest.split_once('|').unwrap_or((rest, ""));
+    let mut cells = Cells::new(alloc, 16)?;
+    write_two(rt, alloc, &mut cells, first, second)?;
+    write_two(rt, alloc, &mut cells, third, fourth)?;
+    look(rt, &cells, first)?;
+    look(rt, &cells, second)
 }
 
-/// Gives a cell of the cells a raw text, and prints what it has then.
-pub fn text(rt: &impl Print, alloc: Global, desk: &mut Desk, text: &str) -> anyhow::Result<()> {
-    let Some((at, raw)) = cell(text) else {
+// Gives two cells their raw texts, and prints then what the first of them has.
+fn write_two(
+    rt: &impl Print,
+    alloc: Global,
+    cells: &mut Cells,
+    first: &str,
+    second: &str,
+) -> anyhow::Result<()>
+    requires { cells.old.parts ≡ 16 }
+    ensures { OnOk result (cells.new.parts ≡ 16) }
+{
+    write(rt, alloc, cells, first)?;
+    write(rt, alloc, cells, second)?;
+    look(rt, cells, first)
+}
+
+// The cell and the text behind it, where the cell is one of sixteen parts.
+fn in_sixteen(text: &str) -> Option<(CellRef, &str)>
+    ensures { IfSome result (λ pair. IsCell 16 pair.0) }
+{
+    let (at, raw) = cell(text)?;
+    if at.part >= 16 || at.row >= 4096 || at.col >= 256 {
+        return None;
+    }
+    Some((at, raw))
+}
+
+// Gives the cell its raw text, where both are, and prints what it has then.
+fn write(rt: &impl Print, alloc: Global, cells: &mut Cells, text: &str) -> anyhow::Result<()>
+    requires { cells.old.parts ≡ 16 }
+    ensures { OnOk result (cells.new.parts ≡ 16) }
+{
+    let Some((at, raw)) = in_sixteen(text) else {
         println!(rt; "  no cell")?;
         return Ok(());
     };
-    if at.part >= desk.parts || !is_raw(raw) {
-        println!(rt; "  no cell or no raw text")?;
+    if !is_raw(raw) {
+        println!(rt; "  no raw text")?;
         return Ok(());
     }
-    desk.cells.set(alloc, &at, raw)?;
-    println!(rt; "  [{}]", desk.cells.raw(&at))?;
+    cells.set(alloc, &at, raw)?;
+    println!(rt; "  [{}]", cells.raw(&at))?;
     Ok(())
 }
 
-/// What a cell of the cells has.
-pub fn look(rt: &impl Print, desk: &Desk, text: &str) -> anyhow::Result<()> {
-    match cell(text) {
-        Some((at, _)) if at.part < desk.parts => println!(rt; "  [{}]", desk.cells.raw(&at))?,
-        _ => println!(rt; "  no cell")?,
+// Prints what the cell has.
+fn look(rt: &impl Print, cells: &Cells, text: &str) -> anyhow::Result<()>
+    requires { cells.now.parts ≡ 16 }
+{
+    match in_sixteen(text) {
+        Some((at, _)) => println!(rt; "  [{}]", cells.raw(&at))?,
+        None => println!(rt; "  no cell")?,
     }
     Ok(())
+}
+
+/// The cell, where it is one of the book.
+pub fn in_book(book: &Book, at: CellRef) -> Option<CellRef>
+    ensures { IfSome result (λ at. IsCell (length book.now) at) }
+{
+    if at.part >= book.parts() || at.row >= 4096 || at.col >= 256 {
+        return None;
+    }
+    Some(at)
 }
 
 /// A new book of so many parts.
@@ -71,41 +113,69 @@ pub fn begin_book(
 /// Gives a cell of the book a raw text, and prints the length that was foretold of the file, each cell that
 /// shows another text, and the file's length.
 pub fn set(rt: &impl Print, alloc: Global, desk: &mut Desk, text: &str) -> anyhow::Result<()> {
-    let Some((at, raw)) = cell(text) else {
-        println!(rt; "  no cell")?;
+    match cell(text) {
+        Some((at, raw)) => edit(rt, alloc, &mut desk.book, at, raw),
+        None => Ok(println!(rt; "  no cell")?),
+    }
+}
+
+// Gives the cell the raw text, where both are, and prints what comes of it.
+fn edit(
+    rt: &impl Print,
+    alloc: Global,
+    book: &mut Book,
+    at: CellRef,
+    raw: &str,
+) -> anyhow::Result<()> {
+    let Some(at) = in_book(book, at) else {
+        println!(rt; "  no cell or no raw text")?;
         return Ok(());
     };
-    let book = &mut desk.book;
-    if at.part >= book.parts() || !is_raw(raw) {
+    if !is_raw(raw) {
         println!(rt; "  no cell or no raw text")?;
         return Ok(());
     }
     let foretold = book.text_len_with(&at, raw);
     let changed = book.set(alloc, &at, raw)?;
     for (row, col) in changed.places.get() {
-        shown(rt, book, changed.part, *row, *col)?;
+        let (row, col) = (*row, *col);
+        shown(
+            rt,
+            book,
+            CellRef {
+                part: changed.part,
+                row,
+                col,
+            },
+        )?;
     }
     println!(rt; "  {foretold} {}", book.text_len())?;
     Ok(())
 }
 
-// Prints what a cell shows.
-fn shown(rt: &impl Print, book: &Book, part: u32, row: u32, col: u32) -> anyhow::Result<()> {
-    if part < book.parts() && row < 4096 && col < 256 {
-        let at = sheet_cells::CellRef { part, row, col };
-        println!(rt; "  {part}/{row},{col} [{}]", book.shown(&at))?;
-    }
+// Prints what a cell shows that changed.
+fn shown(rt: &impl Print, book: &Book, at: CellRef) -> anyhow::Result<()> {
+    let Some(at) = in_book(book, at) else {
+        return Ok(());
+    };
+    println!(rt; "  {}/{},{} [{}]", at.part, at.row, at.col, book.shown(&at))?;
     Ok(())
 }
 
 /// What a cell of the book shows, and its raw text.
 pub fn show(rt: &impl Print, desk: &Desk, text: &str) -> anyhow::Result<()> {
-    let book = &desk.book;
     match cell(text) {
-        Some((at, _)) if at.part < book.parts() => {
-            println!(rt; "  [{}] [{}]", book.shown(&at), book.raw(&at))?;
-        }
-        _ => println!(rt; "  no cell")?,
+        Some((at, _)) => both(rt, &desk.book, at),
+        None => Ok(println!(rt; "  no cell")?),
     }
+}
+
+// Prints what the cell shows, and its raw text.
+fn both(rt: &impl Print, book: &Book, at: CellRef) -> anyhow::Result<()> {
+    let Some(at) = in_book(book, at) else {
+        println!(rt; "  no cell")?;
+        return Ok(());
+    };
+    println!(rt; "  [{}] [{}]", book.shown(&at), book.raw(&at))?;
     Ok(())
 }

@@ -1,7 +1,9 @@
 //! Cases of files: what the bytes of a file say, and what is written of a book.
 use crate::desk::Desk;
 use crate::spelling::{bytes, cell, number};
+use cool_base::Memory;
 use sheet_calc::{BookDraft, is_raw};
+use sheet_cells::CellRef;
 use sheet_file::{read_book, write_book};
 use std::alloc::Global;
 use std::io::{self, Print, Write};
@@ -33,13 +35,23 @@ pub fn draft(rt: &impl Print, alloc: Global, desk: &mut Desk, text: &str) -> any
     for _ in 0..64 {
         let (one, behind) = rest.split_once('|').unwrap_or((rest, ""));
         rest = behind;
-        let Some((at, raw)) = cell(one) else { continue };
-        if at.part < draft.parts() && is_raw(raw) {
-            draft.add(alloc, &at, raw)?;
+        if let Some((at, raw)) = cell(one) {
+            add(alloc, &mut draft, at, raw)?;
         }
     }
     desk.book = draft.finish(alloc)?;
     written(rt, alloc, desk)
+}
+
+// Gives the cell of the draft the raw text, where both are.
+fn add(alloc: Global, draft: &mut BookDraft, at: CellRef, raw: &str) -> Result<(), Memory> {
+    if at.part >= draft.parts() || at.row >= 4096 || at.col >= 256 {
+        return Ok(());
+    }
+    if !is_raw(raw) {
+        return Ok(());
+    }
+    draft.add(alloc, &at, raw)
 }
 
 /// What the file of these bytes says; where it says a book, that is the book, and its file is written.

@@ -5,7 +5,7 @@ ghost use Rattle.formula_base.specs.declared.values.Value.TheVariants.{Empty, Nu
 
 use crate::spelling::number;
 use cool_base::Memory;
-use formula_base::{CellFault, Lookup, Value, eval, reads};
+use formula_base::{CellFault, Expr, Lookup, Value, eval, reads};
 use sheet_cells::{Plain, read_plain, read_ref};
 use sheet_formula::read_formula;
 use std::alloc::Global;
@@ -55,24 +55,42 @@ pub fn plain(rt: &impl Print, text: &str) -> anyhow::Result<()> {
 
 /// The value of a formula where one row has sevens, and the cells that it names.
 pub fn formula(rt: &impl Print, alloc: Global, raw: &str, row: u32) -> anyhow::Result<()> {
-    let Some(expression) = read_formula(alloc, raw)? else {
-        println!(rt; "  none")?;
-        return Ok(());
-    };
-    match eval(alloc, &expression, &Sevens { row })? {
-        Value::Empty => print!(rt; "  empty")?,
-        Value::Number(number) => print!(rt; "  number {number}")?,
-        Value::Words(words) => print!(rt; "  text [{}]", words.get())?,
-        Value::Fault(CellFault::Num) => print!(rt; "  #NUM!")?,
-        Value::Fault(CellFault::Div0) => print!(rt; "  #DIV/0!")?,
-        Value::Fault(CellFault::Value) => print!(rt; "  #VALUE!")?,
-        Value::Fault(CellFault::Circ) => print!(rt; "  #CIRC!")?,
+    match read_formula(alloc, raw)? {
+        Some(expression) => valued(rt, alloc, &expression, row),
+        None => Ok(println!(rt; "  none")?),
     }
-    for (row, col) in &reads(alloc, &expression)? {
+}
+
+// The value of the expression where one row has sevens, and the cells that it names.
+fn valued(rt: &impl Print, alloc: Global, expression: &Expr, row: u32) -> anyhow::Result<()> {
+    let cells = Sevens { row };
+    let value = eval(alloc, expression, &cells)?;
+    print!(rt; "  {}", spelled(alloc, &value)?.as_str())?;
+    let names = reads(alloc, expression)?;
+    for (row, col) in names.as_slice() {
         print!(rt; " {row},{col}")?;
     }
-    println!(rt; "")?;
-    Ok(())
+    Ok(println!(rt; "")?)
+}
+
+// How a value is printed.
+fn spelled(alloc: Global, value: &Value) -> Result<String, Memory> {
+    match value {
+        Value::Empty => Ok(String::from_str(alloc, "empty")?),
+        Value::Number(number) => Ok(format!(in alloc; "number {number}")?),
+        Value::Words(words) => Ok(format!(in alloc; "text [{}]", words.get())?),
+        Value::Fault(fault) => Ok(String::from_str(alloc, fault_name(*fault))?),
+    }
+}
+
+// The name of an error.
+fn fault_name(fault: CellFault) -> &'static str {
+    match fault {
+        CellFault::Num => "#NUM!",
+        CellFault::Div0 => "#DIV/0!",
+        CellFault::Value => "#VALUE!",
+        CellFault::Circ => "#CIRC!",
+    }
 }
 
 /// A formula of `<n> <open> <close>`: n times `<open>`, then `1`, then n times `<close>`.

@@ -20,7 +20,7 @@ use Rattle.sheet_rules.specs.declared.cursors.Act.{Act}
 use Rattle.sheet_rules.specs.declared.cursors.Act.TheVariants.{Stays, Goes, Writes}
 use Rattle.sheet_rules.specs.Typing.{Sheet, cursor_of, is_inside, cell_at, act_of, fits, written, acted, stepped}
 use Rattle.sheet_rules.specs.Damage.{damage_of, damage_between, step_hurt}
-use Rattle.sheet_rules.specs.Colours.{cell_colour, colour_of}
+use Rattle.sheet_rules.specs.Colours.{has_lines, cell_colour, colour_of}
 use Rattle.sheet_rules.specs.Sheets.{IsSheet}
 use Rattle.sheet_rules.proofs.ChangedCells.{part_kept, changed_places, undamaged}
 use Rattle.sheet_rules.proofs.Hurts.{IsInside, listed_hurt, hurt_inside, hurt_few}
@@ -83,14 +83,14 @@ shown_kept old new n part x y kept away =
     (λ (apart : part ≡ n → ⊥). ap (λ (s : Part). shown_at s (y / 240, x / 960)) (kept.others part apart))
     (cases_eq part n)
 
-pub colour_kept : (old new : Parts) (n part x y : ℕ) → KeepsOthers old new n → list_any (λ d. hurts_point d part x y) (damage_between old new n) ≡ false → colour_of new part x y ≡ colour_of old part x y
+pub colour_kept : (old new : Parts) (n nviewid part x y : ℕ) → KeepsOthers old new n → list_any (λ d. hurts_point d part x y) (damage_between old new n) ≡ false → colour_of new nviewid part x y ≡ colour_of old nviewid part x y
 unfolding colour_of
-colour_kept old new n part x y kept away =
-    ap (λ (m : ℕ). if nat_lt part m && is_inside x y then cell_colour (shown_of new (cell_at part x y)) (x % 960) (y % 240) else white) kept.many
-    ∙ ap (λ (s : List ℕ). if nat_lt part (length old) && is_inside x y then cell_colour s (x % 960) (y % 240) else white) (shown_kept old new n part x y kept away)
+colour_kept old new n nviewid part x y kept away =
+    ap (λ (m : ℕ). if nat_lt part m && is_inside x y then cell_colour (has_lines nviewid) (shown_of new (cell_at part x y)) (x % 960) (y % 240) else white) kept.many
+    ∙ ap (λ (s : List ℕ). if nat_lt part (length old) && is_inside x y then cell_colour (has_lines nviewid) s (x % 960) (y % 240) else white) (shown_kept old new n part x y kept away)
 
-pub step_covered : (c : Sheet) (input : Input) (part x y : ℕ) → list_any (λ d. hurts_point d part x y) (step_hurt c input) ≡ false → colour_of (stepped c input).parts part x y ≡ colour_of c.parts part x y
-step_covered c input part x y away = colour_kept c.parts (stepped c input).parts input.part part x y (step_kept c input) away
+pub step_covered : (c : Sheet) (input : Input) (nviewid part x y : ℕ) → list_any (λ d. hurts_point d part x y) (step_hurt c input) ≡ false → colour_of (stepped c input).parts nviewid part x y ≡ colour_of c.parts nviewid part x y
+step_covered c input nviewid part x y away = colour_kept c.parts (stepped c input).parts input.part nviewid part x y (step_kept c input) away
 
 -- ---- damage
 

@@ -14,7 +14,7 @@ use Rattle.sheet_cells.specs.declared.cells.CellRef.{CellRef}
 use Rattle.sheet_calc.specs.Books.{Parts, shown_of}
 use Rattle.sheet_rules.specs.declared.cuts.ShownText.{ShownText}
 use Rattle.sheet_rules.specs.Typing.{is_inside, cell_at}
-use Rattle.sheet_rules.specs.Colours.{black, grey, is_line, has_dot, is_lettered, cell_colour, colour_of}
+use Rattle.sheet_rules.specs.Colours.{black, grey, has_lines, is_line, has_dot, is_lettered, cell_colour, colour_of}
 use Rattle.sheet_rules.specs.Cuts.{text_in, texts_in_row, texts_in_rows, cells_met, texts_of, is_dot_of, cut_colour}
 
 -- ---- pictures that agree at each sampled point are one
@@ -171,21 +171,21 @@ texts_dot parts p x y a b c d e f =
     ∙ ap (λ (b : Bool). (b && is_among (p.posx / 960) (cells_met p.posx p.tilewidth 960 256) (x / 960)) && dot_at parts p.part x y) (met_y p.posy p.tileheight y c d f)
     ∙ ap (λ (b : Bool). b && dot_at parts p.part x y) (met_x p.posx p.tilewidth x a b e)
 
-point_same : (parts : Parts) (p : Place) (x y : ℕ) → p.part < length parts → p.posx ≤ x → x < p.posx + p.tilewidth → p.posy ≤ y → y < p.posy + p.tileheight → cut_colour (texts_of parts p) x y ≡ colour_of parts p.part x y
+point_same : (parts : Parts) (p : Place) (x y : ℕ) → p.part < length parts → p.posx ≤ x → x < p.posx + p.tilewidth → p.posy ≤ y → y < p.posy + p.tileheight → cut_colour (has_lines p.nviewid) (texts_of parts p) x y ≡ colour_of parts p.nviewid p.part x y
 unfolding colour_of
 point_same parts p x y h a b c d =
     by (is_inside x y) refl
-    ∙ sym (ap (λ (b : Bool). if b && is_inside x y then cell_colour (shown_of parts (cell_at p.part x y)) (x % 960) (y % 240) else white) (lt-ltb p.part (length parts) h))
+    ∙ sym (ap (λ (b : Bool). if b && is_inside x y then cell_colour (has_lines p.nviewid) (shown_of parts (cell_at p.part x y)) (x % 960) (y % 240) else white) (lt-ltb p.part (length parts) h))
   where
-    by : (b : Bool) → is_inside x y ≡ b → (if b then (if is_line (x % 960) (y % 240) then grey else (if list_any (is_dot_of x y) (texts_of parts p) then black else white)) else white) ≡ (if b then cell_colour (shown_of parts (cell_at p.part x y)) (x % 960) (y % 240) else white)
+    by : (b : Bool) → is_inside x y ≡ b → (if b then (if is_line (has_lines p.nviewid) (x % 960) (y % 240) then grey else (if list_any (is_dot_of x y) (texts_of parts p) then black else white)) else white) ≡ (if b then cell_colour (has_lines p.nviewid) (shown_of parts (cell_at p.part x y)) (x % 960) (y % 240) else white)
     by true e =
         let sides = and_parts (nat_lt x 245760) (nat_lt y 983040) e in
-        ap (λ (b : Bool). if is_line (x % 960) (y % 240) then grey else (if b then black else white))
+        ap (λ (b : Bool). if is_line (has_lines p.nviewid) (x % 960) (y % 240) then grey else (if b then black else white))
         (texts_dot parts p x y a b c d (ltb-true x 245760 sides.0) (ltb-true y 983040 sides.1))
     by false e = refl
 
 -- the picture of the texts that an area meets is what it shows
-pub cut_shows : (parts : Parts) (p : Place) → IsArea p → p.part < length parts → picture (λ part. cut_colour (texts_of parts p)) p ≡ picture (colour_of parts) p
+pub cut_shows : (parts : Parts) (p : Place) → IsArea p → p.part < length parts → picture (λ part. cut_colour (has_lines p.nviewid) (texts_of parts p)) p ≡ picture (colour_of parts p.nviewid) p
 cut_shows parts p area h =
-    same_picture (λ part. cut_colour (texts_of parts p)) (colour_of parts) p
+    same_picture (λ part. cut_colour (has_lines p.nviewid) (texts_of parts p)) (colour_of parts p.nviewid) p
     (λ i j a b. point_same parts p (x_at p i) (y_at p j) h (omega arith) (sampled p.posx p.tilewidth p.width i area.tilewidth_low area.width_low a) (omega arith) (sampled p.posy p.tileheight p.height j area.tileheight_low area.height_low b))

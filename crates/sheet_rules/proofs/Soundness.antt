@@ -24,13 +24,16 @@ use Rattle.part_calc.proofs.KeptLaws.{put_kept}
 use Rattle.part_calc.proofs.ListLaws.{sorted_insert}
 use Rattle.sheet_calc.specs.Books.{Parts, IsBook, place_of, part_at, text_of, with_cell}
 use Rattle.sheet_calc.specs.FileText.{file_text}
+use Rattle.kit_trait.specs.declared.keys.KeyCode.{KeyCode}
+use Rattle.kit_trait.specs.declared.keys.KeyCode.TheVariants.{Down, Up, Left, Right, Home, End, Return, Tab, Backspace, Delete}
+use Rattle.kit_trait.specs.Keys.{key_with, is_scalar, is_typed}
 use Rattle.kit_trait.specs.declared.values.Input.{Input}
 use Rattle.kit_trait.specs.declared.values.What.{What}
 use Rattle.kit_trait.specs.declared.values.What.TheVariants.{Key, Mouse}
 use Rattle.sheet_rules.specs.declared.cursors.Cursor.{Cursor}
 use Rattle.sheet_rules.specs.declared.cursors.Act.{Act}
 use Rattle.sheet_rules.specs.declared.cursors.Act.TheVariants.{Stays, Goes, Writes}
-use Rattle.sheet_rules.specs.Typing.{Sheet, first_cursor, cursor_in, cursor_of, cell_below, cell_above, cell_left, cell_right, row_start, last_filled, row_end, is_inside, cell_at, without_last, is_scalar, is_typed, char_act, edit_act, jump_act, key_act, mouse_act, act_of, fits, writes_raw, written, acted, stepped}
+use Rattle.sheet_rules.specs.Typing.{Sheet, first_cursor, cursor_in, cursor_of, cell_below, cell_above, cell_left, cell_right, row_start, last_filled, row_end, is_inside, cell_at, without_last, char_act, code_act, key_act, mouse_act, act_of, fits, writes_raw, written, acted, stepped}
 use Rattle.sheet_rules.specs.Sheets.{AreCursors, IsSheet}
 use Rattle.sheet_rules.proofs.ChangedCells.{part_kept}
 
@@ -175,11 +178,6 @@ char_is n parts a chr book = by (is_typed chr) refl
     by true e = either IsText a.fresh (encode_utf8 chr) (text_of parts a.at ++ encode_utf8 chr) (typed_text chr e) (added_text (text_of parts a.at) (encode_utf8 chr) (text_is parts a.at book) (typed_text chr e))
     by false e = tt
 
-edit_is : (n : ℕ) (parts : Parts) (a : Cursor) (chr code : ℕ) → IsBook parts → IsAct n (edit_act parts a chr code)
-edit_is n parts a chr code book =
-    either (IsAct n) (code == 1283) (Writes (without_last (text_of parts a.at)) false) (if code == 1286 then Writes [] true else char_act parts a chr) (shorter_text (text_of parts a.at) (text_is parts a.at book))
-    (either (IsAct n) (code == 1286) (Writes [] true) (char_act parts a chr) no_text (char_is n parts a chr book))
-
 last_small : (text : ℕ → List ℕ) (n : ℕ) → last_filled text n ≤ n - 1
 unfolding last_filled
 last_small text zero = omega arith
@@ -204,19 +202,21 @@ right_is n at cell = record { part = cell.part; row = cell.row; col = omega arit
 start_is : (n : ℕ) (at : CellRef) → IsCell n at → IsCell n (row_start at)
 start_is n at cell = record { part = cell.part; row = cell.row; col = lit< tt }
 
-jump_is : (n : ℕ) (parts : Parts) (a : Cursor) (chr code : ℕ) → IsBook parts → IsCell n a.at → IsAct n (jump_act parts a chr code)
-jump_is n parts a chr code book cell =
-    either (IsAct n) (code == 1028) (Goes (row_start a.at)) _ (start_is n a.at cell)
-    (either (IsAct n) (code == 1029) (Goes (row_end parts a.at)) _ (end_is n parts a.at cell)
-    (either (IsAct n) (code == 1280) (Goes (cell_below a.at)) _ (below_is n a.at cell)
-    (either (IsAct n) (code == 1282) (Goes (cell_right a.at)) _ (right_is n a.at cell) (edit_is n parts a chr code book))))
+code_is : (n : ℕ) (parts : Parts) (a : Cursor) (key : KeyCode) → IsBook parts → IsCell n a.at → IsAct n (code_act parts a key)
+code_is n parts a Down book cell = below_is n a.at cell
+code_is n parts a Up book cell = above_is n a.at cell
+code_is n parts a Left book cell = left_is n a.at cell
+code_is n parts a Right book cell = right_is n a.at cell
+code_is n parts a Home book cell = start_is n a.at cell
+code_is n parts a End book cell = end_is n parts a.at cell
+code_is n parts a Return book cell = below_is n a.at cell
+code_is n parts a Tab book cell = right_is n a.at cell
+code_is n parts a Backspace book cell = shorter_text (text_of parts a.at) (text_is parts a.at book)
+code_is n parts a Delete book cell = no_text
 
-key_is : (n : ℕ) (parts : Parts) (a : Cursor) (chr code : ℕ) → IsBook parts → IsCell n a.at → IsAct n (key_act parts a chr code)
-key_is n parts a chr code book cell =
-    either (IsAct n) (code == 1024) (Goes (cell_below a.at)) _ (below_is n a.at cell)
-    (either (IsAct n) (code == 1025) (Goes (cell_above a.at)) _ (above_is n a.at cell)
-    (either (IsAct n) (code == 1026) (Goes (cell_left a.at)) _ (left_is n a.at cell)
-    (either (IsAct n) (code == 1027) (Goes (cell_right a.at)) _ (right_is n a.at cell) (jump_is n parts a chr code book cell))))
+key_is : (n : ℕ) (parts : Parts) (a : Cursor) (chr : ℕ) (key : Option KeyCode) → IsBook parts → IsCell n a.at → IsAct n (key_act parts a chr key)
+key_is n parts a chr (Some key) book cell = code_is n parts a key book cell
+key_is n parts a chr None book cell = char_is n parts a chr book
 
 mouse_is : (n part x y : ℕ) → part < n → IsAct n (mouse_act part x y)
 mouse_is n part x y h = by (is_inside x y) refl
@@ -228,7 +228,7 @@ mouse_is n part x y h = by (is_inside x y) refl
     by false e = tt
 
 pub act_is : (n : ℕ) (parts : Parts) (a : Cursor) (part : ℕ) (what : What) → IsBook parts → IsCell n a.at → part < n → IsAct n (act_of parts a part what)
-act_is n parts a part (Key chr code) book cell h = key_is n parts a chr code book cell
+act_is n parts a part (Key chr code) book cell h = key_is n parts a chr (key_with code) book cell
 act_is n parts a part (Mouse x y count buttons modifier) book cell h = mouse_is n part x y h
 
 -- so what it writes may stand in a raw text

@@ -39,9 +39,9 @@ texts_of parts p =
 abbrev pub is_dot_of : ℕ → ℕ → ShownText → Bool
 is_dot_of x y t = (nat_eq t.row (y / 240) && nat_eq t.col (x / 960)) && is_lettered t.text (x % 960) (y % 240)
 
--- the colour of a point where the cells show these texts
-abbrev pub cut_colour : List ShownText → ℕ → ℕ → Colour
-cut_colour texts x y =
+-- with lines or without: the colour of a point where the cells show these texts
+abbrev pub cut_colour : Bool → List ShownText → ℕ → ℕ → Colour
+cut_colour lines texts x y =
     if is_inside x y
-    then (if is_line (x % 960) (y % 240) then grey else (if list_any (is_dot_of x y) texts then black else white))
+    then (if is_line lines (x % 960) (y % 240) then grey else (if list_any (is_dot_of x y) texts then black else white))
     else white

@@ -1,5 +1,5 @@
 -- What an input does to a sheet document: it moves the cursor of its view, or changes the raw text under it.
-use Rattle.std.specs.Prelude.{ℕ, zero, suc, ◌+◌, ◌-◌, ◌/◌, min, Bool, true, false, not, ◌&&◌, ◌||◌, ◌==◌, nat_lt, nat_le, nat_eq, List, [], ◌∷◌, ◌++◌, length, take, Option, Some, None, if◌then◌else◌, encode_utf8, encode_utf8_all}
+use Rattle.std.specs.Prelude.{ℕ, zero, suc, ◌+◌, ◌-◌, ◌/◌, min, Bool, true, false, ◌&&◌, ◌==◌, nat_lt, nat_le, nat_eq, List, [], ◌∷◌, ◌++◌, length, take, Option, Some, None, if◌then◌else◌, encode_utf8, encode_utf8_all}
 use Rattle.std.specs.Str.{chars}
 use Rattle.std.specs.List.{list_all}
 use Rattle.std.specs.Ordering.{nat_cmp}
@@ -9,6 +9,9 @@ use Rattle.sheet_cells.specs.declared.cells.CellRef.{CellRef}
 use Rattle.sheet_cells.specs.Cells.{is_raw_byte}
 use Rattle.sheet_calc.specs.Books.{Parts, text_of, with_cell}
 use Rattle.sheet_calc.specs.FileText.{file_text}
+use Rattle.kit_trait.specs.declared.keys.KeyCode.{KeyCode}
+use Rattle.kit_trait.specs.declared.keys.KeyCode.TheVariants.{Down, Up, Left, Right, Home, End, Return, Tab, Backspace, Delete}
+use Rattle.kit_trait.specs.Keys.{key_with, is_typed}
 use Rattle.kit_trait.specs.declared.values.Input.{Input}
 use Rattle.kit_trait.specs.declared.values.What.{What}
 use Rattle.kit_trait.specs.declared.values.What.TheVariants.{Key, Mouse}
@@ -74,14 +77,6 @@ cell_at part x y = record { part = part; row = y / 240; col = x / 960 }
 unfoldable pub without_last : List ℕ → List ℕ
 without_last text = encode_utf8_all (take (length (chars text) - 1) (chars text))
 
--- a Unicode scalar value
-abbrev pub is_scalar : ℕ → Bool
-is_scalar c = nat_lt c 55296 || (nat_le 57344 c && nat_lt c 1114112)
-
--- whether a char is typed: a Unicode scalar value of at least 32 that isn't 127
-abbrev pub is_typed : ℕ → Bool
-is_typed c = is_scalar c && (nat_le 32 c && not (nat_eq c 127))
-
 -- a typed char takes the place of the text at a fresh cursor, and else is added at the text's end; another one changes nothing
 abbrev pub char_act : Parts → Cursor → ℕ → Act
 char_act parts cursor chr =
@@ -89,34 +84,30 @@ char_act parts cursor chr =
     then Writes (if cursor.fresh then encode_utf8 chr else text_of parts cursor.at ++ encode_utf8 chr) false
     else Stays
 
--- BACKSPACE takes the last character of the text, DELETE all of it; another code leaves the key to its char
-abbrev pub edit_act : Parts → Cursor → ℕ → ℕ → Act
-edit_act parts cursor chr code =
-    if code == 1283 then Writes (without_last (text_of parts cursor.at)) false
-    else (if code == 1286 then Writes [] true else char_act parts cursor chr)
+-- what a key means that acts by its code
+abbrev pub code_act : Parts → Cursor → KeyCode → Act
+code_act parts cursor Down = Goes (cell_below cursor.at)
+code_act parts cursor Up = Goes (cell_above cursor.at)
+code_act parts cursor Left = Goes (cell_left cursor.at)
+code_act parts cursor Right = Goes (cell_right cursor.at)
+code_act parts cursor Home = Goes (row_start cursor.at)
+code_act parts cursor End = Goes (row_end parts cursor.at)
+code_act parts cursor Return = Goes (cell_below cursor.at)
+code_act parts cursor Tab = Goes (cell_right cursor.at)
+code_act parts cursor Backspace = Writes (without_last (text_of parts cursor.at)) false
+code_act parts cursor Delete = Writes [] true
 
--- HOME, END, RETURN and TAB
-abbrev pub jump_act : Parts → Cursor → ℕ → ℕ → Act
-jump_act parts cursor chr code =
-    if code == 1028 then Goes (row_start cursor.at)
-    else (if code == 1029 then Goes (row_end parts cursor.at)
-    else (if code == 1280 then Goes (cell_below cursor.at)
-    else (if code == 1282 then Goes (cell_right cursor.at) else edit_act parts cursor chr code)))
-
--- a key is judged by its code first: DOWN, UP, LEFT and RIGHT
-abbrev pub key_act : Parts → Cursor → ℕ → ℕ → Act
-key_act parts cursor chr code =
-    if code == 1024 then Goes (cell_below cursor.at)
-    else (if code == 1025 then Goes (cell_above cursor.at)
-    else (if code == 1026 then Goes (cell_left cursor.at)
-    else (if code == 1027 then Goes (cell_right cursor.at) else jump_act parts cursor chr code)))
+-- a key is judged by its code first, and else by its char
+abbrev pub key_act : Parts → Cursor → ℕ → Option KeyCode → Act
+key_act parts cursor chr (Some key) = code_act parts cursor key
+key_act parts cursor chr None = char_act parts cursor chr
 
 -- a mouse input inside the part goes to the cell at its point; one outside changes nothing
 abbrev pub mouse_act : ℕ → ℕ → ℕ → Act
 mouse_act part x y = if is_inside x y then Goes (cell_at part x y) else Stays
 
 abbrev pub act_of : Parts → Cursor → ℕ → What → Act
-act_of parts cursor part (Key chr code) = key_act parts cursor chr code
+act_of parts cursor part (Key chr code) = key_act parts cursor chr (key_with code)
 act_of parts cursor part (Mouse x y count buttons modifier) = mouse_act part x y
 
 -- ---- what it leaves

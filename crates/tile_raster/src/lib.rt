@@ -12,8 +12,6 @@ mod fills;
 mod laws;
 mod letters;
 mod spans;
-#[cfg(test)]
-mod tests;
 
 pub use canvas::Canvas;
 pub use laws::{strokes_come_in_order, the_last_stroke_is_seen};

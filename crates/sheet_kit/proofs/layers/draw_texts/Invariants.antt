@@ -4,4 +4,4 @@ use Rattle.sheet_rules.specs.Cuts.{cut_colour}
 use Rattle.sheet_kit.proofs.layers.draw_texts.Given as goal
 
 abbrev pub invariant-loop-shown : goal.invariant-loop-shown
-invariant-loop-shown l = Shows (λ part. cut_colour (take l.shown-index l.texts)) l.area l.canvas
+invariant-loop-shown l = Shows (λ part. cut_colour l.lines (take l.shown-index l.texts)) l.area l.canvas

@@ -1,6 +1,7 @@
-use Rattle.std.proofs.Common.{ap, ◌∙◌}
+use Rattle.std.proofs.Common.{ap, subst, ◌∙◌}
+use Rattle.tile_key.specs.Places.{IsArea}
 use Rattle.std.specs.Prelude.{option_to_list}
-use Rattle.broker_core.proofs.Steps.{part_by, cuts_by}
+use Rattle.broker_core.proofs.Steps.{part_by, holds_cut, cuts_by}
 use Rattle.broker_core.proofs.core_of.Core.cut.Goals as goal
 
 pub scene-requires : goal.scene-requires
@@ -14,3 +15,13 @@ returns-clause-cut g c =
     cuts_by g.K.Kit.rules g.K.Kit.cut g.K.Kit.IsSound (g.K.Kit.contents c.self.inside.kit) c.self.inside.file c.self.inside.base c.self.inside.journal.items c.self.inside.applied c.self.inside.seats.items c.self.inside.next_view (option_to_list c.self.inside.job) c.self.inside.next_ticket c.in_ok-next_ticket.next_ticket c.args.next.0 c.args.next.1 c.in_ok-scene.scene c.in_ok-outs.outs c.args.self
     c.self.invariant c.self.view_is c.requires.none_out c.requires.level c.requires.next
     (c.in_ok-scene.ensures.cut ∙ ap (g.K.Kit.cut (g.K.Kit.contents c.self.inside.kit)) c.of_key-area.ensures) c.in_ok-next_ticket.ensures c.in_ok-outs.ensures
+
+pub invariant_of-core : goal.invariant_of-core
+invariant_of-core g c =
+    let i = c.self.inside in
+    holds_cut g.K.Kit.rules g.K.Kit.cut g.K.Kit.IsSound (g.K.Kit.contents i.kit) (g.K.Kit.contents c.scene.new.self) i.base i.journal.items i.applied i.seats.items i.next_view (option_to_list i.job) i.next_ticket c.args.next.1 c.in_ok-scene.scene
+    c.self.invariant c.in_ok-scene.ensures.kept
+    (subst IsArea c.of_key-area.ensures c.width-width.ensures.form)
+    (part_by g.K.Kit.rules g.K.Kit.cut g.K.Kit.IsSound (g.K.Kit.contents i.kit) i.file i.base i.journal.items i.applied i.seats.items i.next_view (option_to_list i.job) i.next_ticket c.args.next.0 c.args.next.1 c.args.self
+    c.self.invariant c.self.view_is c.requires.none_out c.requires.next)
+    (c.in_ok-scene.ensures.cut ∙ ap (g.K.Kit.cut (g.K.Kit.contents i.kit)) c.of_key-area.ensures)

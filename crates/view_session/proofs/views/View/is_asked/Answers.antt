@@ -1,5 +1,4 @@
 use Rattle.std.proofs.Common.{ap, ◌∙◌}
-use Rattle.view_session.specs.Slots.{IsSlotted}
 use Rattle.document_machine.specs.Keys.{is_among}
 use Rattle.view_session.proofs.views.View.is_asked.Goals as goal
 

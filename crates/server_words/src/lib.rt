@@ -1,0 +1,11 @@
+//! The words of the commands that serve.
+//!
+//! - `host_words`: what the words of `host` say, exactly, or why they say nothing.
+//! - `refusal_text`: the text for words that were refused.
+#![tactic(auto)]
+
+mod commands;
+mod refusals;
+
+pub use commands::{HostWords, WordsFault, host_words};
+pub use refusals::refusal_text;
