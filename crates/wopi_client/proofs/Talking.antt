@@ -94,11 +94,11 @@ pub asked_once : (host : List ℕ) (ask : Ask) (told told1 told2 : Option DialTo
 asked_once host ask told told1 told2 old new result same fresh (talk, is, talked) hung =
     inl (talk, hung ∙ told_talk told1 old new talk fresh is ∙ (ap (option_map (hung_up talk)) same ∙ dialled_and_hung talk told), talked)
 
--- one talk and then another
-pub then_two : (host : List ℕ) (one two : Ask) (told1 mid told2 : Option DialTold) (first last : Result Told StoreFault) (told : Told)
-    → first ≡ Ok told → AskedOnce host one told1 mid first → AskedOnce host two mid told2 last → AskedTwice host one two told1 told2 last
-then_two host one two told1 mid told2 first last told is had next =
-    (mid, first, had, subst (λ f. Then f last (AskedOnce host two mid told2 last) told2 mid) (sym is) next)
+-- one talk and then another, by a store that names the same host in both
+pub then_two : (host later : List ℕ) (one two : Ask) (told1 mid told2 : Option DialTold) (told : Told) (last : Result Told StoreFault)
+    → later ≡ host → AskedOnce host one told1 mid (Ok told) → AskedOnce later two mid told2 last → AskedTwice host one two told1 told2 last
+then_two host later one two told1 mid told2 told last same had next =
+    (mid, Ok told, had, subst (λ h. AskedOnce h two mid told2 last) same next)
 
 -- a talk that was refused, and no other
 pub then_none : (host : List ℕ) (one two : Ask) (told mid : Option DialTold) (fault : StoreFault)
