@@ -1,0 +1,2 @@
+//! What a poll over many documents does, said from scratch.
+#![tactic(auto)]
