@@ -1,2 +1,7 @@
 pub mod Runs
 pub mod Plans
+pub mod Words
+pub mod Agenda
+pub mod House
+pub mod Lobby
+pub mod Turn
