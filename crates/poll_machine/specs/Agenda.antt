@@ -6,7 +6,7 @@ use Rattle.net_traits.specs.declared.nets.Given.TheVariants.{Sent, Failed}
 use Rattle.outside.specs.declared.errands.Errand.{Errand}
 use Rattle.outside.specs.declared.errands.Receipt.{Receipt}
 use Rattle.outside.specs.declared.faults.StoreFault.{StoreFault}
-use Rattle.poll_machine.specs.Words.{Event, Joined, Left, Said, Turned, Painted, PutAnswered, Work, Paint, Put, Outs, Answer, PaintDone, PutDone, event_of, Ways}
+use Rattle.poll_machine.specs.Words.{Event, Joined, Left, Said, Turned, Painted, PutAnswered, Work, Paint, Put, Outs, nothing, Answer, PaintDone, PutDone, event_of, Ways}
 
 -- a view and its link
 pub record Seat : Type 0 where
@@ -84,7 +84,7 @@ after_give Failed view link rest = Leave view ∷ LetGo link ∷ rest
 
 -- what happens to a document that a poll holds. First what comes to it: a view joins from a link; another event.
 -- Then what is owed: a frame is given, with the net's answer; it is skipped, where its view has no link any more; a view
--- leaves; its link is released; the port is asked whether there is room to spare; a work is offered to the yard, which keeps
+-- leaves, which gives nothing out; its link is released; the port is asked whether there is room to spare; a work is offered to the yard, which keeps
 -- it or not; a job is painted; a content is stored, with the store's answer; the answer is taken. And what is done for it:
 -- its lock is refreshed, or released; a view's link is released for a departure, or adopted
 pub data Here (J P L : Type 0) : Type 0 where
@@ -92,7 +92,7 @@ pub data Here (J P L : Type 0) : Type 0 where
   Did : (event : Event P) (outs : Outs J) → Here J P L
   Gives : (view link : ℕ) (frame : List ℕ) (given : Given) → Here J P L
   Skips : (view : ℕ) (frame : List ℕ) → Here J P L
-  Leaves : (view : ℕ) (outs : Outs J) → Here J P L
+  Leaves : (view : ℕ) → Here J P L
   Frees : (link : ℕ) (gave : Option L) → Here J P L
   Asks : (spare : Bool) → Here J P L
   Offers : (work : Work J) (kept : Bool) → Here J P L
@@ -124,9 +124,9 @@ HeldStep {D} {J} {P} {L} w now old (Gives view link frame given) new =
     × (new ≡ record old { todo = after_give given view link rest })
 HeldStep {D} {J} {P} {L} w now old (Skips view frame) new =
     (rest : List (Todo J P)) × (old.todo ≡ Give view frame ∷ rest) × (link_of old.seats view ≡ None) × (new ≡ record old { todo = rest })
-HeldStep {D} {J} {P} {L} w now old (Leaves view outs) new =
-    (rest : List (Todo J P)) × (doc : D) × (old.todo ≡ Leave view ∷ rest) × w.Steps old.doc (Left view) outs doc
-    × (new ≡ record old { doc = doc; seats = without_view old.seats view; todo = owed outs ++ rest })
+HeldStep {D} {J} {P} {L} w now old (Leaves view) new =
+    (rest : List (Todo J P)) × (doc : D) × (old.todo ≡ Leave view ∷ rest) × w.Steps old.doc (Left view) nothing doc
+    × (new ≡ record old { doc = doc; seats = without_view old.seats view; todo = rest })
 HeldStep {D} {J} {P} {L} w now old (Frees link gave) new =
     (rest : List (Todo J P)) × (old.todo ≡ LetGo link ∷ rest) × (new ≡ record old { todo = rest })
 HeldStep {D} {J} {P} {L} w now old (Asks spare) new =

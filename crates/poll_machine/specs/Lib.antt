@@ -5,3 +5,5 @@ pub mod Agenda
 pub mod House
 pub mod Lobby
 pub mod Turn
+pub mod Told
+pub mod Project

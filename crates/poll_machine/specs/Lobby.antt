@@ -23,7 +23,7 @@ use Rattle.outside.specs.declared.faults.StoreFault.TheVariants.{Memory as NoMem
 use Rattle.poll_machine.specs.Words.{Event, Outs, Ways}
 use Rattle.poll_machine.specs.Agenda.{Seat, Lock, Held, Here, Joins as JoinsHere, Did, Releases, Adopts as AdoptsHere}
 use Rattle.poll_machine.specs.House.{Refusal, Slot, Live, Refused, Mail, Join, PortCall, Enters, Posts, Closes, Advises, Act, At, Opens, Keeps, GoesTo, parcel_of, Happens, Calls, Reads, OfDoc, Shows, Frees, Posted, Adopted, House, slot_of, is_free}
-use Rattle.poll_machine.specs.Plans.{Plan, Rests, Never, Makes, Then, Learns, Looks, Until, each}
+use Rattle.poll_machine.specs.Plans.{Plan, Rests, Never, Makes, Then, Learns, Looks, Until, each, choose}
 
 -- the bytes of a refusal
 abbrev pub refusal_bytes : Refusal → List ℕ
@@ -59,7 +59,7 @@ happens_to {D} {J} {P} {L} id what = Learns (λ (outs : Outs J). Then (here_now 
 -- a link of the lobby joins a held document; where the document has all the views that it may have, it is refused
 abbrev pub joins : {D J P L : Type 0} → Ways D J P → ℕ → ℕ → Rights → Held D J P L → Plan (House D J P L) (Happens D J P L)
 joins w id link rights h =
-    if w.is_full h.doc then refuses link (record { kind = ViewsFull; code = None }) else happens_to id (JoinsHere link rights)
+    choose (w.is_full h.doc) (refuses link (record { kind = ViewsFull; code = None })) (happens_to id (λ outs. JoinsHere link rights outs))
 
 -- every packed link of a document is adopted, in order
 abbrev pub adopts : {D J P L : Type 0} → ℕ → Held D J P L → Plan (House D J P L) (Happens D J P L)
@@ -93,9 +93,9 @@ departs {D} {J} {P} {L} id to h =
 -- a fresh document of a poll that spreads departs to the poll that the hall names, where that is another
 abbrev pub spreads : {D J P L : Type 0} → ℕ → Plan (House D J P L) (Happens D J P L)
 spreads id =
-    Looks (λ h. if h.spread then
-    Learns (λ (poll : ℕ). Then (Makes (Calls (Advises poll))) (if poll == h.me then Rests else for_live id (departs id poll)))
-    else Rests)
+    Looks (λ h. choose h.spread
+    (Learns (λ (poll : ℕ). Then (Makes (Calls (Advises poll))) (choose (poll == h.me) Rests (for_live id (departs id poll)))))
+    Rests)
 
 -- a fresh document whose load is refused is closed in the hall; where the hall refuses that, it is held as refused. The link gets
 -- the answer

@@ -1,5 +1,5 @@
 -- Plans: what is done one after the other, where answers and the state decide how it goes on.
-use Rattle.std.specs.Prelude.{◌≡◌, Bool, true, List, [], ◌∷◌, ◌++◌}
+use Rattle.std.specs.Prelude.{◌≡◌, Bool, true, false, List, [], ◌∷◌, ◌++◌}
 use Rattle.std.specs.List.{AllByRecursion}
 use Rattle.poll_machine.specs.Runs.{Run}
 
@@ -37,3 +37,8 @@ Follows {X} {E} Step (Until kind passes) old events new =
 abbrev pub each : {X E A : Type 0} → (A → Plan X E) → List A → Plan X E
 each plan [] = Rests
 each plan (a ∷ rest) = Then (plan a) (each plan rest)
+
+-- the one plan where this holds, and the other where it doesn't
+abbrev pub choose : {X E : Type 0} → Bool → Plan X E → Plan X E → Plan X E
+choose true plan other = plan
+choose false plan other = other

@@ -15,7 +15,7 @@ use Rattle.poll_machine.specs.Agenda.{Seat, Lock, Held, Here, Did, Refreshes, Un
 use Rattle.poll_machine.specs.House.{Slot, Live, Refused, Parcel, Mail, Join, Answered, Move, PortCall, Arrives, Counts, Act, At, Gets, ComesIn, Ends, Happens, Ticks, Takes, Calls, OfDoc, Adopted, House, HouseStep, slot_of, seat_in, is_among}
 use Rattle.poll_machine.specs.Lobby.{refuses, here_now, settles, happens_to, joins, adopts, for_live, departs, hears}
 use Rattle.poll_machine.specs.Runs.{Run}
-use Rattle.poll_machine.specs.Plans.{Plan, Rests, Never, Makes, Then, Learns, Looks, Follows, each}
+use Rattle.poll_machine.specs.Plans.{Plan, Rests, Never, Makes, Then, Learns, Looks, Follows, each, choose}
 
 -- the ids of what is held, in order
 abbrev pub ids : {D J P L : Type 0} → House D J P L → List ℕ
@@ -62,8 +62,8 @@ last_move (mail ∷ mails) = later_move mail (last_move mails)
 abbrev pub moves : {D J P L : Type 0} → ℕ → Option ℕ → Plan (House D J P L) (Happens D J P L)
 moves id None = Rests
 moves id (Some to) =
-    for_live id (λ held. Looks (λ h. if to == h.me then Rests else
-    Learns (λ (polls : ℕ). Then (Makes (Calls (Counts polls))) (if nat_lt to polls then departs id to held else Rests))))
+    for_live id (λ held. Looks (λ h. choose (to == h.me) Rests
+    (Learns (λ (polls : ℕ). Then (Makes (Calls (Counts polls))) (choose (nat_lt to polls) (departs id to held) Rests)))))
 
 -- the mails of a document are collected, taken in order, and then the last move is made
 abbrev pub collects : {D J P L : Type 0} → Ways D J P → ℕ → Plan (House D J P L) (Happens D J P L)
@@ -76,7 +76,7 @@ collects {D} {J} {P} {L} w id =
 -- isn't held changes nothing
 abbrev pub says : {D J P L : Type 0} → Ways D J P → ℕ → List ℕ → Option (ℕ × ℕ) → Plan (House D J P L) (Happens D J P L)
 says w link text (Some seat) = did seat.0 (Said seat.1 text)
-says w link text None = Looks (λ h. if is_among link h.lobby then hears w link text (reading text) else Rests)
+says w link text None = Looks (λ h. choose (is_among link h.lobby) (hears w link text (reading text)) Rests)
 
 abbrev pub leaves : {D J P L : Type 0} → Option (ℕ × ℕ) → Plan (House D J P L) (Happens D J P L)
 leaves (Some seat) = did seat.0 (Left seat.1)
@@ -93,8 +93,8 @@ handles w taken.Failed = Rests
 abbrev pub refreshes_lock : {D J P L : Type 0} → ℕ → ℕ → List ℕ → Option Lock → Plan (House D J P L) (Happens D J P L)
 refreshes_lock moment id file None = Rests
 refreshes_lock moment id file (Some lock) =
-    if nat_le (lock.moment + 600) moment then
-    Learns (λ (answer : Result (Unit {0}) StoreFault). here_now id (Refreshes file lock.token answer)) else Rests
+    choose (nat_le (lock.moment + 600) moment)
+    (Learns (λ (answer : Result (Unit {0}) StoreFault). here_now id (Refreshes file lock.token answer))) Rests
 
 abbrev pub refreshes : {D J P L : Type 0} → ℕ → Plan (House D J P L) (Happens D J P L)
 refreshes id = for_live id (λ held. Looks (λ h. refreshes_lock h.moment id held.file held.lock))
@@ -115,7 +115,7 @@ ends id = Learns (λ (answer : Result (Unit {0}) CloseFault). Looks (λ h. Makes
 abbrev pub ends_where : {D J P L : Type 0} → Ways D J P → ℕ → Option (Slot D J P L) → Plan (House D J P L) (Happens D J P L)
 ends_where w id None = Rests
 ends_where w id (Some (Refused file refusal)) = ends id
-ends_where w id (Some (Live h)) = if w.is_done h.doc then Then (unlocks id h.file h.lock) (ends id) else Rests
+ends_where w id (Some (Live h)) = choose (w.is_done h.doc) (Then (unlocks id h.file h.lock) (ends id)) Rests
 
 abbrev pub closes : {D J P L : Type 0} → Ways D J P → ℕ → Plan (House D J P L) (Happens D J P L)
 closes w id = Looks (λ h. ends_where w id (slot_of id h.docs))

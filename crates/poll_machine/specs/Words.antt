@@ -1,5 +1,5 @@
 -- What a poll knows of a document: its events, what they give out, and how it steps.
-use Rattle.std.specs.Prelude.{ℕ, Bool, List, Option, Result}
+use Rattle.std.specs.Prelude.{ℕ, Bool, List, [], Option, Result}
 use Rattle.document_machine.specs.declared.rights.Rights.{Rights}
 use Rattle.outside.specs.declared.errands.Errand.{Errand}
 use Rattle.outside.specs.declared.errands.Receipt.{Receipt}
@@ -23,6 +23,10 @@ pub data Work (J : Type 0) : Type 0 where
 pub record Outs (J : Type 0) : Type 0 where
   pub frames : List (ℕ × List ℕ)
   pub works : List (Work J)
+
+-- nothing is given out
+abbrev pub nothing : {J : Type 0} → Outs J
+nothing = record { frames = []; works = [] }
 
 -- what comes back of a work
 pub data Answer (P : Type 0) : Type 0 where
