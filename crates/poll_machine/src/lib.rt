@@ -18,7 +18,7 @@ ghost use Rattle.poll_machine.specs.Agenda.{Held, Here};
 ghost use Rattle.poll_machine.specs.House.{House, Happens, HouseStep, SlotStep, slot_of};
 ghost use Rattle.poll_machine.specs.Turn.{IsTurn};
 ghost use Rattle.poll_machine.specs.Told.{Heard, Hears};
-ghost use Rattle.poll_machine.specs.Project.{acts_of, moves_of, HeldMove, Headline};
+ghost use Rattle.poll_machine.specs.Project.{acts_of, moves_of, frames_of, frames_owed, frames_out, HeldMove, Headline};
 ghost use Rattle.poll_machine.specs.Runs.{Run};
 
 /// A kind of document that a poll can hold, with its jobs, what painting them gives, and the links of its net on
@@ -53,6 +53,12 @@ pub fn documents_run_alone<M: Polled>()
 /// What happens to a held document is a run of its machine, from its state to its state.
 pub fn held_runs_are_segments<M: Polled>()
     ensures { (old new : Held M.Document M.Job M.Painted M.Link) (heres : List (ℕ × Here M.Job M.Painted M.Link)) → Run (HeldMove M.ways) old heres new → Run (Moves M.ways) old.doc (moves_of heres) new.doc }
+{}
+
+/// From a state in which nothing is owed, the frames given to the views' links or skipped, and then those still owed,
+/// are those that the document's events gave out, in order.
+pub fn frames_in_order<M: Polled>()
+    ensures { (old new : Held M.Document M.Job M.Painted M.Link) (heres : List (ℕ × Here M.Job M.Painted M.Link)) → Run (HeldMove M.ways) old heres new → old.todo ≡ [] → frames_of heres ++ frames_owed new.todo ≡ frames_out (moves_of heres) }
 {}
 
 /// The headline of a run of the house: each document, taken alone, and the outside as it was told.
