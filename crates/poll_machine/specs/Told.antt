@@ -10,7 +10,7 @@ use Rattle.net_traits.specs.Clocks.{Ticks as TicksTo}
 use Rattle.net_traits.specs.Nets.{NetTold, LinkEvent, Takes as NetTakes, Gives as NetGives, Releases as NetReleases, Adopts as NetAdopts, Tells}
 use Rattle.net_traits.specs.declared.nets.Given.{Given}
 use Rattle.net_traits.specs.declared.nets.Taken.{Taken}
-use Rattle.outside.specs.Stores.{StoreCall, Puts as StorePuts, Refreshes as StoreRefreshes, Unlocks as StoreUnlocks, Calls as StoreTells}
+use Rattle.outside.specs.Stores.{StoreCall, Admits as StoreAdmits, Fetches as StoreFetches, Puts as StorePuts, Refreshes as StoreRefreshes, Unlocks as StoreUnlocks, Tells as StoreTells}
 use Rattle.poll_hall.specs.Ports.{PortView, Finds, Stays}
 use Rattle.poll_hall.specs.Says.{EnterSays, PostSays, CollectSays, DepartSays, ArriveSays, CloseSays, AdviseSays, SpareSays, PollsSays}
 use Rattle.poll_machine.specs.Words.{Work, Answer, PaintDone, PutDone, Ways}
@@ -144,6 +144,14 @@ PortStep {D} {J} {P} {L} w old (Advises poll) new = Finds old AdviseSays Stays p
 PortStep {D} {J} {P} {L} w old (Spares spare) new = Finds old SpareSays Stays spare new
 PortStep {D} {J} {P} {L} w old (Counts polls) new = Finds old PollsSays Stays polls new
 
+-- one call on a store: it is told with its answer, or memory was refused and it isn't
+abbrev pub StoreStep : Option (List StoreCall) → StoreCall → Option (List StoreCall) → Type 0
+StoreStep old (StoreAdmits file token answer) new = StoreTells old (StoreAdmits file token answer) answer new
+StoreStep old (StoreFetches file token write answer) new = StoreTells old (StoreFetches file token write answer) answer new
+StoreStep old (StorePuts errand answer) new = StoreTells old (StorePuts errand answer) answer new
+StoreStep old (StoreRefreshes file token answer) new = StoreTells old (StoreRefreshes file token answer) answer new
+StoreStep old (StoreUnlocks file token answer) new = StoreTells old (StoreUnlocks file token answer) answer new
+
 -- the works that a yard took, with their documents, where it tells them: a work that it kept is put behind the others
 abbrev pub YardStep : {J : Type 0} → Option (List (ℕ × Work J)) → ℕ × Work J × Bool → Option (List (ℕ × Work J)) → Type 0
 YardStep old (id, work, true) new = new ≡ option_map (λ works. works ++ (id, work) ∷ []) old
@@ -161,6 +169,6 @@ pub record Heard (D J P L : Type 0) : Type 0 where
 pub record Hears {D J P L : Type 0} (w : Ways D J P) (carries : L → List LinkEvent) (before : Heard D J P L) (events : List (Happens D J P L)) (after : Heard D J P L) : Type 0 where
   pub net : Run (NetStep carries) before.net (flat_map net_part events) after.net
   pub port : Run (PortStep w) before.port (flat_map port_part events) after.port
-  pub store : Run StoreTells before.store (flat_map store_part events) after.store
+  pub store : Run StoreStep before.store (flat_map store_part events) after.store
   pub clock : Run TicksTo before.clock (flat_map clock_part events) after.clock
   pub yard : Run YardStep before.yard (flat_map yard_part events) after.yard
