@@ -1,5 +1,5 @@
 -- What is done to one document, taken alone, is a run of that document.
-use Rattle.std.proofs.Common.{◌≡◌, ◌≢◌, ℕ, Bool, true, false, List, [], ◌∷◌, ◌++◌, Option, None, Some, refl, ap, subst, sym, arith, nat_eq}
+use Rattle.std.proofs.Common.{◌≡◌, ◌≢◌, ℕ, Bool, true, false, List, [], ◌∷◌, ◌++◌, Option, None, Some, refl, ap, subst, ◌∙◌, arith, nat_eq}
 use Rattle.net_traits.specs.declared.nets.Given.{Given}
 use Rattle.net_traits.specs.declared.nets.Given.TheVariants.{Sent, Failed}
 use Rattle.net_traits.specs.declared.nets.Taken.{Taken}
@@ -43,13 +43,13 @@ of_doc w id old x moment act new false e step =
 event_alone : {D J P L : Type 0} (w : Ways D J P) (id : ℕ) (old : House D J P L) (event : Happens D J P L) (new : House D J P L)
     → HouseStep w old event new → Run (SlotStep w) (slot_of id old.docs) (act_of id event) (slot_of id new.docs)
 event_alone w id old (Ticks moment) new is = ap (λ h. slot_of id h.docs) is
-event_alone w id old (Takes taken) new is = rw is (rw (take_keeps taken old) refl)
+event_alone w id old (Takes taken) new is = ap (λ h. slot_of id h.docs) is ∙ ap (λ docs. slot_of id docs) (take_keeps taken old)
 event_alone w id old (Calls call) new is = ap (λ h. slot_of id h.docs) is
 event_alone w id old (Reads call) new is = ap (λ h. slot_of id h.docs) is
 event_alone w id old (OfDoc x moment act) new step = of_doc w id old x moment act new (nat_eq x id) refl step
-event_alone w id old (Shows link frame given) new (there, is) = rw is (rw (show_keeps link given old) refl)
+event_alone w id old (Shows link frame given) new (there, is) = ap (λ h. slot_of id h.docs) is ∙ ap (λ docs. slot_of id docs) (show_keeps link given old)
 event_alone w id old (Frees link gave) new is = ap (λ h. slot_of id h.docs) is
-event_alone w id old (Posted link gave) new (there, is) = rw is (rw (post_keeps link gave old) refl)
+event_alone w id old (Posted link gave) new (there, is) = ap (λ h. slot_of id h.docs) is ∙ ap (λ docs. slot_of id docs) (post_keeps link gave old)
 event_alone w id old (Adopted carried link) new is = ap (λ h. slot_of id h.docs) is
 
 -- so is a whole run

@@ -48,19 +48,16 @@ two = held 3 (first ∷ second ∷ []) []
 
 -- a view says something, and the give of its frame fails: it leaves before anything else, and its link is released; its frame counts as
 -- given, and the leave is an event of the document
-failed_give : List (ℕ × Here ℕ ℕ ℕ)
+abbrev failed_give : List (ℕ × Here ℕ ℕ ℕ)
 failed_give = (0, Did (Said 1 (4 ∷ [])) (echo (Said 1 (4 ∷ [])))) ∷ (0, Gives 1 11 (4 ∷ []) Failed) ∷ (0, Leaves 1) ∷ (0, FreesHere 11 None) ∷ []
 
 a_failed_give : Run (HeldMove counting) two failed_give (held 5 (first ∷ []) [])
-unfolding failed_give
 a_failed_give = (_, (4, refl, refl, (refl, refl), refl), (_, (_, refl, refl, refl), (_, (_, 5, refl, (refl, refl), refl), (_, (_, refl, refl), refl))))
 
 its_moves : moves_of failed_give ≡ (Said 1 (4 ∷ []), echo (Said 1 (4 ∷ []))) ∷ (Left 1, nothing) ∷ []
-unfolding failed_give
 its_moves = refl
 
 its_frames : frames_of failed_give ≡ (1, 4 ∷ []) ∷ []
-unfolding failed_give
 its_frames = refl
 
 -- a departure: the first view's link is packed; the net had the second's no longer, so that view leaves before the document goes
@@ -68,13 +65,13 @@ a_departure : Run (HeldMove counting) two ((0, Releases 0 10 (Some 77)) ∷ (0, 
 a_departure = (_, (refl, refl, refl), (_, (refl, refl, refl), (_, (_, 4, refl, (refl, refl), refl), refl)))
 
 -- what a turn answers
-idle_turn : outcome {ℕ} {ℕ} {ℕ} {ℕ} (Ticks 5 ∷ Calls (Arrives None) ∷ Takes taken.Nothing ∷ []) ≡ Idle
+idle_turn : outcome {D = ℕ} {J = ℕ} {P = ℕ} {L = ℕ} (Ticks 5 ∷ Calls (Arrives None) ∷ Takes taken.Nothing ∷ []) ≡ Idle
 idle_turn = refl
 
-a_link_opens : outcome {ℕ} {ℕ} {ℕ} {ℕ} (Ticks 5 ∷ Calls (Arrives None) ∷ Takes (taken.Opened (record { 0 = 9 })) ∷ []) ≡ Worked
+a_link_opens : outcome {D = ℕ} {J = ℕ} {P = ℕ} {L = ℕ} (Ticks 5 ∷ Calls (Arrives None) ∷ Takes (taken.Opened (record { 0 = 9 })) ∷ []) ≡ Worked
 a_link_opens = refl
 
-a_net_fails : outcome {ℕ} {ℕ} {ℕ} {ℕ} (Ticks 5 ∷ Calls (Arrives None) ∷ Takes taken.Failed ∷ []) ≡ NetFault
+a_net_fails : outcome {D = ℕ} {J = ℕ} {P = ℕ} {L = ℕ} (Ticks 5 ∷ Calls (Arrives None) ∷ Takes taken.Failed ∷ []) ≡ NetFault
 a_net_fails = refl
 
 -- a house with two documents and a link in its lobby
@@ -82,11 +79,10 @@ abbrev house : Held ℕ ℕ ℕ ℕ → Held ℕ ℕ ℕ ℕ → House ℕ ℕ �
 house a b = record { me = 0; spread = false; docs = (0, Live a) ∷ (1, Live b) ∷ []; lobby = 9 ∷ []; lost = []; opened = 5; ended = 0; moment = 5 }
 
 -- the second makes a turn; the first is as it was, and was done nothing
-turn_of_second : Happens ℕ ℕ ℕ ℕ
+abbrev turn_of_second : Happens ℕ ℕ ℕ ℕ
 turn_of_second = OfDoc 1 5 (At (Did (Turned false) nothing))
 
 a_turn_of_one : HouseStep counting (house two two) turn_of_second (house two (held 4 (first ∷ second ∷ []) []))
-unfolding turn_of_second
 a_turn_of_one = record {
   now = refl;
   one = (two, held 4 (first ∷ second ∷ []) [], refl, (4, refl, refl, (refl, refl), refl), refl);
@@ -97,7 +93,6 @@ a_turn_of_one = record {
 }
 
 nothing_to_the_first : acts_of 0 (turn_of_second ∷ []) ≡ []
-unfolding turn_of_second
 nothing_to_the_first = refl
 
 -- a load whose address names no document: the link is answered, and stays; where the give fails it ends

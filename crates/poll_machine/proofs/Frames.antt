@@ -63,9 +63,9 @@ moved old a given new b out e f keeps =
     subst (λ x. Keeps x given new out) (sym e) (subst (λ x. Keeps a given x out) (sym f) keeps)
 
 -- an event comes to a document to which nothing is owed
-comes : {J P : Type 0} (outs : Outs J) → Keeps {J} {P} [] [] (owed outs) (outs.frames ++ [])
+comes : {J P : Type 0} (outs : Outs J) → Keeps {J = J} {P = P} [] [] (owed outs) (outs.frames ++ [])
 comes {J} {P} outs order =
-    let nil : owed {J} {P} outs ++ [] ≡ owed outs = no_more (owed outs) in
+    let nil : owed {J = J} {P = P} outs ++ [] ≡ owed outs = no_more (owed outs) in
     (subst (λ todo. frames_owed todo ≡ outs.frames ++ []) nil (owed_frames outs []), subst (λ todo. IsInOrder todo) nil (owed_order outs [] refl tt))
 
 -- an answer is taken, from the front

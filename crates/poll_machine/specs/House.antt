@@ -1,5 +1,5 @@
 -- The house of a poll, what happens in it, and its step.
-use Rattle.std.specs.Prelude.{◌≡◌, ◌≢◌, ℕ, ◌+◌, ◌<◌, Bool, true, false, not, ◌==◌, nat_lt, List, [], ◌∷◌, ◌++◌, filter, Option, None, Some, Result, Ok, Err, if◌then◌else◌, ⊤}
+use Rattle.std.specs.Prelude.{◌≡◌, ◌≢◌, ℕ, ◌+◌, ◌<◌, Bool, true, false, not, ◌==◌, nat_eq, nat_lt, List, [], ◌∷◌, ◌++◌, filter, Option, None, Some, Result, Ok, Err, if◌then◌else◌, ⊤}
 use Rattle.std.specs.List.{list_any}
 use Rattle.cool_base.specs.declared.ids.DocId.{DocId}
 use Rattle.cool_frame.specs.declared.kind.ErrorKind.{ErrorKind}
@@ -98,7 +98,7 @@ new_house me spread = record { me = me; spread = spread; docs = []; lobby = []; 
 -- what is held under an id
 abbrev pub slot_of : {D J P L : Type 0} → ℕ → List (ℕ × Slot D J P L) → Option (Slot D J P L)
 slot_of id [] = None
-slot_of id (p ∷ docs) = if p.0 == id then Some p.1 else slot_of id docs
+slot_of id (p ∷ docs) = if nat_eq p.0 id then Some p.1 else slot_of id docs
 
 -- the ids rise
 abbrev pub Rises : {D J P L : Type 0} → List (ℕ × Slot D J P L) → Type 0

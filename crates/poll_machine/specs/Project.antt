@@ -1,6 +1,5 @@
 -- The run of one document, taken alone, and the headline.
-use Rattle.std.specs.Prelude.{◌≡◌, ℕ, ◌==◌, List, [], ◌∷◌, ◌++◌, map, Option, if◌then◌else◌, ⊤}
-use Rattle.std.specs.List.{flat_map}
+use Rattle.std.specs.Prelude.{◌≡◌, ℕ, nat_eq, List, [], ◌∷◌, ◌++◌, if◌then◌else◌, ⊤}
 use Rattle.document_machine.specs.declared.rights.Rights.{Rights}
 use Rattle.net_traits.specs.Nets.{LinkEvent}
 use Rattle.poll_machine.specs.Words.{Event, Joined, Left, Outs, nothing, event_of, Ways, Moves}
@@ -11,7 +10,7 @@ use Rattle.poll_machine.specs.Runs.{Run}
 
 -- what is done to one document by an event, and by many
 abbrev pub act_of : {D J P L : Type 0} → ℕ → Happens D J P L → List (ℕ × Act D J P L)
-act_of id (OfDoc x moment act) = if x == id then (moment, act) ∷ [] else []
+act_of id (OfDoc x moment act) = if nat_eq x id then (moment, act) ∷ [] else []
 act_of id _ = []
 
 abbrev pub acts_of : {D J P L : Type 0} → ℕ → List (Happens D J P L) → List (ℕ × Act D J P L)
@@ -67,7 +66,7 @@ frames_out (move ∷ moves) = move.1.frames ++ frames_out moves
 
 -- a step of a held document at its moment
 abbrev pub HeldMove : {D J P L : Type 0} → Ways D J P → Held D J P L → ℕ × Here J P L → Held D J P L → Type 0
-HeldMove w old (moment, here) new = HeldStep w moment old here new
+HeldMove w old move new = HeldStep w move.0 old move.1 new
 
 -- the headline: from one house the events lead to another; for each document, taken alone, what was done to it leads from what was
 -- held of it, if anything, to what is held of it; and the outside was called for exactly these events
