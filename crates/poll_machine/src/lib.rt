@@ -16,10 +16,10 @@ ghost use Rattle.net_traits.specs.Nets.{LinkEvent};
 ghost use Rattle.poll_machine.specs.Words.{Ways, Moves};
 ghost use Rattle.poll_machine.specs.Agenda.{Held, Here};
 ghost use Rattle.poll_machine.specs.House.{House, Happens, HouseStep, SlotStep, slot_of};
-ghost use Rattle.poll_machine.specs.Turn.{IsTurn};
+ghost use Rattle.poll_machine.specs.Turn.{IsTurn, End, Polls};
 ghost use Rattle.poll_machine.specs.Told.{Heard, Hears};
 ghost use Rattle.poll_machine.specs.Project.{acts_of, moves_of, frames_of, frames_owed, frames_out, HeldMove, Headline};
-ghost use Rattle.poll_machine.specs.Runs.{Run};
+ghost use Rattle.poll_machine.specs.Runs.{Run, all_events};
 
 /// A kind of document that a poll can hold, with its jobs, what painting them gives, and the links of its net on
 /// their way from one net to another.
@@ -42,6 +42,12 @@ pub trait Polled {
 /// One turn of a poll is a run of the house, step by step, whatever the outside answers.
 pub fn turns_are_runs<M: Polled>()
     ensures { (old new : House M.Document M.Job M.Painted M.Link) (events : List (Happens M.Document M.Job M.Painted M.Link)) → IsTurn M.ways old events new → Run (HouseStep M.ways) old events new }
+{}
+
+/// So is a run of turns, however it ends: the events of its turns in order, and then those of a last turn that was idle,
+/// that failed or that want of memory cut off.
+pub fn polls_are_runs<M: Polled>()
+    ensures { (old new : House M.Document M.Job M.Painted M.Link) (given : ℕ) (how : End) (turns : List (List (Happens M.Document M.Job M.Painted M.Link))) (rest : List (Happens M.Document M.Job M.Painted M.Link)) → Polls M.ways given how old turns rest new → Run (HouseStep M.ways) old (all_events turns ++ rest) new }
 {}
 
 /// What is done to one document in a run of the house, taken alone, leads from what was held of it, if anything,
