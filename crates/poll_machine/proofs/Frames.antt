@@ -63,8 +63,8 @@ moved old a given new b out e f keeps =
     subst (λ x. Keeps x given new out) (sym e) (subst (λ x. Keeps a given x out) (sym f) keeps)
 
 -- an event comes to a document to which nothing is owed
-comes : {J P : Type 0} (outs : Outs J) → Keeps {J = J} {P = P} [] [] (owed outs) (outs.frames ++ [])
-comes {J} {P} outs order =
+comes : {J : Type 0} (P : Type 0) (outs : Outs J) → Keeps {J = J} {P = P} [] [] (owed outs) (outs.frames ++ [])
+comes {J} P outs order =
     let nil : owed {J = J} {P = P} outs ++ [] ≡ owed outs = no_more (owed outs) in
     (subst (λ todo. frames_owed todo ≡ outs.frames ++ []) nil (owed_frames outs []), subst (λ todo. IsInOrder todo) nil (owed_order outs [] refl tt))
 
@@ -101,9 +101,9 @@ let_go h view (Some carried) free = moved h.todo [] [] h.todo [] [] free free (�
 step_frames : {D J P L : Type 0} (w : Ways D J P) (now : ℕ) (old : Held D J P L) (here : Here J P L) (new : Held D J P L)
     → HeldStep w now old here new → Keeps old.todo (frame_of here) new.todo (frames_out (move_of here))
 step_frames w now old (Joins link rights outs) new (doc, free, room, step, is) =
-    moved old.todo [] [] new.todo (owed outs) (outs.frames ++ []) free (ap (λ h. h.todo) is) (comes outs)
+    moved old.todo [] [] new.todo (owed outs) (outs.frames ++ []) free (ap (λ h. h.todo) is) (comes _ outs)
 step_frames w now old (Did event outs) new (doc, free, plain, step, is) =
-    moved old.todo [] [] new.todo (owed outs) (outs.frames ++ []) free (ap (λ h. h.todo) is) (comes outs)
+    moved old.todo [] [] new.todo (owed outs) (outs.frames ++ []) free (ap (λ h. h.todo) is) (comes _ outs)
 step_frames w now old (Gives view link frame given) new (rest, next, seat, is) =
     moved old.todo (Give view frame ∷ rest) ((view, frame) ∷ []) new.todo (after_give given view link rest) [] next (ap (λ h. h.todo) is) (given_first given view link frame rest)
 step_frames w now old (Skips view frame) new (rest, next, seat, is) =

@@ -15,7 +15,7 @@ use Rattle.poll_hall.specs.Ports.{PortView, Finds, Stays}
 use Rattle.poll_hall.specs.Says.{EnterSays, PostSays, CollectSays, DepartSays, ArriveSays, CloseSays, AdviseSays, SpareSays, PollsSays}
 use Rattle.poll_machine.specs.Words.{Work, Answer, PaintDone, PutDone, Ways}
 use Rattle.poll_machine.specs.Agenda.{Here, Gives, Frees as FreesHere, Asks, Offers, Puts, Refreshes, Unlocks, Releases, Adopts}
-use Rattle.poll_machine.specs.House.{Parcel, Mail, Join, Answered, Move, PortCall, Enters, Posts, Collects, Departs, Arrives, Closes, Advises, Spares, Counts, Act, At, Keeps, Gets, ComesIn, GoesTo, Ends, Happens, Ticks, Takes, Calls, Reads, OfDoc, Shows, Frees, Posted, Adopted}
+use Rattle.poll_machine.specs.House.{Parcel, Mail, Join, Answered, Move, PortCall, Enters, Posts, Collects, Departs, Arrives, Closes, Advises, Spares, Counts, Act, At, Opens, Keeps, Gets, ComesIn, GoesTo, Ends, Happens, Ticks, Takes, Calls, Reads, OfDoc, Shows, Frees, Posted, Adopted}
 use Rattle.poll_machine.specs.Runs.{Run}
 
 -- a call on the net with its answer
