@@ -1,0 +1,9 @@
+pub mod Runs
+pub mod Plans
+pub mod Words
+pub mod Agenda
+pub mod House
+pub mod Lobby
+pub mod Turn
+pub mod Told
+pub mod Project
