@@ -78,7 +78,7 @@ pub replayed_patch : (words : List (List ℕ)) (source : SourceUse) (sink : Sink
 replayed_patch words source sink status code form plays is completes = record {
   patch = λ _. (status, plays, is);
   sheet = λ other. absurd (not_both words form other);
-  words = (λ two. absurd (never_two patch_rules patch_cut source sink status plays (sym is ∙ two)), λ none. absurd (none (inl form)));
+  wrong_words = (λ two. absurd (never_two patch_rules patch_cut source sink status plays (sym is ∙ two)), λ none. absurd (none (inl form)));
   read = code_of_read source.faults source.faults_now code status is plays.read;
   write = code_of_write sink.faults sink.faults_now code status is plays.write;
   complete = λ left either told ends read write. code_of_end status code is (completes left told ends read write);
@@ -90,7 +90,7 @@ pub replayed_sheet : (words : List (List ℕ)) (source : SourceUse) (sink : Sink
 replayed_sheet words source sink status code form plays is completes = record {
   patch = λ other. absurd (not_both words other form);
   sheet = λ _. (status, plays, is);
-  words = (λ two. absurd (never_two sheet_kind sheet_cut source sink status plays (sym is ∙ two)), λ none. absurd (none (inr form)));
+  wrong_words = (λ two. absurd (never_two sheet_kind sheet_cut source sink status plays (sym is ∙ two)), λ none. absurd (none (inr form)));
   read = code_of_read source.faults source.faults_now code status is plays.read;
   write = code_of_write sink.faults sink.faults_now code status is plays.write;
   complete = λ left either told ends read write. code_of_end status code is (completes left told ends read write);
@@ -102,7 +102,7 @@ pub replayed_nothing : (words : List (List ℕ)) (source : SourceUse) (sink : Si
 replayed_nothing words source sink no_patch no_sheet same_source same_sink = record {
   patch = λ form. absurd (no_patch form);
   sheet = λ form. absurd (no_sheet form);
-  words = (λ _ form. elim form [ inl patch ↦ no_patch patch | inr sheet ↦ no_sheet sheet ], λ _. refl);
+  wrong_words = (λ _ form. elim form [ inl patch ↦ no_patch patch | inr sheet ↦ no_sheet sheet ], λ _. refl);
   read = record { later = omega (arith, same_source); failed = λ is. absurd (omega (arith, is)); kept = λ _. same_source };
   write = record { later = omega (arith, same_sink); failed = λ is. absurd (omega (arith, is)); kept = λ _. same_sink };
   complete = λ left form told ends read write. elim form [ inl patch ↦ absurd (no_patch patch) | inr sheet ↦ absurd (no_sheet sheet) ];

@@ -52,7 +52,7 @@ pub record Replays (words : List (List ℕ)) (source : SourceUse) (sink : SinkUs
   pub patch : PlaysPatch words → PlaysTo patch_rules patch_cut source sink code
   pub sheet : PlaysSheet words → PlaysTo sheet_kind sheet_cut source sink code
   -- other words, and they alone, are answered by 2
-  pub words : (code ≡ 2) ↔ (IsForm words → ⊥)
+  pub wrong_words : (code ≡ 2) ↔ (IsForm words → ⊥)
   -- a count of faults rises exactly where the code says who failed
   pub read : HasCause source.faults source.faults_now (code ≡ 4)
   pub write : HasCause sink.faults sink.faults_now (code ≡ 5)

@@ -9,10 +9,10 @@ use Rattle.cool_script.proofs.command.replay.Goals as goal
 
 pub returns-then-plays-clause-replays : goal.returns-then-plays-clause-replays
 returns-then-plays-clause-replays g c =
-    replayed_patch _ _ _ c.patch_run.result c.code.result (c.plays.ensures.0 c.if-plays.is) c.patch_run.ensures c.code.ensures
+    replayed_patch _ _ _ c.patch_run.result c.code.result (c.plays.ensures.0 c.if-plays.true) c.patch_run.ensures c.code.ensures
     (λ left told ends read write. c.comes_to_its_end.ensures first _ _ left c.patch_run.result told ends read write c.patch_run.ensures)
 
 pub returns-then-plays-2-clause-replays : goal.returns-then-plays-2-clause-replays
 returns-then-plays-2-clause-replays g c =
-    replayed_sheet _ _ _ c.sheet_run.result c.code.result (c.plays-2.ensures.0 c.if-plays-2.is) c.sheet_run.ensures c.code.ensures
-    (λ left told ends read write. c.comes_to_its_end.ensures first _ _ left c.sheet_run.result told ends read write c.sheet_run.ensures)
+    replayed_sheet _ _ _ c.sheet_run.result c.code-then-plays-2.result (c.plays-2.ensures.0 c.if-plays-2.true) c.sheet_run.ensures c.code-then-plays-2.ensures
+    (λ left told ends read write. c.comes_to_its_end-then-plays-2.ensures first _ _ left c.sheet_run.result told ends read write c.sheet_run.ensures)
