@@ -92,19 +92,23 @@ fn add_byte(out: &mut String, byte: u8) -> Result<(), Memory> {
     Ok(())
 }
 
+// The bytes that are shown: all, or the first 40 of more than 400.
+fn shown(bytes: &[u8]) -> &[u8] {
+    if bytes.len() > 400 {
+        bytes.split_at(40).0
+    } else {
+        bytes
+    }
+}
+
 /// The text that writes the bytes; of more than 400 the number and the first 40.
 pub fn text_of(alloc: Global, bytes: &[u8]) -> Result<String, Memory> {
     let mut out = String::new(alloc);
-    let shown = if bytes.len() > 400 {
-        &bytes[..40]
-    } else {
-        bytes
-    };
-    for byte in shown {
+    for byte in shown(bytes) {
         add_byte(&mut out, *byte)?;
     }
-    if bytes.len() > 400 {
-        let len = bytes.len();
+    let len = bytes.len();
+    if len > 400 {
         let more = format!(in alloc; ".. {len} bytes")?;
         out.push_str(more.as_str())?;
     }

@@ -68,17 +68,34 @@ pub fn said_at(alloc: Global, kind: Kind, bytes: &[u8], pace: usize) -> Result<S
     }
 }
 
+// What is read in pieces of at most so many bytes, of more, and of 4,096.
+fn said_in(
+    alloc: Global,
+    kind: Kind,
+    bytes: &[u8],
+    least: usize,
+    more: usize,
+) -> Result<String, Memory>
+    requires least { 0 < least }
+    requires more { 0 < more }
+{
+    let single = said_at(alloc, kind, bytes, least)?;
+    let several = said_at(alloc, kind, bytes, more)?;
+    let whole = said_at(alloc, kind, bytes, 4096)?;
+    if single == several && several == whole {
+        Ok(single)
+    } else {
+        Ok(format!(in alloc; "it depends on the pieces: {single} | {several} | {whole}")?)
+    }
+}
+
 /// What is read, in whatever pieces it comes: of one byte, of 7 and of 4,096, and where the bytes are
 /// many, of 1,000 at least.
 pub fn said(alloc: Global, kind: Kind, bytes: &[u8]) -> Result<String, Memory> {
-    let least = if bytes.len() > 1_000 { 1_000 } else { 1 };
-    let single = said_at(alloc, kind, bytes, least)?;
-    let seven = said_at(alloc, kind, bytes, least + 6)?;
-    let whole = said_at(alloc, kind, bytes, 4096)?;
-    if single == seven && seven == whole {
-        Ok(single)
+    if bytes.len() > 1_000 {
+        said_in(alloc, kind, bytes, 1_000, 1_006)
     } else {
-        Ok(format!(in alloc; "it depends on the pieces: {single} | {seven} | {whole}")?)
+        said_in(alloc, kind, bytes, 1, 7)
     }
 }
 

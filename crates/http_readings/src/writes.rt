@@ -1,4 +1,6 @@
 //! What is written of messages, and read again.
+ghost use Rattle.http_message.specs.Statuses.{HasDueBody};
+
 use crate::escapes::{bytes_of, text_of};
 use crate::reads::{Kind, said};
 use bytes::Bytes;
@@ -68,19 +70,36 @@ pub fn asked(alloc: Global, line: &str) -> Result<String, Memory> {
     }
 }
 
+fn status(word: Option<&str>) -> u16 {
+    let number = read_number(word.unwrap_or("").as_bytes(), 5, 65_535).unwrap_or(0);
+    u16::try_from(number).unwrap_or(0)
+}
+
+// The response, without its body where its status has none.
+fn due(status: u16, lock: Option<TextOf>, body: Bytes) -> Response
+    ensures { HasDueBody result }
+{
+    if is_bodiless(status) {
+        Response {
+            status,
+            lock,
+            body: Bytes::new(),
+        }
+    } else {
+        Response { status, lock, body }
+    }
+}
+
 /// A response as it is written and read again.
 pub fn told(alloc: Global, line: &str) -> Result<String, Memory> {
     let mut words = line.split(' ');
-    let status = words.next().unwrap_or("");
-    let status = read_number(status.as_bytes(), 5, 65_535).unwrap_or(0) as u16;
-    let response = Response {
-        status,
-        lock: optional(alloc, words.next())?,
-        body: body(alloc, words.next())?,
-    };
-    if is_bodiless(status) && !response.body.is_empty() {
+    let status = status(words.next());
+    let lock = optional(alloc, words.next())?;
+    let body = body(alloc, words.next())?;
+    if is_bodiless(status) && !body.is_empty() {
         return Ok(String::from_str(alloc, "no body is due")?);
     }
+    let response = due(status, lock, body);
     let mut wire = MemoryWire::new(alloc, b"", 1, ROOM)?;
     match write_response(alloc, &mut wire, &response) {
         Ok(()) => again(alloc, Kind::Response, wire.sent()),
