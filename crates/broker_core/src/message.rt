@@ -109,7 +109,8 @@ fn judge_message(
             pixel_h,
             twip_w,
             twip_h,
-        } => zoom(alloc, Zoom::read(pixel_w, pixel_h, twip_w, twip_h)),
+            nviewid,
+        } => zoom(alloc, Zoom::read(pixel_w, pixel_h, twip_w, twip_h, nviewid)),
         ClientMessage::SetPart { part } => Ok(Said::Gone(part)),
         ClientMessage::TileProcessed { wids } => Ok(Said::Acknowledged(wids)),
         ClientMessage::Save {

@@ -4,6 +4,8 @@ use Rattle.std.specs.List.{list_all, AllByRecursion}
 use Rattle.std.specs.Str.{is_utf8}
 use Rattle.tile_key.specs.declared.keys.TileWords.{TileWords}
 use Rattle.cool_words.specs.Words.{is_blank}
+use Rattle.cool_words.specs.declared.lists.TheConstants.{MOST_NUMBERS}
+use Rattle.cool_message.specs.declared.limits.TheConstants.{URL_LIMIT}
 use Rattle.cool_message.specs.declared.message.ClientMessage.{ClientMessage}
 use Rattle.cool_message.specs.declared.message.ClientMessage.TheVariants as message
 use Rattle.cool_message.specs.declared.message.CombineWords.{CombineWords}
@@ -18,12 +20,12 @@ IsLook n = n ≤ 1
 
 -- the length of a list of a message
 abbrev pub IsListLength : ℕ → Type 0
-IsListLength n = (1 ≤ n) × (n ≤ 1024)
+IsListLength n = (1 ≤ n) × (n ≤ MOST_NUMBERS)
 
 -- the value of `url`
 pub record IsAddress (url : List ℕ) : Type 0 where
   pub some : 1 ≤ length url
-  pub short : length url ≤ 8192
+  pub short : length url ≤ URL_LIMIT
   pub clean : list_all (λ b. not (is_blank b)) url ≡ true
   pub utf8 : is_utf8 url ≡ true
 
