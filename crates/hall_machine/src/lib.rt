@@ -10,8 +10,6 @@ mod edits;
 mod moves;
 mod reads;
 mod state;
-#[cfg(test)]
-mod tests;
 mod words;
 
 pub use bag::MailBag;

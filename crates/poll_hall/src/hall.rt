@@ -34,6 +34,7 @@ impl<P: Drop, M: Labelled> Hall<P, M> {
     {
         self.lock.with(rt, seat, |hall: &mut HallState<P, M>| {
             let answer = hall.enter(alloc, who, file);
+            hall.is_reached();
             (answer, hall.count())
         })
     }
@@ -55,6 +56,7 @@ impl<P: Drop, M: Labelled> Hall<P, M> {
     {
         self.lock.with(rt, seat, |hall: &mut HallState<P, M>| {
             let answer = hall.post(alloc, who, doc, mail, urgent);
+            hall.is_reached();
             (answer, hall.count())
         })
     }
@@ -75,6 +77,7 @@ impl<P: Drop, M: Labelled> Hall<P, M> {
     {
         self.lock.with(rt, seat, |hall: &mut HallState<P, M>| {
             let answer = collect_turn(hall, who, doc, bag);
+            hall.is_reached();
             (answer, hall.count())
         })
     }
@@ -96,6 +99,7 @@ impl<P: Drop, M: Labelled> Hall<P, M> {
     {
         self.lock.with(rt, seat, |hall: &mut HallState<P, M>| {
             let answer = hall.depart(who, doc, to, parcel);
+            hall.is_reached();
             (answer, hall.count())
         })
     }
@@ -113,6 +117,7 @@ impl<P: Drop, M: Labelled> Hall<P, M> {
     {
         self.lock.with(rt, seat, |hall: &mut HallState<P, M>| {
             let answer = hall.arrive(who);
+            hall.is_reached();
             (answer, hall.count())
         })
     }
@@ -131,6 +136,7 @@ impl<P: Drop, M: Labelled> Hall<P, M> {
     {
         self.lock.with(rt, seat, |hall: &mut HallState<P, M>| {
             let answer = hall.close(who, doc);
+            hall.is_reached();
             (answer, hall.count())
         })
     }

@@ -10,8 +10,6 @@ mod local;
 mod port;
 mod questions;
 mod shared;
-#[cfg(test)]
-mod tests;
 mod turns;
 
 pub use hall::Hall;

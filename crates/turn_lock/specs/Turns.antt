@@ -1,6 +1,6 @@
 -- The rule of the lock: what holds between any two atomic steps, and what each kind of step does.
 -- Word 0 is the turn, word 1 the count, and the one slot holds the value.
-use Rattle.std.specs.Prelude.{◌≡◌, ℕ, ◌≤◌, true, false, ◌⊎◌, max, Option, None, Some, List, [], ◌∷◌, ◌++◌, length}
+use Rattle.std.specs.Prelude.{◌≡◌, ℕ, ◌+◌, ◌≤◌, true, false, ◌⊎◌, max, Option, None, Some, List, [], ◌∷◌, ◌++◌, length}
 use mathlib.Core.Option.{none, some}
 use lib.ListN.{get_elem?}
 use Rattle.atomic_table.specs.Table.{State, Me}
@@ -11,7 +11,7 @@ use Rattle.turn_lock.specs.Seats.{Known, own_after}
 
 -- what a caller sees of a view
 abbrev pub known : {E G : Type 0} → TableId → View E G → Known E G
-known z v = record { lock = z; footing = v.footing; seen = v.seen; own = v.own; noted = v.noted }
+known z v = record { lock = z; footing = v.footing; seen = v.seen; own = v.own; noted = v.noted; turns = v.turns }
 
 -- a seat between two calls: it has no slot and not the turn, knows its ground, and has told nothing that it hasn't taken in
 pub record IsIdle {T E G : Type 0} (me : Me (Option T) (View E G)) : Type 0 where
@@ -22,17 +22,17 @@ pub record IsIdle {T E G : Type 0} (me : Me (Option T) (View E G)) : Type 0 wher
 
 -- the view of a lock's first seat
 abbrev pub first_view : {E G : Type 0} → G → List E → View E G
-first_view g log = record { holds = false; footing = Some g; seen = log; told = []; own = []; noted = 0 }
+first_view g log = record { holds = false; footing = Some g; seen = log; told = []; own = []; noted = 0; turns = 0 }
 
 -- the view of a seat that was joined to another
 abbrev pub spent : {E G : Type 0} → View E G
-spent {E} {G} = record { holds = false; footing = None; seen = []; told = []; own = []; noted = 0 }
+spent {E} {G} = record { holds = false; footing = None; seen = []; told = []; own = []; noted = 0; turns = 0 }
 
 -- How each kind of step changes the view of the seat that steps
 
--- take: marked as holder, and it takes over the list of the value at home
+-- take: marked as holder, it takes over the list of the value at home, and it is one turn more
 abbrev pub took : {E G : Type 0} → View E G → List E → View E G
-took v log = record v { holds = true; seen = log }
+took v log = record v { holds = true; seen = log; turns = v.turns + 1 }
 
 -- publish: its list gains the entry that the turn added, where there is one
 abbrev pub published : {E G : Type 0} → View E G → List E → View E G
@@ -46,13 +46,13 @@ given v = record v { holds = false }
 abbrev pub looked : {E G : Type 0} → View E G → ℕ → View E G
 looked v n = record v { noted = n }
 
--- split: the new view is a copy without own entries
+-- split: the new view is a copy without own entries and turns
 abbrev pub copy_of : {E G : Type 0} → View E G → View E G
-copy_of v = record v { own = [] }
+copy_of v = record v { own = []; turns = 0 }
 
--- join: both seats' own entries and the greater count, and it is told of the other's list
+-- join: both seats' own entries and turns and the greater count, and it is told of the other's list
 abbrev pub merged : {E G : Type 0} → View E G → View E G → View E G
-merged v w = record v { told = w.seen; own = v.own ++ w.own; noted = max v.noted w.noted }
+merged v w = record v { told = w.seen; own = v.own ++ w.own; noted = max v.noted w.noted; turns = v.turns + w.turns }
 
 -- settle, the second step of a join: keeps the longer of the two lists
 abbrev pub settled_view : {E G : Type 0} → View E G → View E G

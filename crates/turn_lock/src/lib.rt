@@ -9,8 +9,6 @@
 mod booked;
 mod lock;
 mod steps;
-#[cfg(test)]
-mod tests;
 mod turns;
 mod view;
 

@@ -57,7 +57,7 @@ impl<T: Booked> TurnLock<T> {
     ///
     /// `Memory` where a growth was refused; the value is then dropped.
     pub fn new(alloc: Global, value: T) -> Result<(TurnLock<T>, Seat<T>), Memory>
-        ensures { IfOk result (λ r. r.1 ≡ record { lock = r.0; footing = Some (T.footing value); seen = T.book value; own = []; noted = 0 }) }
+        ensures { IfOk result (λ r. r.1 ≡ record { lock = r.0; footing = Some (T.footing value); seen = T.book value; own = []; noted = 0; turns = 0 }) }
     {
         let count = value.count();
         let about = Snapshot::of(&value);
@@ -73,7 +73,7 @@ impl<T: Booked> TurnLock<T> {
 
     /// Calls `f` once on the value, and gives its answer. It waits until no other seat has its turn.
     ///
-    /// The value's list begins with all that the seat had seen. Afterwards the seat has seen the list that `f` left, and an entry
+    /// It is one turn of the seat, and the value's list begins with all that the seat had seen. Afterwards the seat has seen the list that `f` left, and an entry
     /// that `f` added is the seat's own, at its place.
     pub fn with<X, W: Wait, F: FnOnce(&mut T) -> X>(&self, rt: &W, seat: &mut Seat<T>, f: F) -> X
         requires lock { seat.old.lock ≡ self.now }

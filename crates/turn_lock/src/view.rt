@@ -9,4 +9,5 @@ pub struct View<E, G> {
     pub told: LinkedList<E>,
     pub own: LinkedList<u64>,
     pub noted: u64,
+    pub turns: u64,
 }

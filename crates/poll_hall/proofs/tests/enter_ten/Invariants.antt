@@ -1,5 +1,0 @@
-use Rattle.std.proofs.Common.{◌≡◌}
-use Rattle.poll_hall.proofs.tests.enter_ten.Given as goal
-
-abbrev pub invariant-loop-digit : goal.invariant-loop-digit
-invariant-loop-digit g l = (l.seat.lock ≡ l.hall.lock)

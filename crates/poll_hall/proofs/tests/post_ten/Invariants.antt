@@ -1,5 +1,0 @@
-use Rattle.std.proofs.Common.{◌≡◌, ◌≤◌}
-use Rattle.poll_hall.proofs.tests.post_ten.Given as goal
-
-abbrev pub invariant-loop-k : goal.invariant-loop-k
-invariant-loop-k g l = (l.seat.lock ≡ l.hall.lock) × (l.done ≤ l.k)
