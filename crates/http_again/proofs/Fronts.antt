@@ -30,10 +30,10 @@ sized : (body behind : List ℕ) (ended : Bool) → length body ≤ body_limit �
 sized body behind ended within =
     by_length (length body) (body ++ behind) ended
     ∙ (λ i. if fits (length body) body_limit within i
-        then (if fits (length body) (length (body ++ behind)) (omega (arith, length-append body behind)) i
-            then Some (Ok (take-append_seam body behind i))
-            else (if ended then Some (Err CutOff) else None))
-        else Some (Err BodyTooLong))
+    then (if fits (length body) (length (body ++ behind)) (omega (arith, length-append body behind)) i
+    then Some (Ok (take-append_seam body behind i))
+    else (if ended then Some (Err CutOff) else None))
+    else Some (Err BodyTooLong))
 
 -- no body, whatever is behind it
 empty : (body behind : List ℕ) (ended : Bool) → body ≡ [] → body_says no_body (body ++ behind) ended ≡ Some (Ok body)

@@ -17,20 +17,16 @@ ghost use Rattle.http_again.specs.Given.{IsGiven, IsItself};
 /// A request within the limits, written to a wire with anything behind it, is what `read_request`
 /// answers, unless memory ran out or a read failed.
 pub fn requests_are_answered()
-    ensures {
-        (host : List ℕ) (r : Request) (behind bytes : List ℕ) (ended : Bool) (result : Result Request HttpFault)
+    ensures { (host : List ℕ) (r : Request) (behind bytes : List ℕ) (ended : Bool) (result : Result Request HttpFault)
         → IsReadable host r → length (request_head host r) ≤ head_limit
         → IsGiven (request_bytes host r ++ behind) bytes ended
-        → IsAnswer requests bytes ended result → IsItself r result
-    }
+        → IsAnswer requests bytes ended result → IsItself r result }
 {}
 
 /// The same of a response.
 pub fn responses_are_answered()
-    ensures {
-        (r : Response) (behind bytes : List ℕ) (ended : Bool) (result : Result Response HttpFault)
+    ensures { (r : Response) (behind bytes : List ℕ) (ended : Bool) (result : Result Response HttpFault)
         → IsTold r → length (response_head r) ≤ head_limit
         → IsGiven (response_bytes r ++ behind) bytes ended
-        → IsAnswer responses bytes ended result → IsItself r result
-    }
+        → IsAnswer responses bytes ended result → IsItself r result }
 {}

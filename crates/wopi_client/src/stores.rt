@@ -26,7 +26,7 @@ fn info_of(answer: Result<Told, StoreFault>) -> Result<Admission, StoreFault>
 {
     match answer {
         Ok(Told::Info(admission)) => Ok(admission),
-        Ok(_) => Err(StoreFault::Memory),
+        Ok(_) => unreachable!(),
         Err(fault) => Err(fault),
     }
 }
@@ -37,7 +37,7 @@ fn content_of(answer: Result<Told, StoreFault>) -> Result<Bytes, StoreFault>
 {
     match answer {
         Ok(Told::Content(content)) => Ok(content),
-        Ok(_) => Err(StoreFault::Memory),
+        Ok(_) => unreachable!(),
         Err(fault) => Err(fault),
     }
 }

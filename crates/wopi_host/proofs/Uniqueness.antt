@@ -44,8 +44,7 @@ one_at : (contents : Bool) (right : Option Bool) (file : List ℕ) (files : File
     → (one ≡ two) × SameFiles files1 files2 × SamePages pages1 pages2
 one_at contents right file files pages r now one two files1 files2 pages1 pages2 a b =
     let content : a.content ≡ b.content = one_content files file a.content b.content a.kept b.kept in
-    let verdict : a.verdict ≡ b.verdict = a.judged ∙ ap (λ c. verdict_at contents right c r (counting (pages file).lock now)) content ∙ sym b.judged in
-    (
+    let verdict : a.verdict ≡ b.verdict = a.judged ∙ ap (λ c. verdict_at contents right c r (counting (pages file).lock now)) content ∙ sym b.judged in (
       a.told ∙ (λ i. response_for (verdict i) file (unwrap_or (content i) []) (unwrap_or right false) (counting (pages file).lock now) (pages file).puts) ∙ sym b.told,
       after_both b.verdict files file r.body files1 files2 (subst (λ (v : Verdict). FilesAfter v (Some files) file r.body files1) verdict a.filed) b.filed,
       pages_both pages pages1 pages2 file _ _ (ap (λ v. marks_after v (pages file) r.lock now) verdict) a.marked b.marked,

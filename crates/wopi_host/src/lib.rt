@@ -19,5 +19,5 @@ mod table;
 mod targets;
 
 pub use hosts::{Host, LOCK_SECONDS};
-pub use laws::answers_are_one;
 pub use keepers::{Keeper, KeeperFault, MemoryKeeper};
+pub use laws::answers_are_one;

@@ -1,4 +1,6 @@
 // The seven operations through writer, reader, host, writer and reader, with ample memory.
+ghost use Rattle.http_message.specs.Statuses.{HasDueBody};
+
 use bytes::Bytes;
 use cool_base::{FileId, Memory, TextOf, Token};
 use http_message::{Method, Request, Response};
@@ -21,10 +23,9 @@ fn carried(alloc: Global, request: &Request) -> Result<Request, HttpFault> {
 }
 
 // The response, written to one wire and read from another.
-fn answered(alloc: Global, response: &Response) -> Result<Response, HttpFault> {
-    if response.status < 200 || response.status == 204 || response.status == 304 {
-        return Err(HttpFault::Memory);
-    }
+fn answered(alloc: Global, response: &Response) -> Result<Response, HttpFault>
+    requires { HasDueBody response.now }
+{
     let mut out = MemoryWire::new(alloc, b"", 1, 4_096)?;
     write_response(alloc, &mut out, response)?;
     let mut back = MemoryWire::new(alloc, out.sent(), 7, 0)?;
