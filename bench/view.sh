@@ -11,18 +11,18 @@ git archive HEAD crates crates.txt HANDLES | tar -x -C "$folder"
 cd "$folder"
 rm -rf crates/view_bench
 mkdir -p crates/view_bench/src
-echo "view_bench: cool_base tile_key document_machine view_session" >>crates.txt
+echo "view_bench: cool_base tile_key view_session" >>crates.txt
 cat >crates/view_bench/src/main.rt <<'END'
 //! Times a view of 4,096 keys.
 #![tactic(auto)]
 
 use cool_base::{Rect, Size, Token};
-use document_machine::Rights;
+
 use std::alloc::Global;
 use std::process::ExitCode;
 use std::time::Instant;
 use tile_key::{TileKey, Zoom};
-use view_session::View;
+use view_session::{Rights, View};
 
 const PART: Size = Size {
     w: 245_760,
@@ -74,7 +74,7 @@ fn joined(alloc: Global) -> Option<View> {
         token,
     };
     let mut view = View::new(alloc, rights, &PART).ok()?;
-    let zoom = Zoom::read(64, 64, 3_840, 3_840)?;
+    let zoom = Zoom::read(64, 64, 3_840, 3_840, 0)?;
     view.set_zoom(&zoom, &PART).ok()?;
     Some(view)
 }

@@ -8,8 +8,8 @@ use Rattle.cool_base.specs.declared.ids.ViewId.{ViewId}
 use Rattle.cool_frame.specs.declared.frame.Frame.{Frame}
 use Rattle.cool_frame.specs.declared.frame.Frame.TheVariants.{Status}
 use Rattle.kit_trait.specs.Rules.{Rules}
+use Rattle.tile_key.specs.Places.{Place}
 use Rattle.kit_trait.specs.declared.values.Input.{Input}
-use Rattle.kit_trait.specs.declared.values.Pixels.{Pixels}
 use Rattle.document_machine.specs.Due.{parts_of}
 use Rattle.document_machine.specs.Outputs.{named, nothing, frames_only, one_frame}
 use Rattle.document_machine.specs.State.{View, Job, Document, opening_view}
@@ -35,10 +35,10 @@ outs_by outs frames id frame told outs_are frames_are frame_is =
     outs_are ∙ ap (λ (fs : List (ViewId × Frame)). frames_only fs) (frames_are ∙ ap (λ (f : Frame). (named id, f) ∷ []) frame_is)
 
 -- what a broker keeps, with a view that joined
-pub holds_joined : {C B S : Type 0} (rules : Rules C B) (paints : S → Pixels) (IsSound : C → Type 0) (contents : C) (base : List ℕ) (journal : List Input) (applied : ℕ) (seats : List Seat) (next_view : ℕ) (jobs : List (Job S)) (now : Seat) (rights : Rights) (size : Extent)
-    → Holds rules paints IsSound contents base journal applied seats next_view jobs → length seats < 64 → size ≡ rules.size (rules.body contents) 0 → now.id ≡ next_view → now.view ≡ opening rights size → IsViewing now.view
-    → Holds rules paints IsSound contents base journal applied (seats ++ now ∷ []) (next_view + 1) jobs
-holds_joined rules paints IsSound contents base journal applied seats next_view jobs now rights size h few size_is id_is view_is keeps =
+pub holds_joined : {C B S : Type 0} (rules : Rules C B) (cut : C → Place → S) (IsSound : C → Type 0) (contents : C) (base : List ℕ) (journal : List Input) (applied : ℕ) (seats : List Seat) (next_view : ℕ) (jobs : List (Job S)) (now : Seat) (rights : Rights) (size : Extent)
+    → Holds rules cut IsSound contents base journal applied seats next_view jobs → length seats < 64 → size ≡ rules.size (rules.body contents) 0 → now.id ≡ next_view → now.view ≡ opening rights size → IsViewing now.view
+    → Holds rules cut IsSound contents base journal applied (seats ++ now ∷ []) (next_view + 1) jobs
+holds_joined rules cut IsSound contents base journal applied seats next_view jobs now rights size h few size_is id_is view_is keeps =
     let v : Viewing = opening rights size in
     let seat : Seat = record { id = next_view; view = v } in
     let now_is : now ≡ seat = ap (λ n. record now { id = n }) id_is ∙ ap (λ (x : Viewing). record { id = next_view; view = x }) view_is in
@@ -50,7 +50,7 @@ holds_joined rules paints IsSound contents base journal applied seats next_view 
       versions = tt;
       marks = tt;
     } in
-    let done : Holds rules paints IsSound contents base journal applied (seats ++ seat ∷ []) (next_view + 1) jobs = record {
+    let done : Holds rules cut IsSound contents base journal applied (seats ++ seat ∷ []) (next_view + 1) jobs = record {
       accepted = h.accepted;
       level = h.level;
       contents_are = h.contents_are;
@@ -65,14 +65,14 @@ holds_joined rules paints IsSound contents base journal applied seats next_view 
       seated = all_push (IsSeated rules base journal applied) seats seat h.seated sat;
       out = h.out;
     } in
-    subst (λ (x : Seat). Holds rules paints IsSound contents base journal applied (seats ++ x ∷ []) (next_view + 1) jobs) (sym now_is) done
+    subst (λ (x : Seat). Holds rules cut IsSound contents base journal applied (seats ++ x ∷ []) (next_view + 1) jobs) (sym now_is) done
 
 -- a view joined
-pub joins_by : {C B S : Type 0} (rules : Rules C B) (paints : S → Pixels) (IsSound : C → Type 0) (contents : C) (file base : List ℕ) (journal : List Input) (applied : ℕ) (seats : List Seat) (next_view : ℕ) (jobs : List (Job S)) (next_ticket : ℕ) (now : Seat) (rights : Rights) (size : Extent) (outs : Outs S)
-    → Holds rules paints IsSound contents base journal applied seats next_view jobs → length seats < 64 → now.id ≡ next_view → now.view ≡ opening rights size
+pub joins_by : {C B S : Type 0} (rules : Rules C B) (cut : C → Place → S) (IsSound : C → Type 0) (contents : C) (file base : List ℕ) (journal : List Input) (applied : ℕ) (seats : List Seat) (next_view : ℕ) (jobs : List (Job S)) (next_ticket : ℕ) (now : Seat) (rights : Rights) (size : Extent) (outs : Outs S)
+    → Holds rules cut IsSound contents base journal applied seats next_view jobs → length seats < 64 → now.id ≡ next_view → now.view ≡ opening rights size
     → outs ≡ one_frame next_view (Status rules.name (rules.parts (rules.body contents)) (rules.size (rules.body contents) 0) (named next_view) (not rights.can_write))
     → Joins rules (document_of file base journal applied seats next_view jobs next_ticket) rights outs (document_of file base journal applied (seats ++ now ∷ []) (next_view + 1) jobs next_ticket)
-joins_by {C} {B} {S} rules paints IsSound contents file base journal applied seats next_view jobs next_ticket now rights size outs h few id_is view_is outs_are =
+joins_by {C} {B} {S} rules cut IsSound contents file base journal applied seats next_view jobs next_ticket now rights size outs h few id_is view_is outs_are =
     let d : Document S = document_of file base journal applied seats next_view jobs next_ticket in
     let now_is : view_of now ≡ opening_view next_view rights = ap (λ n. view_of (record now { id = n })) id_is ∙ ap (λ (x : Viewing). view_of (record { id = next_view; view = x })) view_is in
     let views_are : views_of (seats ++ now ∷ []) ≡ views_of seats ++ opening_view next_view rights ∷ [] = map-append view_of seats (now ∷ []) ∙ ap (λ (x : View). views_of seats ++ x ∷ []) now_is in
@@ -86,10 +86,10 @@ joins_by {C} {B} {S} rules paints IsSound contents file base journal applied sea
     subst (λ b. JoinsWhere b rules d rights outs (document_of file base journal applied (seats ++ now ∷ []) (next_view + 1) jobs next_ticket)) (sym yes) (told, new_is)
 
 -- what a broker keeps, without a view that left
-pub holds_left : {C B S : Type 0} (rules : Rules C B) (paints : S → Pixels) (IsSound : C → Type 0) (contents : C) (base : List ℕ) (journal : List Input) (applied : ℕ) (seats : List Seat) (next_view : ℕ) (jobs : List (Job S)) (i : ℕ)
-    → Holds rules paints IsSound contents base journal applied seats next_view jobs
-    → Holds rules paints IsSound contents base journal applied (remove seats i) next_view jobs
-holds_left rules paints IsSound contents base journal applied seats next_view jobs i h = record {
+pub holds_left : {C B S : Type 0} (rules : Rules C B) (cut : C → Place → S) (IsSound : C → Type 0) (contents : C) (base : List ℕ) (journal : List Input) (applied : ℕ) (seats : List Seat) (next_view : ℕ) (jobs : List (Job S)) (i : ℕ)
+    → Holds rules cut IsSound contents base journal applied seats next_view jobs
+    → Holds rules cut IsSound contents base journal applied (remove seats i) next_view jobs
+holds_left rules cut IsSound contents base journal applied seats next_view jobs i h = record {
   accepted = h.accepted;
   level = h.level;
   contents_are = h.contents_are;

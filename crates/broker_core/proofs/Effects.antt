@@ -4,7 +4,7 @@ use Rattle.std.specs.Prelude.{nat_le, nat_lt, IfSome, Ok, Err, codes}
 use Rattle.std.specs.List.{list_all, AllByRecursion}
 use Rattle.std.proofs.lemmas.Bool.{and_parts}
 use Rattle.std.proofs.lemmas.Bool.Decides.{nat_tests}
-use Rattle.asked_keys.specs.Asked.{is_key_of, keys_of, places_of}
+use Rattle.cool_message.specs.Asked.{is_key_of, keys_of, places_of}
 use Rattle.cool_base.specs.Points.{Rectangle, Extent}
 use Rattle.cool_frame.specs.declared.kind.ErrorKind.TheVariants.{InputsFull, ReadOnly, AskedFull, TooLarge, BadTile}
 use Rattle.cool_message.specs.Reading.{reading}
@@ -93,7 +93,9 @@ message_within count parts sizes view (Tile words) asked = asking_within parts v
 message_within count parts sizes view (TileCombine words) asked = asking_within parts view _ (keys_of parts (TileCombine words)) asked (keys_named parts (TileCombine words))
 message_within count parts sizes view CancelTiles asked = tt
 message_within count parts sizes view (VisibleArea area) asked = seeing_within parts sizes view _ view.part view.zoom area (Looks area) tt
-message_within count parts sizes view (Zoom pixel_w pixel_h twip_w twip_h) asked = zooming_within parts sizes view (zoom_of (record { pixel_w = pixel_w; pixel_h = pixel_h; twip_w = twip_w; twip_h = twip_h }))
+message_within count parts sizes view (Zoom pixel_w pixel_h twip_w twip_h nviewid) asked =
+    zooming_within parts sizes view
+    (zoom_of (record { pixel_w = pixel_w; pixel_h = pixel_h; twip_w = twip_w; twip_h = twip_h; nviewid = nviewid }))
 message_within count parts sizes view (SetPart part) asked = going_within parts sizes view part
 message_within count parts sizes view (TileProcessed wids) asked = tt
 message_within count parts sizes view (Save keep skip) asked = tt

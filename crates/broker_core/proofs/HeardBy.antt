@@ -7,9 +7,9 @@ use Rattle.std.proofs.lemmas.List.{set-get_or}
 use Rattle.cool_base.specs.Points.{Extent}
 use Rattle.cool_base.specs.declared.ids.ViewId.{ViewId}
 use Rattle.cool_frame.specs.declared.frame.Frame.{Frame}
-use Rattle.kit_trait.specs.Rules.{Rules, shown}
+use Rattle.kit_trait.specs.Rules.{Rules}
+use Rattle.tile_key.specs.Places.{Place}
 use Rattle.kit_trait.specs.declared.values.Input.{Input}
-use Rattle.kit_trait.specs.declared.values.Pixels.{Pixels}
 use Rattle.document_machine.specs.Due.{parts_of, size_of, touched}
 use Rattle.document_machine.specs.Message.{Effect, Refuses, Greets, Inputs, Asks, Cancels, Looks, Zooms, GoesTo, Acknowledges, Passes, effect_of, frames_of, took, asks as asks_for, cancels as cancels_all, looks as looks_at, zooms as zooms_to, goes_to as goes, acknowledged}
 use Rattle.document_machine.specs.Outputs.{frames_only}
@@ -53,12 +53,14 @@ seated_pushed rules base journal applied input seat level s = record {
   marks = all_weaker (λ (entry : Entry). entry.stale ≡ touched rules base journal entry.version entry.key applied) (λ entry. entry.stale ≡ touched rules base (journal ++ input ∷ []) entry.version entry.key applied) seat.view.screen (λ entry is. is ∙ sym (touched_same rules base journal input entry.version entry.key applied level)) s.marks;
 }
 
-pub out_pushed : {C B S : Type 0} (rules : Rules C B) (paints : S → Pixels) (base : List ℕ) (journal : List Input) (applied : ℕ) (input : Input) (job : Job S) → applied ≤ length journal → IsOut rules paints base journal applied job → IsOut rules paints base (journal ++ input ∷ []) applied job
-out_pushed rules paints base journal applied input job level out = record {
+pub out_pushed : {C B S : Type 0} (rules : Rules C B) (cut : C → Place → S) (base : List ℕ) (journal : List Input) (applied : ℕ) (input : Input) (job : Job S) → applied ≤ length journal → IsOut rules cut base journal applied job → IsOut rules cut base (journal ++ input ∷ []) applied job
+out_pushed rules cut base journal applied input job level out = record {
   number = out.number;
   group = out.group;
   area = out.area;
-  shows = out.shows ∙ ap (λ c. shown rules c job.area) (doc_same rules base journal applied input level);
+  form = out.form;
+  part = out.part;
+  scene_is = out.scene_is ∙ ap (λ c. cut c job.area) (doc_same rules base journal applied input level);
 }
 
 -- a seat after an effect that keeps to the document's parts, once its view keeps to its type
@@ -131,12 +133,12 @@ seats_entered rules base journal applied seats (Acknowledges wids) level all = a
 seats_entered rules base journal applied seats Passes level all = all
 
 -- what a broker keeps, with an effect's input behind the accepted ones
-holds_entered : {C B S : Type 0} {rules : Rules C B} {paints : S → Pixels} {IsSound : C → Type 0} {contents : C} {base : List ℕ} {journal : List Input} {applied : ℕ} {seats : List Seat} {next_view : ℕ} {jobs : List (Job S)} (view : View) (e : Effect)
-    → Holds rules paints IsSound contents base journal applied seats next_view jobs → view.part < parts_of rules base → Within (parts_of rules base) view e
-    → Holds rules paints IsSound contents base (entered journal e) applied seats next_view jobs
+holds_entered : {C B S : Type 0} {rules : Rules C B} {cut : C → Place → S} {IsSound : C → Type 0} {contents : C} {base : List ℕ} {journal : List Input} {applied : ℕ} {seats : List Seat} {next_view : ℕ} {jobs : List (Job S)} (view : View) (e : Effect)
+    → Holds rules cut IsSound contents base journal applied seats next_view jobs → view.part < parts_of rules base → Within (parts_of rules base) view e
+    → Holds rules cut IsSound contents base (entered journal e) applied seats next_view jobs
 holds_entered view (Refuses command kind) h part within = h
 holds_entered view Greets h part within = h
-holds_entered {C} {B} {S} {rules} {paints} {IsSound} {contents} {base} {journal} {applied} {seats} {next_view} {jobs} view (Inputs input) h part within = record {
+holds_entered {C} {B} {S} {rules} {cut} {IsSound} {contents} {base} {journal} {applied} {seats} {next_view} {jobs} view (Inputs input) h part within = record {
   accepted = h.accepted;
   level = omega (arith, h.level, length-append journal (input ∷ []));
   contents_are = h.contents_are ∙ doc_same rules base journal applied input h.level;
@@ -149,7 +151,7 @@ holds_entered {C} {B} {S} {rules} {paints} {IsSound} {contents} {base} {journal}
   ids = h.ids;
   ids_below = h.ids_below;
   seated = seats_entered rules base journal applied seats (Inputs input) h.level h.seated;
-  out = all_weaker (IsOut rules paints base journal applied) (IsOut rules paints base (journal ++ input ∷ []) applied) jobs (λ job is. out_pushed rules paints base journal applied input job h.level is) h.out;
+  out = all_weaker (IsOut rules cut base journal applied) (IsOut rules cut base (journal ++ input ∷ []) applied) jobs (λ job is. out_pushed rules cut base journal applied input job h.level is) h.out;
 }
 holds_entered view (Asks asked) h part within = h
 holds_entered view Cancels h part within = h
@@ -160,10 +162,10 @@ holds_entered view (Acknowledges wids) h part within = h
 holds_entered view Passes h part within = h
 
 -- what a broker keeps, with another view in a seat
-pub holds_seated : {C B S : Type 0} {rules : Rules C B} {paints : S → Pixels} {IsSound : C → Type 0} {contents : C} {base : List ℕ} {journal : List Input} {applied : ℕ} {seats : List Seat} {next_view : ℕ} {jobs : List (Job S)} (i : ℕ) (seat now : Seat)
-    → Holds rules paints IsSound contents base journal applied seats next_view jobs → i < length seats → get_or seats i seat ≡ seat → now.id ≡ seat.id → IsSeated rules base journal applied now
-    → Holds rules paints IsSound contents base journal applied (set seats i now) next_view jobs
-holds_seated {C} {B} {S} {rules} {paints} {IsSound} {contents} {base} {journal} {applied} {seats} {next_view} {jobs} i seat now h lt is same s =
+pub holds_seated : {C B S : Type 0} {rules : Rules C B} {cut : C → Place → S} {IsSound : C → Type 0} {contents : C} {base : List ℕ} {journal : List Input} {applied : ℕ} {seats : List Seat} {next_view : ℕ} {jobs : List (Job S)} (i : ℕ) (seat now : Seat)
+    → Holds rules cut IsSound contents base journal applied seats next_view jobs → i < length seats → get_or seats i seat ≡ seat → now.id ≡ seat.id → IsSeated rules base journal applied now
+    → Holds rules cut IsSound contents base journal applied (set seats i now) next_view jobs
+holds_seated {C} {B} {S} {rules} {cut} {IsSound} {contents} {base} {journal} {applied} {seats} {next_view} {jobs} i seat now h lt is same s =
     let low : seat.id < next_view = all_at (λ (x : Seat). x.id < next_view) seats i seat h.ids_below lt is in
     record {
       accepted = h.accepted;
@@ -182,35 +184,35 @@ holds_seated {C} {B} {S} {rules} {paints} {IsSound} {contents} {base} {journal} 
     }
 
 -- the sizes that a kit tells are those of the loaded file
-pub sizes_same : {C B S : Type 0} {rules : Rules C B} {paints : S → Pixels} {IsSound : C → Type 0} {contents : C} {base : List ℕ} {journal : List Input} {applied : ℕ} {seats : List Seat} {next_view : ℕ} {jobs : List (Job S)} → Holds rules paints IsSound contents base journal applied seats next_view jobs → rules.size (rules.body contents) ≡ size_of rules base
+pub sizes_same : {C B S : Type 0} {rules : Rules C B} {cut : C → Place → S} {IsSound : C → Type 0} {contents : C} {base : List ℕ} {journal : List Input} {applied : ℕ} {seats : List Seat} {next_view : ℕ} {jobs : List (Job S)} → Holds rules cut IsSound contents base journal applied seats next_view jobs → rules.size (rules.body contents) ≡ size_of rules base
 sizes_same h = fun_ext (λ part. h.sizes_are part)
 
 -- the effect of a text, in the words of the kit and in those of the document
-pub effect_same : {C B S : Type 0} {rules : Rules C B} {paints : S → Pixels} {IsSound : C → Type 0} {contents : C} {base : List ℕ} {journal : List Input} {applied : ℕ} {seats : List Seat} {next_view : ℕ} {jobs : List (Job S)} (count : ℕ) (view : View) (text : List ℕ)
-    → Holds rules paints IsSound contents base journal applied seats next_view jobs
+pub effect_same : {C B S : Type 0} {rules : Rules C B} {cut : C → Place → S} {IsSound : C → Type 0} {contents : C} {base : List ℕ} {journal : List Input} {applied : ℕ} {seats : List Seat} {next_view : ℕ} {jobs : List (Job S)} (count : ℕ) (view : View) (text : List ℕ)
+    → Holds rules cut IsSound contents base journal applied seats next_view jobs
     → effect_of count (rules.parts (rules.body contents)) (rules.size (rules.body contents)) view text ≡ effect_of count (parts_of rules base) (size_of rules base) view text
-effect_same {C} {B} {S} {rules} {paints} {IsSound} {contents} {base} count view text h =
+effect_same {C} {B} {S} {rules} {cut} {IsSound} {contents} {base} count view text h =
     ap (λ n. effect_of count n (rules.size (rules.body contents)) view text) h.parts_are
     ∙ ap (λ (sizes : ℕ → Extent). effect_of count (parts_of rules base) sizes view text) (sizes_same h)
 
 -- what a broker keeps, after what one of its views said
-pub holds_said : {C B S : Type 0} (rules : Rules C B) (paints : S → Pixels) (IsSound : C → Type 0) (contents : C) (base : List ℕ) (journal entries : List Input) (applied count : ℕ) (seats : List Seat) (next_view : ℕ) (jobs : List (Job S)) (i : ℕ) (seat now : Seat) (text : List ℕ) (e : Effect)
-    → Holds rules paints IsSound contents base journal applied seats next_view jobs → i < length seats → get_or seats i seat ≡ seat
+pub holds_said : {C B S : Type 0} (rules : Rules C B) (cut : C → Place → S) (IsSound : C → Type 0) (contents : C) (base : List ℕ) (journal entries : List Input) (applied count : ℕ) (seats : List Seat) (next_view : ℕ) (jobs : List (Job S)) (i : ℕ) (seat now : Seat) (text : List ℕ) (e : Effect)
+    → Holds rules cut IsSound contents base journal applied seats next_view jobs → i < length seats → get_or seats i seat ≡ seat
     → e ≡ effect_of count (rules.parts (rules.body contents)) (rules.size (rules.body contents)) (view_of seat) text → entries ≡ entered journal e
     → now ≡ with_viewing seat (heard (rules.size (rules.body contents)) seat.view e) → IsViewing now.view
-    → Holds rules paints IsSound contents base entries applied (set seats i now) next_view jobs
-holds_said rules paints IsSound contents base journal entries applied count seats next_view jobs i seat now text e h lt is told entries_are now_is keeps =
+    → Holds rules cut IsSound contents base entries applied (set seats i now) next_view jobs
+holds_said rules cut IsSound contents base journal entries applied count seats next_view jobs i seat now text e h lt is told entries_are now_is keeps =
     let s : IsSeated rules base journal applied seat = all_at (IsSeated rules base journal applied) seats i seat h.seated lt is in
     let e_is : e ≡ effect_of count (parts_of rules base) (size_of rules base) (view_of seat) text = told ∙ effect_same count (view_of seat) text h in
     let within : Within (parts_of rules base) (view_of seat) e = subst (Within (parts_of rules base) (view_of seat)) (sym e_is) (effect_within count (parts_of rules base) (size_of rules base) (view_of seat) text s.asked) in
-    let here : Holds rules paints IsSound contents base (entered journal e) applied seats next_view jobs = holds_entered (view_of seat) e h s.part within in
+    let here : Holds rules cut IsSound contents base (entered journal e) applied seats next_view jobs = holds_entered (view_of seat) e h s.part within in
     let v : Viewing = heard (size_of rules base) seat.view e in
     let now_is2 : now ≡ with_viewing seat v = now_is ∙ ap (λ (sizes : ℕ → Extent). with_viewing seat (heard sizes seat.view e)) (sizes_same h) in
     let keeps2 : IsViewing v = subst (λ (x : Seat). IsViewing x.view) now_is2 keeps in
     let seated : IsSeated rules base (entered journal e) applied (with_viewing seat v) = seated_heard rules base journal applied seat e h.level s within keeps2 in
-    let done : Holds rules paints IsSound contents base (entered journal e) applied (set seats i (with_viewing seat v)) next_view jobs = holds_seated i seat (with_viewing seat v) here lt is refl seated in
-    subst (λ js. Holds rules paints IsSound contents base js applied (set seats i now) next_view jobs) (sym entries_are)
-    (subst (λ (x : Seat). Holds rules paints IsSound contents base (entered journal e) applied (set seats i x) next_view jobs) (sym now_is2) done)
+    let done : Holds rules cut IsSound contents base (entered journal e) applied (set seats i (with_viewing seat v)) next_view jobs = holds_seated i seat (with_viewing seat v) here lt is refl seated in
+    subst (λ js. Holds rules cut IsSound contents base js applied (set seats i now) next_view jobs) (sym entries_are)
+    (subst (λ (x : Seat). Holds rules cut IsSound contents base (entered journal e) applied (set seats i x) next_view jobs) (sym now_is2) done)
 
 -- the seats where one view stays
 same_seats : (seats : List Seat) (i : ℕ) (seat : Seat) → get_or seats i seat ≡ seat → set seats i seat ≡ seats
@@ -251,12 +253,12 @@ nat_is : (m n : ℕ) → nat_eq m n ≡ true → m ≡ n
 nat_is m n e = grind (arith, nat_tests)
 
 -- one of the views said a text
-pub says_by : {C B S : Type 0} (rules : Rules C B) (paints : S → Pixels) (IsSound : C → Type 0) (contents : C) (file base : List ℕ) (journal entries : List Input) (applied count : ℕ) (seats : List Seat) (next_view : ℕ) (jobs : List (Job S)) (next_ticket id i : ℕ) (seat now : Seat) (text : List ℕ) (e : Effect) (frames : List (ViewId × Frame))
-    → Holds rules paints IsSound contents base journal applied seats next_view jobs → IsPlace seats id i → get_or seats i seat ≡ seat → count ≡ length journal
+pub says_by : {C B S : Type 0} (rules : Rules C B) (cut : C → Place → S) (IsSound : C → Type 0) (contents : C) (file base : List ℕ) (journal entries : List Input) (applied count : ℕ) (seats : List Seat) (next_view : ℕ) (jobs : List (Job S)) (next_ticket id i : ℕ) (seat now : Seat) (text : List ℕ) (e : Effect) (frames : List (ViewId × Frame))
+    → Holds rules cut IsSound contents base journal applied seats next_view jobs → IsPlace seats id i → get_or seats i seat ≡ seat → count ≡ length journal
     → e ≡ effect_of count (rules.parts (rules.body contents)) (rules.size (rules.body contents)) (view_of seat) text → frames ≡ frames_of seat.id e → entries ≡ entered journal e
     → now ≡ with_viewing seat (heard (rules.size (rules.body contents)) seat.view e)
     → Says rules (document_of file base journal applied seats next_view jobs next_ticket) id text (frames_only frames) (document_of file base entries applied (set seats i now) next_view jobs next_ticket)
-says_by {C} {B} {S} rules paints IsSound contents file base journal entries applied count seats next_view jobs next_ticket id i seat now text e frames h place is count_is told frames_are entries_are now_is =
+says_by {C} {B} {S} rules cut IsSound contents file base journal entries applied count seats next_view jobs next_ticket id i seat now text e frames h place is count_is told frames_are entries_are now_is =
     let d : Document S = document_of file base journal applied seats next_view jobs next_ticket in
     let s : IsSeated rules base journal applied seat = all_at (IsSeated rules base journal applied) seats i seat h.seated place.within is in
     let same : nat_eq seat.id id ≡ true = subst (λ (x : Seat). nat_eq x.id id ≡ true) is (place.here seat) in

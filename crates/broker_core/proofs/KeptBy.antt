@@ -3,7 +3,6 @@ use Rattle.std.proofs.Common.{◌≡◌, ◌∙◌, ℕ, ◌<◌, ◌≤◌, tru
 use Rattle.std.proofs.lemmas.List.{length-map}
 use Rattle.kit_trait.specs.Rules.{Rules}
 use Rattle.kit_trait.specs.declared.values.Input.{Input}
-use Rattle.kit_trait.specs.declared.values.Pixels.{Pixels}
 use Rattle.tile_key.specs.Places.{Place, IsKey}
 use Rattle.tile_key.specs.Visible.{IsBefore, is_too_large}
 use Rattle.document_machine.specs.Due.{parts_of, sees_or_asks, visible}
@@ -38,10 +37,10 @@ view_kept rules d seat s =
       wids_below = s.keeps.wids_below;
     }
 
-pub kept_by : {C B S : Type 0} (rules : Rules C B) (paints : S → Pixels) (IsSound : C → Type 0) (contents : C) (file base : List ℕ) (journal : List Input) (applied : ℕ) (seats : List Seat) (next_view : ℕ) (jobs : List (Job S)) (next_ticket : ℕ)
-    → Holds rules paints IsSound contents base journal applied seats next_view jobs
+pub kept_by : {C B S : Type 0} (rules : Rules C B) (cut : C → Place → S) (IsSound : C → Type 0) (contents : C) (file base : List ℕ) (journal : List Input) (applied : ℕ) (seats : List Seat) (next_view : ℕ) (jobs : List (Job S)) (next_ticket : ℕ)
+    → Holds rules cut IsSound contents base journal applied seats next_view jobs
     → IsKept rules (document_of file base journal applied seats next_view jobs next_ticket)
-kept_by {C} {B} {S} rules paints IsSound contents file base journal applied seats next_view jobs next_ticket h =
+kept_by {C} {B} {S} rules cut IsSound contents file base journal applied seats next_view jobs next_ticket h =
     let d : Document S = document_of file base journal applied seats next_view jobs next_ticket in
     record {
       accepted = h.accepted;

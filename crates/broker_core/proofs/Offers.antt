@@ -8,7 +8,7 @@ use Rattle.cool_frame.specs.declared.frame.Frame.{Frame}
 use Rattle.kit_trait.specs.Rules.{Rules, doc, shown}
 use Rattle.kit_trait.specs.declared.values.Input.{Input}
 use Rattle.kit_trait.specs.declared.values.Pixels.{Pixels}
-use Rattle.tile_key.specs.Places.{Place, key_order, same_place}
+use Rattle.tile_key.specs.Places.{Place, IsArea, key_order, same_place}
 use Rattle.document_machine.specs.Due.{parts_of, size_of, touched, is_current, asked_after}
 use Rattle.document_machine.specs.Due as due
 use Rattle.document_machine.specs.Keys.{is_among, Pairwise}
@@ -134,15 +134,15 @@ count_offered key number [] = refl
 count_offered key number (seat ∷ seats) = ap suc (count_offered key number seats)
 
 -- what a broker keeps, once a painted tile was taken
-pub holds_painted : {C B S : Type 0} (rules : Rules C B) (paints : S → Pixels) (IsSound : C → Type 0) (contents : C) (base : List ℕ) (journal : List Input) (applied : ℕ) (seats after : List Seat) (next_view : ℕ) (jobs : List (Job S)) (ticket number : ℕ) (key : Place) (scene : S)
-    → Holds rules paints IsSound contents base journal applied seats next_view jobs → jobs ≡ job_of ticket number key scene ∷ []
+pub holds_painted : {C B S : Type 0} (rules : Rules C B) (cut : C → Place → S) (IsSound : C → Type 0) (contents : C) (base : List ℕ) (journal : List Input) (applied : ℕ) (seats after : List Seat) (next_view : ℕ) (jobs : List (Job S)) (ticket number : ℕ) (key : Place) (scene : S)
+    → Holds rules cut IsSound contents base journal applied seats next_view jobs → jobs ≡ job_of ticket number key scene ∷ []
     → after ≡ map (offered key number) seats → AllByRecursion (λ (seat : Seat). IsViewing seat.view) after
-    → Holds {S = S} rules paints IsSound contents base journal applied after next_view []
-holds_painted {C} {B} {S} rules paints IsSound contents base journal applied seats after next_view jobs ticket number key scene h jobs_are after_is keeps =
-    let out : AllByRecursion (IsOut rules paints base journal applied) (job_of ticket number key scene ∷ []) = subst (λ (js : List (Job S)). AllByRecursion (IsOut rules paints base journal applied) js) jobs_are h.out in
+    → Holds {S = S} rules cut IsSound contents base journal applied after next_view []
+holds_painted {C} {B} {S} rules cut IsSound contents base journal applied seats after next_view jobs ticket number key scene h jobs_are after_is keeps =
+    let out : AllByRecursion (IsOut rules cut base journal applied) (job_of ticket number key scene ∷ []) = subst (λ (js : List (Job S)). AllByRecursion (IsOut rules cut base journal applied) js) jobs_are h.out in
     let is : number ≡ applied = out.0.number in
     let all : AllByRecursion (λ (seat : Seat). IsViewing seat.view) (map (offered key number) seats) = subst (λ (ss : List Seat). AllByRecursion (λ (seat : Seat). IsViewing seat.view) ss) after_is keeps in
-    let done : Holds {S = S} rules paints IsSound contents base journal applied (map (offered key number) seats) next_view [] = record {
+    let done : Holds {S = S} rules cut IsSound contents base journal applied (map (offered key number) seats) next_view [] = record {
       accepted = h.accepted;
       level = h.level;
       contents_are = h.contents_are;
@@ -157,7 +157,7 @@ holds_painted {C} {B} {S} rules paints IsSound contents base journal applied sea
       seated = all_seated rules base journal applied number key seats is h.seated all;
       out = tt;
     } in
-    subst (λ (ss : List Seat). Holds {S = S} rules paints IsSound contents base journal applied ss next_view []) (sym after_is) done
+    subst (λ (ss : List Seat). Holds {S = S} rules cut IsSound contents base journal applied ss next_view []) (sym after_is) done
 
 -- a job that is found by its ticket
 found_here : {S : Type 0} (job : Job S) (ticket : ℕ) → nat_eq job.ticket ticket ≡ true → find_job (job ∷ []) ticket ≡ Some job
@@ -176,21 +176,27 @@ the_job job ticket scene some =
     go (nat_eq job.ticket ticket) refl some
 
 -- a painted result that is taken
-pub paints_by : {C B S : Type 0} (rules : Rules C B) (paints : S → Pixels) (IsSound : C → Type 0) (contents : C) (file base : List ℕ) (journal : List Input) (applied : ℕ) (seats after : List Seat) (next_view : ℕ) (jobs : List (Job S)) (next_ticket : ℕ) (ticket number : ℕ) (key : Place) (scene : S) (done_ticket : ℕ) (done_scene : S) (pixels : Pixels) (frames : List (ViewId × Frame)) (old : Document S)
-    → Holds rules paints IsSound contents base journal applied seats next_view jobs → document_of file base journal applied seats next_view jobs next_ticket ≡ old → jobs ≡ job_of ticket number key scene ∷ []
-    → Awaits done_scene (find_job old.jobs done_ticket) → pixels ≡ paints done_scene
+pub paints_by : {C B S : Type 0} (rules : Rules C B) (cut : C → Place → S) (paints : S → Pixels) (IsSound : C → Type 0) (contents : C) (file base : List ℕ) (journal : List Input) (applied : ℕ) (seats after : List Seat) (next_view : ℕ) (jobs : List (Job S)) (next_ticket : ℕ) (ticket number : ℕ) (key : Place) (scene : S) (done_ticket : ℕ) (done_scene : S) (pixels : Pixels) (frames : List (ViewId × Frame)) (old : Document S)
+    → Holds rules cut IsSound contents base journal applied seats next_view jobs → document_of file base journal applied seats next_view jobs next_ticket ≡ old → jobs ≡ job_of ticket number key scene ∷ []
+    → Awaits done_scene (find_job old.jobs done_ticket)
+    → ((place : Place) → IsArea place → place.part < rules.parts (rules.body contents) → paints (cut contents place) ≡ shown rules contents place)
+    → pixels ≡ paints done_scene
     → after ≡ map (offered key number) seats → frames ≡ flat_map (frames_for key number pixels.rgba) seats
     → Paints rules old done_ticket done_scene (frames_only frames) (document_of file base journal applied after next_view [] next_ticket) (find_job old.jobs done_ticket)
-paints_by {C} {B} {S} rules paints IsSound contents file base journal applied seats after next_view jobs next_ticket ticket number key scene done_ticket done_scene pixels frames old h is jobs_are some painted after_is frames_are =
+paints_by {C} {B} {S} rules cut paints IsSound contents file base journal applied seats after next_view jobs next_ticket ticket number key scene done_ticket done_scene pixels frames old h is jobs_are some pictures painted after_is frames_are =
     let job : Job S = job_of ticket number key scene in
     let d : Document S = document_of file base journal applied seats next_view (job ∷ []) next_ticket in
     let there : d ≡ old = ap (λ js. document_of file base journal applied seats next_view js next_ticket) (sym jobs_are) ∙ is in
     let some2 : Awaits done_scene (find_job (job ∷ []) done_ticket) = subst (λ (o : Document S). Awaits done_scene (find_job o.jobs done_ticket)) (sym there) some in
     let it : (nat_eq ticket done_ticket ≡ true) × (done_scene ≡ scene) = the_job job done_ticket done_scene some2 in
-    let out : AllByRecursion (IsOut rules paints base journal applied) (job ∷ []) = subst (λ (js : List (Job S)). AllByRecursion (IsOut rules paints base journal applied) js) jobs_are h.out in
+    let out : AllByRecursion (IsOut rules cut base journal applied) (job ∷ []) = subst (λ (js : List (Job S)). AllByRecursion (IsOut rules cut base journal applied) js) jobs_are h.out in
     let number_is : number ≡ applied = out.0.number in
-    let rgba_is : pixels.rgba ≡ (shown rules (doc rules base journal number) key).rgba =
-    ap (λ (p : Pixels). p.rgba) (painted ∙ ap paints it.1 ∙ out.0.shows ∙ ap (λ n. shown rules (doc rules base journal n) key) (sym number_is)) in
+    let part : key.part < rules.parts (rules.body contents) = omega (arith, out.0.part, h.parts_are) in
+    let scene_is : scene ≡ cut contents key = out.0.scene_is ∙ ap (λ c. cut c key) (sym h.contents_are) in
+    let shows : pixels ≡ shown rules (doc rules base journal number) key =
+    painted ∙ ap paints (it.1 ∙ scene_is) ∙ pictures key out.0.form part ∙ ap (λ c. shown rules c key) h.contents_are
+    ∙ ap (λ n. shown rules (doc rules base journal n) key) (sym number_is) in
+    let rgba_is : pixels.rgba ≡ (shown rules (doc rules base journal number) key).rgba = ap (λ (p : Pixels). p.rgba) shows in
     let new : Document S = document_of file base journal applied after next_view [] next_ticket in
     let outs_are : frames_only {S = S} frames ≡ frames_only (tiles_for rules d number (key ∷ []) d.views) =
     ap frames_only (frames_are ∙ all_frames rules d number key pixels.rgba seats rgba_is h.seated ∙ sym (append-nil (flat_map (step.tile_for rules d number key) (views_of seats)))) in

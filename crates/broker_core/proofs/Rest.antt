@@ -7,7 +7,6 @@ use Rattle.std.specs.Ordering.{is_lt}
 use Rattle.std.proofs.lemmas.Bool.Decides.{nat_tests}
 use Rattle.kit_trait.specs.Rules.{Rules}
 use Rattle.kit_trait.specs.declared.values.Input.{Input}
-use Rattle.kit_trait.specs.declared.values.Pixels.{Pixels}
 use Rattle.tile_key.specs.Places.{Place, key_order, same_place}
 use Rattle.document_machine.specs.Keys.{is_among, ordered, inserted}
 use Rattle.document_machine.specs.Quiet.{is_quiet, is_still}
@@ -17,7 +16,8 @@ use Rattle.view_session.specs.Viewing.{Viewing, is_due, keys, entry_of, is_lacki
 use Rattle.broker_core.specs.Held.{Seat, views_of, IsSeated, Holds}
 use Rattle.broker_core.specs.Serving as serving
 use Rattle.broker_core.proofs.HeardBy.{document_of}
-use Rattle.broker_core.proofs.SeatWords.{same_is, stills_same}
+use Rattle.broker_core.proofs.SeatWords.{stills_same}
+use Rattle.view_session.proofs.OrderFacts.{same_is}
 
 or_true : (b : Bool) → (b || true) ≡ true
 or_true true = refl
@@ -96,9 +96,9 @@ pub none_there : {X : Type 0} (o : Option X) → is_some o ≡ false → option_
 none_there None is = refl
 none_there (Some x) is = absurd (cc)
 
-pub quiet_of : {C B S : Type 0} (rules : Rules C B) (paints : S → Pixels) (IsSound : C → Type 0) (contents : C) (file base : List ℕ) (journal : List Input) (applied : ℕ) (seats : List Seat) (next_view : ℕ) (jobs : List (Job S)) (next_ticket : ℕ) (old : Document S)
-    → Holds rules paints IsSound contents base journal applied seats next_view jobs → document_of file base journal applied seats next_view jobs next_ticket ≡ old → applied ≡ length journal → jobs ≡ []
+pub quiet_of : {C B S : Type 0} (rules : Rules C B) (cut : C → Place → S) (IsSound : C → Type 0) (contents : C) (file base : List ℕ) (journal : List Input) (applied : ℕ) (seats : List Seat) (next_view : ℕ) (jobs : List (Job S)) (next_ticket : ℕ) (old : Document S)
+    → Holds rules cut IsSound contents base journal applied seats next_view jobs → document_of file base journal applied seats next_view jobs next_ticket ≡ old → applied ≡ length journal → jobs ≡ []
     → list_all (λ (seat : Seat). serving.is_still seat.view) seats ≡ is_quiet rules old
-quiet_of {C} {B} {S} rules paints IsSound contents file base journal applied seats next_view jobs next_ticket old h is level none =
+quiet_of {C} {B} {S} rules cut IsSound contents file base journal applied seats next_view jobs next_ticket old h is level none =
     let d : Document S = document_of file base journal applied seats next_view jobs next_ticket in
     quiet_by rules d seats refl h.seated level none ∙ ap (λ (o : Document S). is_quiet rules o) is

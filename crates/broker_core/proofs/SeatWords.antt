@@ -12,26 +12,9 @@ use Rattle.document_machine.specs.Quiet.{is_still}
 use Rattle.document_machine.specs.State.{Document, View}
 use Rattle.view_session.specs.Viewing as viewing
 use Rattle.view_session.specs.Viewing.{Viewing, Entry, entry_of, version_on, with_entry, without_entry}
+use Rattle.view_session.proofs.OrderFacts.{same_is}
 use Rattle.broker_core.specs.Held.{Seat, shown_of, view_of, views_of, IsSeated}
 use Rattle.broker_core.specs.Serving as serving
-
-abbrev place : (part width height posx posy tilewidth tileheight : ℕ) → Place
-place part width height posx posy tilewidth tileheight = record { part = part; width = width; height = height; posx = posx; posy = posy; tilewidth = tilewidth; tileheight = tileheight }
-
-place_by : (a a2 b b2 c c2 d d2 e e2 f f2 g g2 : ℕ) → a ≡ a2 → b ≡ b2 → c ≡ c2 → d ≡ d2 → e ≡ e2 → f ≡ f2 → g ≡ g2 → place a b c d e f g ≡ place a2 b2 c2 d2 e2 f2 g2
-place_by a a2 b b2 c c2 d d2 e e2 f f2 g g2 p q r s t u v = cc
-
--- places that are the same are one
-pub same_is : (p q : Place) → same_place p q ≡ true → p ≡ q
-same_is p q e =
-    let part : p.part ≡ q.part = grind (arith, nat_tests) in
-    let posy : p.posy ≡ q.posy = grind (arith, nat_tests) in
-    let posx : p.posx ≡ q.posx = grind (arith, nat_tests) in
-    let width : p.width ≡ q.width = grind (arith, nat_tests) in
-    let height : p.height ≡ q.height = grind (arith, nat_tests) in
-    let tilewidth : p.tilewidth ≡ q.tilewidth = grind (arith, nat_tests) in
-    let tileheight : p.tileheight ≡ q.tileheight = grind (arith, nat_tests) in
-    place_by p.part q.part p.width q.width p.height q.height p.posx q.posx p.posy q.posy p.tilewidth q.tilewidth p.tileheight q.tileheight part width height posx posy tilewidth tileheight
 
 -- the keys that a seat sees
 pub visible_same : {C B S : Type 0} (rules : Rules C B) (d : Document S) (seat : Seat) → IsSeated rules d.base d.journal d.applied seat → visible rules d (view_of seat) ≡ seat.view.visible

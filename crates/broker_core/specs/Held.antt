@@ -1,14 +1,14 @@
 -- What a broker keeps, and the document that it is.
-use Rattle.std.specs.Prelude.{◌≡◌, ℕ, ◌<◌, ◌≤◌, true, List, length, map}
+use Rattle.std.specs.Prelude.{◌≡◌, ℕ, ◌<◌, ◌≤◌, Bool, true, false, nat_le, List, length, map, Option, None, Some}
 use Rattle.std.specs.List.{AllByRecursion}
-use Rattle.kit_trait.specs.Rules.{Rules, doc, shown}
+use Rattle.kit_trait.specs.Rules.{Rules, doc}
 use Rattle.kit_trait.specs.declared.values.Input.{Input}
-use Rattle.kit_trait.specs.declared.values.Pixels.{Pixels}
-use Rattle.tile_key.specs.Places.{place_of_keys, IsGroup}
+use Rattle.tile_key.specs.Places.{Place, place_of_keys, IsArea, IsGroup}
 use Rattle.tile_key.specs.Visible.{visible_keys}
 use Rattle.document_machine.specs.Due.{parts_of, size_of, touched}
 use Rattle.document_machine.specs.Keys.{Pairwise}
-use Rattle.document_machine.specs.State.{View, Shown, Job}
+use Rattle.document_machine.specs.State.{View, Shown, Job, Document}
+use Rattle.broker_core.specs.declared.TheConstants.{MOST_VIEWS}
 use Rattle.view_session.specs.Keeps.{IsViewing}
 use Rattle.view_session.specs.Viewing.{Viewing, Entry}
 
@@ -49,17 +49,20 @@ pub record IsSeated {C B : Type 0} (rules : Rules C B) (base : List ℕ) (journa
   pub versions : AllByRecursion (λ entry. entry.version ≤ applied) seat.view.screen
   pub marks : AllByRecursion (λ entry. entry.stale ≡ touched rules base journal entry.version entry.key applied) seat.view.screen
 
--- a job that is out: its keys are a group and fill its area, and it shows the document as it is now
-pub record IsOut {C B S : Type 0} (rules : Rules C B) (paints : S → Pixels) (base : List ℕ) (journal : List Input) (applied : ℕ) (job : Job S) : Type 0 where
+-- a job that is out: its keys are a group and fill its area, which lies in one of the document's parts, and
+-- its scene is what the kit cuts for that area of the document as it is now
+pub record IsOut {C B S : Type 0} (rules : Rules C B) (cut : C → Place → S) (base : List ℕ) (journal : List Input) (applied : ℕ) (job : Job S) : Type 0 where
   pub number : job.number ≡ applied
   pub group : IsGroup job.keys
   pub area : job.area ≡ place_of_keys job.keys
-  pub shows : paints job.scene ≡ shown rules (doc rules base journal applied) job.area
+  pub form : IsArea job.area
+  pub part : job.area.part < parts_of rules base
+  pub scene_is : job.scene ≡ cut (doc rules base journal applied) job.area
 
 -- the kit holds the document after the applied inputs, of the accepted ones; parts and sizes are those of the
 -- loaded file; every input names one of the parts; the views, at most 64, are in the order of their ids, which
 -- are below the next one
-pub record Holds {C B S : Type 0} (rules : Rules C B) (paints : S → Pixels) (IsSound : C → Type 0) (contents : C) (base : List ℕ) (journal : List Input) (applied : ℕ) (seats : List Seat) (next_view : ℕ) (jobs : List (Job S)) : Type 0 where
+pub record Holds {C B S : Type 0} (rules : Rules C B) (cut : C → Place → S) (IsSound : C → Type 0) (contents : C) (base : List ℕ) (journal : List Input) (applied : ℕ) (seats : List Seat) (next_view : ℕ) (jobs : List (Job S)) : Type 0 where
   pub accepted : rules.accepts base ≡ true
   pub level : applied ≤ length journal
   pub contents_are : contents ≡ doc rules base journal applied
@@ -72,4 +75,9 @@ pub record Holds {C B S : Type 0} (rules : Rules C B) (paints : S → Pixels) (I
   pub ids : Pairwise (λ a b. a.id < b.id) seats
   pub ids_below : AllByRecursion (λ seat. seat.id < next_view) seats
   pub seated : AllByRecursion (IsSeated rules base journal applied) seats
-  pub out : AllByRecursion (IsOut rules paints base journal applied) jobs
+  pub out : AllByRecursion (IsOut rules cut base journal applied) jobs
+
+-- a broker that isn't spent has as many views as it may have
+abbrev pub is_full : {S : Type 0} → Option (Document S) → Bool
+is_full None = false
+is_full (Some d) = nat_le MOST_VIEWS (length d.views)

@@ -5,7 +5,6 @@ use Rattle.cool_base.specs.declared.ids.ViewId.{ViewId}
 use Rattle.cool_frame.specs.declared.frame.Frame.{Frame}
 use Rattle.cool_frame.specs.declared.frame.Frame.TheVariants.{Tile}
 use Rattle.kit_trait.specs.declared.values.Damage.{Damage}
-use Rattle.kit_trait.specs.declared.values.Pixels.{Pixels}
 use Rattle.kit_trait.specs.Rules.{Rules}
 use Rattle.tile_key.specs.Places.{Place}
 use Rattle.document_machine.specs.Due.{is_newer}
@@ -73,7 +72,7 @@ Ignores scene None = ⊤
 Ignores scene (Some job) = scene ≢ job.scene
 
 -- the turn of a broker that can be spent: only a broker that isn't makes one, and it isn't spent after it
-abbrev pub GoesTo : {C B S : Type 0} → Rules C B → (S → Pixels) → Option (Document S) → Turned S → Option (Document S) → Type 0
-GoesTo rules paints (Some old) turned (Some new) = TurnsTo rules paints old turned new
-GoesTo rules paints (Some old) turned None = ⊥
-GoesTo rules paints None turned new = ⊥
+abbrev pub GoesTo : {C B S : Type 0} → Rules C B → (C → Place → S) → Option (Document S) → Turned S → Option (Document S) → Type 0
+GoesTo rules cut (Some old) turned (Some new) = TurnsTo rules cut old turned new
+GoesTo rules cut (Some old) turned None = ⊥
+GoesTo rules cut None turned new = ⊥

@@ -1,8 +1,9 @@
 //! `Broker`: turns, painted jobs, and what is left to do.
 ghost use Rattle.std.specs.Prelude.{◌≡◌, ◌≢◌, [], length, map, true, false, None, IsSome, IfOk, OnErr};
 ghost use Rattle.std.specs.Option.{ForSome, option_map_or};
-ghost use Rattle.document_machine.specs.Event.{Painted};
+ghost use Rattle.document_machine.specs.Event.{Painted, Turned as TurnMade};
 ghost use Rattle.document_machine.specs.Next.{none_kept, IsFirst};
+ghost use Rattle.document_machine.specs.Outputs.{outs_of};
 ghost use Rattle.document_machine.specs.Quiet.{is_quiet};
 ghost use Rattle.document_machine.specs.State.{find_view};
 ghost use Rattle.document_machine.specs.Step.{Goes};
@@ -12,7 +13,6 @@ use crate::broker::Broker;
 use cool_base::{Memory, ViewId, Wids};
 use document_machine::{Outs, Turned};
 use kit_trait::{Done, Kit};
-use std::alloc::Global;
 
 impl<K: Kit> Broker<K> {
     /// Whether no job is out, as a turn wants it; true where the broker is spent.
@@ -29,16 +29,18 @@ impl<K: Kit> Broker<K> {
     /// One turn: the next input is applied, or else a job is cut for the first key, in order of views and
     /// then of keys, that a view with room is due. Idle exactly where there is nothing to do. No job may be out, as
     /// `is_free` tells. After `Memory` the broker is spent.
-    pub fn turn(&mut self, alloc: Global) -> Result<Turned<K::Scene>, Memory>
+    #[tactic(auto, using(crate::proofs::Steps::turn_goes))]
+    pub fn turn(&mut self) -> Result<Turned<K::Scene>, Memory>
         requires { ForSome self.old (λ d. d.jobs ≡ []) }
-        ensures turn { IfOk result (λ turned. GoesTo K.rules K.Scene.paints self.old turned self.new) }
+        ensures step { IfOk result (λ turned. Goes K.rules K.cut self.old TurnMade (outs_of turned) self.new) }
+        ensures turn { IfOk result (λ turned. GoesTo K.rules K.cut self.old turned self.new) }
         ensures first { IfOk result (λ turned. ForSome self.old (λ d. d.applied ≡ length d.journal → IsFirst K.rules none_kept d turned)) }
         ensures spent { OnErr result (self.new ≡ None) }
     {
         let Some(core) = self.core.take() else {
             return Err(Memory);
         };
-        let (core, turned) = core.turn(alloc)?;
+        let (core, turned) = core.turn()?;
         self.core = Some(core);
         Ok(turned)
     }
@@ -46,18 +48,14 @@ impl<K: Kit> Broker<K> {
     /// A painted job comes back. Where its ticket is out and its scene is the one kept for it, the job goes
     /// and each view, in order of ids, gets the tile if it is due and has room; else nothing changes. After
     /// `Memory` the broker is spent.
-    pub fn painted(
-        &mut self,
-        alloc: Global,
-        done: &Done<K::Scene>,
-    ) -> Result<Outs<K::Scene>, Memory>
-        ensures step { IfOk result (λ outs. Goes K.rules K.Scene.paints self.old (Painted done.now.ticket.0 done.now.scene) outs self.new) }
+    pub fn painted(&mut self, done: &Done<K::Scene>) -> Result<Outs<K::Scene>, Memory>
+        ensures step { IfOk result (λ outs. Goes K.rules K.cut self.old (Painted done.now.ticket.0 done.now.scene) outs self.new) }
         ensures spent { OnErr result (self.new ≡ None) }
     {
         let Some(core) = self.core.take() else {
             return Err(Memory);
         };
-        let (core, outs) = core.painted(alloc, done)?;
+        let (core, outs) = core.painted(done)?;
         self.core = Some(core);
         Ok(outs)
     }

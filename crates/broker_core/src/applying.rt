@@ -64,11 +64,12 @@ impl Seat {
 impl<K: Kit> Core<K> {
     /// The next input is applied. Every view, in order of ids, is told each rectangle that it damaged, and
     /// marks what it has of it.
-    pub(crate) fn apply(self, alloc: Global) -> Result<(Core<K>, Outs<K::Scene>), Memory>
+    pub(crate) fn apply(self) -> Result<(Core<K>, Outs<K::Scene>), Memory>
         requires behind { self.applied < length self.journal }
         requires none_out { self.jobs ≡ [] }
         ensures { IfOk result (λ r. Applies K.rules self r.1 r.0) }
     {
+        let alloc = self.allocator();
         let Core {
             mut kit,
             file,

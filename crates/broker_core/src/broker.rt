@@ -1,14 +1,16 @@
 //! `Broker`: the calls of a document, each a step of the document machine.
-ghost use Rattle.std.specs.Prelude.{◌≡◌, ℕ, ◌<◌, ◌≤◌, length, true, false, None, Some, Err, IsSome, IfOk, OnOk, OnErr};
+ghost use Rattle.std.specs.Prelude.{◌≡◌, ◌↔◌, ◌<◌, length, true, false, None, Some, Err, IsSome, IfOk, OnOk, OnErr};
 ghost use Rattle.std.specs.Option.{ForSome, is_some, option_map_or};
 ghost use Rattle.document_machine.specs.Event.{Joined, Left, Said};
 ghost use Rattle.document_machine.specs.Kept.{IsKept};
 ghost use Rattle.document_machine.specs.Outputs.{nothing};
 ghost use Rattle.document_machine.specs.State.{opening, find_view};
 ghost use Rattle.document_machine.specs.Step.{Goes};
+ghost use Rattle.broker_core.specs.Held.{is_full};
 
-use crate::core_of::{Core, frames_only};
+use crate::core_of::Core;
 use crate::faults::JoinFault;
+use crate::joining::MOST_VIEWS;
 use bytes::Bytes;
 use cool_base::{FileId, Memory, ViewId};
 use document_machine::{Outs, Rights};
@@ -53,25 +55,23 @@ impl<K: Kit> Broker<K> {
     }
 
     /// A view joins, with the next id, and gets its status. ViewsFull exactly where 64 views are there,
-    /// and then nothing changed; after `Memory` the broker is spent.
-    pub fn join(
-        &mut self,
-        alloc: Global,
-        rights: Rights,
-    ) -> Result<(ViewId, Outs<K::Scene>), JoinFault>
-        ensures step { IfOk result (λ r. Goes K.rules K.Scene.paints self.old (Joined rights) r.1 self.new) }
-        ensures view { IfOk result (λ r. ForSome self.old (λ d. (r.0.0 ≡ d.next_view) × (length d.views < 64))) }
-        ensures full { result ≡ Err JoinFault.ViewsFull → ForSome self.old (λ d. 64 ≤ length d.views) × IsSome self.old × (self.new ≡ self.old) }
+    /// which is judged before any memory is taken, and then nothing changed; after `Memory` the broker is
+    /// spent.
+    pub fn join(&mut self, rights: Rights) -> Result<(ViewId, Outs<K::Scene>), JoinFault>
+        ensures step { IfOk result (λ r. Goes K.rules K.cut self.old (Joined rights) r.1 self.new) }
+        ensures view { IfOk result (λ r. ForSome self.old (λ d. (r.0.0 ≡ d.next_view) × (length d.views < MOST_VIEWS))) }
+        ensures full { (result ≡ Err JoinFault.ViewsFull) ↔ (is_full self.old ≡ true) }
+        ensures unchanged { result ≡ Err JoinFault.ViewsFull → self.new ≡ self.old }
         ensures spent { result ≡ Err JoinFault.Memory → self.new ≡ None }
     {
         let Some(core) = self.core.take() else {
             return Err(JoinFault::Memory);
         };
-        if core.views() >= 64 {
+        if core.views() >= MOST_VIEWS {
             self.core = Some(core);
             return Err(JoinFault::ViewsFull);
         }
-        let (core, view, outs) = core.join(alloc, rights)?;
+        let (core, view, outs) = core.join(rights)?;
         self.core = Some(core);
         Ok((view, outs))
     }
@@ -80,7 +80,7 @@ impl<K: Kit> Broker<K> {
     /// changes.
     pub fn leave(&mut self, view: ViewId)
         requires { ForSome self.old (λ d. IsSome (find_view d.views view.0)) }
-        ensures step { ForSome self.old (λ d. Goes K.rules K.Scene.paints self.old (Left view.0) nothing self.new) }
+        ensures step { ForSome self.old (λ d. Goes K.rules K.cut self.old (Left view.0) nothing self.new) }
         ensures spent { self.old ≡ None → self.new ≡ None }
     {
         if let Some(core) = self.core.take() {
@@ -90,22 +90,17 @@ impl<K: Kit> Broker<K> {
 
     /// The view says a text: its one effect, and the frame of a greeting or of a refusal. After `Memory` the
     /// broker is spent.
-    pub fn message(
-        &mut self,
-        alloc: Global,
-        view: ViewId,
-        text: &[u8],
-    ) -> Result<Outs<K::Scene>, Memory>
+    pub fn message(&mut self, view: ViewId, text: &[u8]) -> Result<Outs<K::Scene>, Memory>
         requires { ForSome self.old (λ d. IsSome (find_view d.views view.0)) }
-        ensures step { IfOk result (λ outs. Goes K.rules K.Scene.paints self.old (Said view.0 text.now) outs self.new) }
+        ensures step { IfOk result (λ outs. Goes K.rules K.cut self.old (Said view.0 text.now) outs self.new) }
         ensures spent { OnErr result (self.new ≡ None) }
     {
         let Some(core) = self.core.take() else {
             return Err(Memory);
         };
-        let (core, frames) = core.message(alloc, view.0, text)?;
+        let (core, outs) = core.message(view.0, text)?;
         self.core = Some(core);
-        Ok(frames_only(alloc, frames))
+        Ok(outs)
     }
 
     /// Whether the document has this view; false where the broker is spent.

@@ -71,7 +71,7 @@ impl<K: Kit> Model for Core<K> {
 
     ghost view = { λ c. record { file = c.file; base = c.base; journal = c.journal.items; applied = c.applied; views = views_of c.seats.items; next_view = c.next_view; jobs = option_to_list c.job; next_ticket = c.next_ticket } };
 
-    ghost invariant = { λ c. Holds K.rules K.Scene.paints K.IsSound (K.contents c.kit) c.base c.journal.items c.applied c.seats.items c.next_view (option_to_list c.job) };
+    ghost invariant = { λ c. Holds K.rules K.cut K.IsSound (K.contents c.kit) c.base c.journal.items c.applied c.seats.items c.next_view (option_to_list c.job) };
 }
 
 impl<K: Kit> Core<K> {
@@ -100,6 +100,11 @@ impl<K: Kit> Core<K> {
         ensures { IsKept K.rules self.now }
     {
         let _applied = self.applied;
+    }
+
+    /// What the document takes its memory from.
+    pub(crate) fn allocator(&self) -> Global {
+        *self.journal.allocator()
     }
 
     /// Whether the document has this view.

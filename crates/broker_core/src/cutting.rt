@@ -40,17 +40,14 @@ fn given<S: Scene>(alloc: Global, job: &Job<S>) -> Result<Outs<S>, Memory>
 
 impl<K: Kit> Core<K> {
     /// A job of the next pair's key alone is cut: it shows the document as it is now.
-    pub(crate) fn cut(
-        self,
-        alloc: Global,
-        next: (u32, TileKey),
-    ) -> Result<(Core<K>, Outs<K::Scene>), Memory>
+    pub(crate) fn cut(self, next: (u32, TileKey)) -> Result<(Core<K>, Outs<K::Scene>), Memory>
         requires none_out { self.jobs ≡ [] }
         requires level { self.applied ≡ length self.journal }
         requires next { next_pair K.rules none_kept self ≡ Some next }
-        ensures cut { IfOk result (λ r. Cuts K.rules K.Scene.paints self r.1 r.0) }
+        ensures cut { IfOk result (λ r. Cuts K.rules K.cut self r.1 r.0) }
         ensures first { IfOk result (λ r. map (λ job. job.group) r.1.jobs ≡ (next.1 ∷ []) ∷ []) }
     {
+        let alloc = self.allocator();
         let Core {
             mut kit,
             file,
@@ -64,7 +61,9 @@ impl<K: Kit> Core<K> {
         } = self;
         let key = next.1;
         let next_ticket = next_number(ticket)?;
-        let scene = kit.scene(alloc, &Area::of_key(&key))?;
+        let area = Area::of_key(&key);
+        let _width = area.width();
+        let scene = kit.scene(alloc, &area)?;
         let job = Job {
             ticket,
             number: applied,

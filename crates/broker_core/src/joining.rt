@@ -16,7 +16,7 @@ use std::alloc::Global;
 use view_session::View;
 
 /// The most views of a document.
-const MOST_VIEWS: usize = 64;
+pub const MOST_VIEWS: usize = 64;
 
 /// One frame.
 pub(crate) fn one_frame(alloc: Global, id: u32, frame: Frame) -> Result<Frames, Memory>
@@ -60,15 +60,12 @@ impl<K: Kit> Core<K> {
     }
 
     /// The document gets one more view, with the next id, and the view its status.
-    pub(crate) fn join(
-        self,
-        alloc: Global,
-        rights: Rights,
-    ) -> Result<(Core<K>, ViewId, Outs<K::Scene>), Memory>
+    pub(crate) fn join(self, rights: Rights) -> Result<(Core<K>, ViewId, Outs<K::Scene>), Memory>
         requires { length self.views < 64 }
         ensures step { IfOk result (λ r. Joins K.rules self rights r.2 r.0) }
         ensures view { IfOk result (λ r. r.1.0 ≡ self.next_view) }
     {
+        let alloc = self.allocator();
         let Core {
             kit,
             file,

@@ -21,4 +21,6 @@ mod seats;
 mod turning;
 
 pub use broker::Broker;
+pub use document_machine::{Outs, Rights, Turned};
 pub use faults::JoinFault;
+pub use joining::MOST_VIEWS;

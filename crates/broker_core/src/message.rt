@@ -1,6 +1,6 @@
 //! What a text that a view says does, before it is done.
 ghost use Rattle.std.specs.Prelude.{◌≡◌, ℕ, IfOk, codes};
-ghost use Rattle.asked_keys.specs.Asked.{keys_of};
+ghost use Rattle.cool_message.specs.Asked.{keys_of};
 ghost use Rattle.cool_base.specs.Points.{Extent};
 ghost use Rattle.document_machine.specs.Message.{effect_of, message_effect, asking_effect, zooming_effect, input_effect, key_effect, mouse_effect, Refuses};
 ghost use Rattle.document_machine.specs.State.{View as Viewed};
@@ -8,10 +8,11 @@ ghost use Rattle.broker_core.specs.Held.{view_of};
 ghost use Rattle.broker_core.specs.Verdicts.{verdict};
 
 use crate::seats::Seat;
-use asked_keys::keys_of;
 use cool_base::{ListOf, Memory, Rect, TextOf, ViewId};
 use cool_frame::ErrorKind;
-use cool_message::{ClientMessage, KeyKind, MessageFault, MouseKind, command_of, read_message};
+use cool_message::{
+    ClientMessage, KeyKind, MessageFault, MouseKind, command_of, keys_of, read_message,
+};
 use kit_trait::{Input, What};
 use std::alloc::Global;
 use tile_key::{TileKey, Zoom};
@@ -108,7 +109,8 @@ fn judge_message(
             pixel_h,
             twip_w,
             twip_h,
-        } => zoom(alloc, Zoom::read(pixel_w, pixel_h, twip_w, twip_h)),
+            nviewid,
+        } => zoom(alloc, Zoom::read(pixel_w, pixel_h, twip_w, twip_h, nviewid)),
         ClientMessage::SetPart { part } => Ok(Said::Gone(part)),
         ClientMessage::TileProcessed { wids } => Ok(Said::Acknowledged(wids)),
         ClientMessage::Save {

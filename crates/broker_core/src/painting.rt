@@ -115,25 +115,23 @@ impl<K: Kit> Core<K> {
 
     /// A painted result is taken where its ticket is out and its scene is the one kept for it: the job
     /// goes, and each view, in order of ids, is offered its tile. Another result changes nothing.
-    pub(crate) fn painted(
-        self,
-        alloc: Global,
-        done: &Done<K::Scene>,
-    ) -> Result<(Core<K>, Outs<K::Scene>), Memory>
+    pub(crate) fn painted(self, done: &Done<K::Scene>) -> Result<(Core<K>, Outs<K::Scene>), Memory>
         ensures { IfOk result (λ r. Paints K.rules self done.now.ticket.0 done.now.scene r.1 r.0 (find_job self.jobs done.now.ticket.0)) }
     {
         if !self.awaits(done) {
+            let alloc = self.allocator();
             let outs = frames_only(alloc, ListOf::new(alloc));
             return Ok((self, outs));
         }
-        self.take(alloc, done)
+        self.take(done)
     }
 
     /// The painted result of the job that is out is taken.
-    fn take(self, alloc: Global, done: &Done<K::Scene>) -> Result<(Core<K>, Outs<K::Scene>), Memory>
+    fn take(self, done: &Done<K::Scene>) -> Result<(Core<K>, Outs<K::Scene>), Memory>
         requires { Awaits done.now.scene (find_job self.jobs done.now.ticket.0) }
         ensures { IfOk result (λ r. Paints K.rules self done.now.ticket.0 done.now.scene r.1 r.0 (find_job self.jobs done.now.ticket.0)) }
     {
+        let alloc = self.allocator();
         let Core {
             kit,
             file,

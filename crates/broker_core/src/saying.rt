@@ -1,7 +1,6 @@
 //! A view says a text.
 ghost use Rattle.std.specs.Prelude.{◌≡◌, ◌≢◌, ◌<◌, ℕ, IsSome, IfOk, OnOk, Some, Err, codes};
 ghost use Rattle.document_machine.specs.Message.{Looks, Refuses, frames_of, Zooms, seeing_effect, zooming_effect, going_effect, asking_effect};
-ghost use Rattle.document_machine.specs.Outputs.{frames_only};
 ghost use Rattle.document_machine.specs.State.{find_view};
 ghost use Rattle.document_machine.specs.Step.{Says};
 ghost use Rattle.cool_base.specs.Points.{Extent};
@@ -11,12 +10,13 @@ ghost use Rattle.broker_core.specs.Hearing.{Hears, frames_of_change};
 ghost use Rattle.broker_core.specs.Held.{view_of};
 ghost use Rattle.broker_core.specs.Verdicts.{verdict};
 
-use crate::core_of::{Core, Frames};
+use crate::core_of::{Core, Frames, frames_only};
 use crate::joining::one_frame;
 use crate::message::{Said, judge};
 use crate::seats::{Seat, seat_at};
 use cool_base::{ListOf, Memory, Rect, Size, TextOf, Wid};
 use cool_frame::{ErrorKind, Frame};
+use document_machine::Outs;
 use kit_trait::{Input, Kit};
 use std::alloc::Global;
 use tile_key::{TileKey, Zoom};
@@ -154,15 +154,11 @@ fn obey<K: Kit>(
 
 impl<K: Kit> Core<K> {
     /// The one effect of the text, and its frames.
-    pub(crate) fn message(
-        self,
-        alloc: Global,
-        id: u32,
-        text: &[u8],
-    ) -> Result<(Core<K>, Frames), Memory>
+    pub(crate) fn message(self, id: u32, text: &[u8]) -> Result<(Core<K>, Outs<K::Scene>), Memory>
         requires { IsSome (find_view self.views id) }
-        ensures { IfOk result (λ r. Says K.rules self id text.now (frames_only r.1) r.0) }
+        ensures { IfOk result (λ r. Says K.rules self id text.now r.1 r.0) }
     {
+        let alloc = self.allocator();
         let Core {
             kit,
             file,
@@ -192,6 +188,6 @@ impl<K: Kit> Core<K> {
             job,
             next_ticket,
         };
-        Ok((core, frames))
+        Ok((core, frames_only(alloc, frames)))
     }
 }

@@ -9,7 +9,6 @@ use crate::seats::Seat;
 use cool_base::Memory;
 use document_machine::Turned;
 use kit_trait::Kit;
-use std::alloc::Global;
 use tile_key::TileKey;
 
 impl Seat {
@@ -54,19 +53,19 @@ impl<K: Kit> Core<K> {
     }
 
     /// One turn. Idle exactly where there is nothing to do.
-    pub(crate) fn turn(self, alloc: Global) -> Result<(Core<K>, Turned<K::Scene>), Memory>
+    pub(crate) fn turn(self) -> Result<(Core<K>, Turned<K::Scene>), Memory>
         requires { self.jobs ≡ [] }
-        ensures turn { IfOk result (λ r. TurnsTo K.rules K.Scene.paints self r.1 r.0) }
+        ensures turn { IfOk result (λ r. TurnsTo K.rules K.cut self r.1 r.0) }
         ensures first { IfOk result (λ r. self.applied ≡ length self.journal → IsFirst K.rules none_kept self r.1) }
     {
         if self.is_behind() {
-            let (core, outs) = self.apply(alloc)?;
+            let (core, outs) = self.apply()?;
             return Ok((core, Turned::Worked(outs)));
         }
         match self.next_pair() {
             None => Ok((self, Turned::Idle)),
             Some(next) => {
-                let (core, outs) = self.cut(alloc, next)?;
+                let (core, outs) = self.cut(next)?;
                 Ok((core, Turned::Worked(outs)))
             }
         }

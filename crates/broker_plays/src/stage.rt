@@ -1,112 +1,237 @@
-//! A broker of a blank patch document, driven by lines of text with ample memory, and all that it gives
-//! out, in lines. Tests alone use it.
-use broker_core::{Broker, JoinFault};
+//! `Stage`: a document with its views, as a daemon and its browsers see it, and all that it gave out.
+use crate::client::{Client, Tile, afresh, compared, joined, rect};
+use crate::texts::{at, letters, line_of_frame, line_of_tile, numbers};
+use broker_core::{Broker, JoinFault, Outs, Rights, Turned};
 use bytes::Bytes;
-use cool_base::{FileId, Ticket, Token, ViewId, read_u31};
-use cool_frame::{Frame, write_frame};
-use document_machine::{Outs, Rights, Turned};
-use kit_trait::{Done, Kit, LoadFault, PatchKit, PatchScene, Scene};
+use cool_base::{FileId, Memory, Ticket, Token, ViewId};
+use cool_frame::Frame;
+use kit_trait::{Done, Input, Kit, LoadFault, Scene, What};
 use std::alloc::Global;
-use std::test::Fail;
+use tile_key::{TileKey, Zoom};
 
 /// A job that was cut.
-#[derive(Clone, Copy)]
-struct Held {
+#[derive(Drop)]
+struct Held<S> {
     ticket: u64,
-    scene: PatchScene,
+    scene: S,
 }
 
-/// A broker, the last two jobs that it gave out, and all that it gave out, in lines.
+/// A document with its file, its views and the inputs that it accepts, the last tiles of each view, the last
+/// two jobs that it gave out, and in lines all that it gave out.
 #[derive(Drop)]
-struct Stage {
-    broker: Broker<PatchKit>,
-    last: Option<Held>,
-    before: Option<Held>,
+pub(crate) struct Stage<K: Kit> {
+    broker: Broker<K>,
+    file: Bytes,
+    shades: bool,
+    views: Vec<Client>,
+    inputs: Vec<Input>,
+    tiles: Vec<Tile>,
+    last: Option<Held<K::Scene>>,
+    before: Option<Held<K::Scene>>,
     text: String,
 }
 
-/// A frame in a line: a tile by its width, place, version, number and first shade, another as it is written.
-fn shown(alloc: Global, frame: &Frame) -> Result<String, Fail> {
-    let Frame::Tile {
-        key,
-        ver,
-        wid,
-        pixels,
-    } = frame
-    else {
-        return Ok(String::from_utf8(write_frame(alloc, frame)?)?);
+/// The broker of a document with these bytes; None where they are no file.
+fn started<K: Kit>(alloc: Global, file: &Bytes) -> Result<Option<Broker<K>>, Memory> {
+    let Some(id) = FileId::read("f") else {
+        return Ok(None);
     };
-    let wide = key.width();
-    let x = key.posx();
-    let y = key.posy();
-    let number = wid.0;
-    let shade = pixels.as_slice().first().copied().unwrap_or(0);
-    Ok(format!(in alloc; "{wide} at {x},{y} ver={ver} wid={number} shade={shade}")?)
+    match Broker::start(alloc, &id, file.clone()?) {
+        Ok(broker) => Ok(Some(broker)),
+        Err(LoadFault::BadFile) => Ok(None),
+        Err(LoadFault::Memory) => Err(Memory),
+    }
 }
 
-/// The number that the text is.
-fn number(text: &str) -> Result<u32, Fail> {
-    Ok(read_u31(text.as_bytes()).ok_or("a number")?)
-}
-
-/// The broker of a document with these bytes.
-pub(crate) fn started(alloc: Global, file: &[u8]) -> Result<Broker<PatchKit>, LoadFault> {
-    let id = FileId::read("f").ok_or(LoadFault::Memory)?;
-    let base = Bytes::copy_from_slice(alloc, file)
-        .ok()
-        .ok_or(LoadFault::Memory)?;
-    Broker::start(alloc, &id, base)
-}
-
-impl Stage {
-    fn new(alloc: Global) -> Result<Stage, Fail> {
+impl<K: Kit> Stage<K> {
+    /// The document of this file. Where `shades`, the line of a tile tells its first byte.
+    pub(crate) fn new(alloc: Global, file: &[u8], shades: bool) -> Result<Stage<K>, Memory> {
+        let file = Bytes::copy_from_slice(alloc, file)?;
+        let Some(broker) = started(alloc, &file)? else {
+            return Err(Memory);
+        };
         Ok(Stage {
-            broker: started(alloc, b"")?,
+            broker,
+            file,
+            shades,
+            views: Vec::new(alloc),
+            inputs: Vec::new(alloc),
+            tiles: Vec::new(alloc),
             last: None,
             before: None,
             text: String::new(alloc),
         })
     }
 
-    fn write(&mut self, line: &str) -> Result<(), Fail> {
+    /// All that it gave out.
+    pub(crate) fn text(&self) -> &str {
+        self.broker.kept();
+        self.text.as_str()
+    }
+
+    /// - `file 256 7`: the document is that of so many bytes of this value.
+    /// - `join w` and `join r`: a view joins that may write, or one that may not. `crowd 3`: three that may.
+    /// - `leave 0`, `say 0 text`: a view leaves, or says a text. `ask 9`: view 0 asks for nine tiles in a row.
+    /// - `turn`: one turn. `paint`: the job that was cut last comes back painted. `paint_as 7`: the same under
+    ///   another ticket. `paint_old`: the scene of the job before it comes back with the last one's ticket.
+    /// - `serve 2`: two times `turn` and `paint`.
+    /// - `tell`: the counts of inputs, and whether the document is quiet. `window 0`: the numbers of the tiles
+    ///   that the view has not acknowledged.
+    /// - `hush`: what was given out so far is forgotten.
+    pub(crate) fn act(&mut self, alloc: Global, line: &str) -> Result<(), Memory> {
+        let (word, rest) = line.split_once(' ').unwrap_or((line, ""));
+        let numbers = numbers(alloc, rest)?;
+        let first = at(numbers.as_slice(), 0);
+        match word {
+            "file" => self.loads(alloc, first, at(numbers.as_slice(), 1)),
+            "join" => self.joins(alloc, rest == "w"),
+            "crowd" => self.crowds(alloc, first),
+            "leave" => self.leaves(first),
+            "say" => {
+                let (_view, text) = rest.split_once(' ').unwrap_or((rest, ""));
+                self.says(alloc, first, text)
+            }
+            "ask" => self.asks(alloc, first),
+            "turn" => self.turns(alloc),
+            "paint" => self.paints(alloc),
+            "paint_as" => self.paints_as(alloc, first),
+            "paint_old" => self.paints_old(alloc),
+            "serve" => self.serves(alloc, first),
+            "tell" => self.tells(alloc),
+            "window" => self.window(alloc, first),
+            "hush" => {
+                self.text.clear();
+                Ok(())
+            }
+            _ => self.act_round(alloc, word, numbers.as_slice()),
+        }
+    }
+
+    /// - `zoom 0 8 240`, `zoom 0 8 8 240 240 1`: a view takes tiles of so many pixels and twips, in this look.
+    ///   `part 0 1`: it goes to a part. `look 0 0 0 240 720`: it looks at an area.
+    /// - `click 0 10 10`: a view clicks a point. `type 0 55`: it types a character.
+    /// - `rounds`: turns are made up to Idle, and each job comes back painted at once. `compare`: all windows
+    ///   are acknowledged, and each tile that a view sees is compared with the document made afresh.
+    /// - `show 0 0 240`: the colours of the tile that a view was last sent at a place.
+    fn act_round(&mut self, alloc: Global, word: &str, numbers: &[u32]) -> Result<(), Memory> {
+        let view = at(numbers, 0);
+        let (a, b, c, d) = (
+            at(numbers, 1),
+            at(numbers, 2),
+            at(numbers, 3),
+            at(numbers, 4),
+        );
+        match word {
+            "zoom" => self.zooms(alloc, view, (a, b), (c, d), at(numbers, 5)),
+            "part" => self.goes(alloc, view, a),
+            "look" => self.looks(alloc, view, (a, b), (c, d)),
+            "click" => self.clicks(alloc, view, a, b),
+            "type" => self.types(alloc, view, a),
+            "rounds" => self.rounds(alloc),
+            "compare" => self.compares(alloc),
+            "show" => self.shows(alloc, view, a, b),
+            _ => self.write("no such act"),
+        }
+    }
+
+    fn write(&mut self, line: &str) -> Result<(), Memory> {
         self.text.push_str(line)?;
         self.text.push('\n')?;
         Ok(())
     }
 
-    /// The frames, each with its view before it.
-    fn show(&mut self, alloc: Global, outs: &Outs<PatchScene>) -> Result<(), Fail> {
+    fn loads(&mut self, alloc: Global, count: u32, value: u32) -> Result<(), Memory> {
+        let mut file = Vec::new(alloc);
+        for _ in 0..count {
+            file.push(value as u8)?;
+        }
+        let file = Bytes::copy_from_slice(alloc, file.as_slice())?;
+        let Some(broker) = started(alloc, &file)? else {
+            return self.write("bad file");
+        };
+        self.broker = broker;
+        self.file = file;
+        self.write("loaded")
+    }
+
+    /// The frames, each with its view before it. Tiles are kept.
+    fn show(&mut self, alloc: Global, outs: &Outs<K::Scene>) -> Result<(), Memory> {
         for (view, frame) in outs.frames.get() {
-            let id = view.0;
-            let line = shown(alloc, frame)?;
-            let line = format!(in alloc; "{id}: {line}")?;
-            self.write(line.as_str())?;
+            let to = view.0;
+            match frame {
+                Frame::Tile {
+                    key,
+                    ver,
+                    wid,
+                    pixels,
+                } => {
+                    self.keep(to, key, pixels)?;
+                    let line = line_of_tile(alloc, to, key, *ver, wid.0)?;
+                    self.write_tile(alloc, line.as_str(), pixels.as_slice())?;
+                }
+                _ => {
+                    let line = line_of_frame(alloc, to, frame)?;
+                    self.write(line.as_str())?;
+                }
+            }
         }
         Ok(())
     }
 
+    fn write_tile(&mut self, alloc: Global, line: &str, pixels: &[u8]) -> Result<(), Memory> {
+        if !self.shades {
+            return self.write(line);
+        }
+        let shade = pixels.first().copied().unwrap_or(0);
+        let line = format!(in alloc; "{line} shade={shade}")?;
+        self.write(line.as_str())
+    }
+
+    /// The view's picture of the key is this one from now on.
+    fn keep(&mut self, view: u32, key: &TileKey, pixels: &Bytes) -> Result<(), Memory> {
+        let pixels = pixels.clone()?;
+        for tile in self.tiles.iter_mut() {
+            if tile.view == view && tile.key.is_same(key) {
+                tile.pixels = pixels;
+                return Ok(());
+            }
+        }
+        self.tiles.push(Tile {
+            view,
+            key: *key,
+            pixels,
+        })?;
+        Ok(())
+    }
+
     /// The jobs, of which the last two are kept.
-    fn hold(&mut self, alloc: Global, outs: &Outs<PatchScene>) -> Result<(), Fail> {
-        for job in outs.jobs.get() {
+    fn hold(&mut self, alloc: Global, outs: Outs<K::Scene>) -> Result<(), Memory> {
+        for job in outs.jobs.into_inner() {
             let ticket = job.ticket.0;
             let number = job.number;
             let count = job.group.keys().len();
             let line = format!(in alloc; "job {ticket} of {count} key, number={number}")?;
             self.write(line.as_str())?;
-            self.before = self.last;
-            self.last = Some(Held {
-                ticket,
-                scene: job.scene,
-            });
+            self.keep_job(ticket, job.scene);
         }
         Ok(())
     }
 
-    fn joins(&mut self, alloc: Global, can_write: bool) -> Result<(), Fail> {
-        let token = Token::read(alloc, "t")?.ok_or("a token")?;
-        match self.broker.join(alloc, Rights { can_write, token }) {
+    fn keep_job(&mut self, ticket: u64, scene: K::Scene) {
+        self.before = self.last.take();
+        self.last = Some(Held { ticket, scene });
+    }
+
+    fn joins(&mut self, alloc: Global, can_write: bool) -> Result<(), Memory> {
+        let Some(token) = Token::read(alloc, "t")? else {
+            return Err(Memory);
+        };
+        match self.broker.join(Rights { can_write, token }) {
             Ok((view, outs)) => {
                 let id = view.0;
+                if let Some(client) = joined(id, can_write) {
+                    self.views.push(client)?;
+                }
                 let line = format!(in alloc; "view {id}")?;
                 self.write(line.as_str())?;
                 self.show(alloc, &outs)
@@ -116,31 +241,34 @@ impl Stage {
         }
     }
 
-    fn crowds(&mut self, alloc: Global, count: u32) -> Result<(), Fail> {
+    fn crowds(&mut self, alloc: Global, count: u32) -> Result<(), Memory> {
         for _ in 0..count {
             self.joins(alloc, true)?;
         }
         Ok(())
     }
 
-    fn leaves(&mut self, view: u32) -> Result<(), Fail> {
+    /// The view leaves, with all that it was sent.
+    fn leaves(&mut self, view: u32) -> Result<(), Memory> {
         if !self.broker.is_live(ViewId(view)) {
             return self.write("no view");
         }
         self.broker.leave(ViewId(view));
+        self.views.retain(|client| client.id != view);
+        self.tiles.retain(|tile| tile.view != view);
         Ok(())
     }
 
-    fn says(&mut self, alloc: Global, view: u32, text: &str) -> Result<(), Fail> {
+    fn says(&mut self, alloc: Global, view: u32, text: &str) -> Result<(), Memory> {
         if !self.broker.is_live(ViewId(view)) {
             return self.write("no view");
         }
-        let outs = self.broker.message(alloc, ViewId(view), text.as_bytes())?;
+        let outs = self.broker.message(ViewId(view), text.as_bytes())?;
         self.show(alloc, &outs)
     }
 
     /// View 0 asks for so many tiles of 15 by 15 twips, one after the other, in a row.
-    fn asks(&mut self, alloc: Global, count: u32) -> Result<(), Fail> {
+    fn asks(&mut self, alloc: Global, count: u32) -> Result<(), Memory> {
         for n in 0..count {
             let x = u64::from(n) * 15;
             let text = format!(in alloc;
@@ -151,56 +279,66 @@ impl Stage {
         Ok(())
     }
 
-    fn turns(&mut self, alloc: Global) -> Result<(), Fail> {
+    fn turns(&mut self, alloc: Global) -> Result<(), Memory> {
         if !self.broker.is_free() {
             return self.write("a job is out");
         }
-        match self.broker.turn(alloc)? {
+        match self.broker.turn()? {
             Turned::Idle => self.write("idle"),
             Turned::Worked(outs) => {
                 self.show(alloc, &outs)?;
-                self.hold(alloc, &outs)
+                self.hold(alloc, outs)
             }
         }
     }
 
-    /// Brings back the last job, under this ticket, with this scene.
-    fn paints(&mut self, alloc: Global, ticket: u64, scene: PatchScene) -> Result<(), Fail> {
+    /// Brings this scene back painted, under this ticket.
+    fn gives(&mut self, alloc: Global, ticket: u64, scene: K::Scene) -> Result<(), Memory> {
         let pixels = scene.paint(alloc)?;
         let done = Done {
             ticket: Ticket(ticket),
             scene,
             pixels,
         };
-        let outs = self.broker.painted(alloc, &done)?;
+        let outs = self.broker.painted(&done)?;
         self.show(alloc, &outs)
     }
 
-    fn paints_last(&mut self, alloc: Global) -> Result<(), Fail> {
-        let last = self.last.ok_or("a job")?;
-        self.paints(alloc, last.ticket, last.scene)
+    fn paints(&mut self, alloc: Global) -> Result<(), Memory> {
+        let Some(held) = &self.last else {
+            return self.write("no job");
+        };
+        let ticket = held.ticket;
+        let scene = held.scene.copy(alloc)?;
+        self.gives(alloc, ticket, scene)
     }
 
-    fn paints_as(&mut self, alloc: Global, ticket: u32) -> Result<(), Fail> {
-        let last = self.last.ok_or("a job")?;
-        self.paints(alloc, u64::from(ticket), last.scene)
+    fn paints_as(&mut self, alloc: Global, ticket: u32) -> Result<(), Memory> {
+        let Some(held) = &self.last else {
+            return self.write("no job");
+        };
+        let scene = held.scene.copy(alloc)?;
+        self.gives(alloc, u64::from(ticket), scene)
     }
 
-    fn paints_old(&mut self, alloc: Global) -> Result<(), Fail> {
-        let last = self.last.ok_or("a job")?;
-        let before = self.before.ok_or("a job before")?;
-        self.paints(alloc, last.ticket, before.scene)
+    fn paints_old(&mut self, alloc: Global) -> Result<(), Memory> {
+        let (Some(last), Some(before)) = (&self.last, &self.before) else {
+            return self.write("no job");
+        };
+        let ticket = last.ticket;
+        let scene = before.scene.copy(alloc)?;
+        self.gives(alloc, ticket, scene)
     }
 
-    fn serves(&mut self, alloc: Global, times: u32) -> Result<(), Fail> {
+    fn serves(&mut self, alloc: Global, times: u32) -> Result<(), Memory> {
         for _ in 0..times {
             self.turns(alloc)?;
-            self.paints_last(alloc)?;
+            self.paints(alloc)?;
         }
         Ok(())
     }
 
-    fn tells(&mut self, alloc: Global) -> Result<(), Fail> {
+    fn tells(&mut self, alloc: Global) -> Result<(), Memory> {
         let applied = self.broker.applied();
         let accepted = self.broker.accepted();
         let quiet = self.broker.is_quiet();
@@ -208,7 +346,7 @@ impl Stage {
         self.write(line.as_str())
     }
 
-    fn window(&mut self, alloc: Global, view: u32) -> Result<(), Fail> {
+    fn window(&mut self, alloc: Global, view: u32) -> Result<(), Memory> {
         if !self.broker.is_live(ViewId(view)) {
             return self.write("no view");
         }
@@ -221,55 +359,175 @@ impl Stage {
         self.write("open")
     }
 
-    /// Does what a line says.
-    fn act(&mut self, alloc: Global, line: &str) -> Result<(), Fail> {
-        let (word, rest) = line.split_once(' ').unwrap_or((line, ""));
-        match word {
-            "join" => self.joins(alloc, rest == "w"),
-            "crowd" => self.crowds(alloc, number(rest)?),
-            "leave" => self.leaves(number(rest)?),
-            "say" => {
-                let (view, text) = rest.split_once(' ').ok_or("a text")?;
-                self.says(alloc, number(view)?, text)
+    fn zooms(
+        &mut self,
+        alloc: Global,
+        view: u32,
+        pixels: (u32, u32),
+        twips: (u32, u32),
+        nviewid: u32,
+    ) -> Result<(), Memory> {
+        let Some(zoom) = Zoom::read(pixels.0, pixels.1, twips.0, twips.1, nviewid) else {
+            return self.write("no such zoom");
+        };
+        for client in self.views.iter_mut() {
+            if client.id == view {
+                client.zoom = zoom;
             }
-            "ask" => self.asks(alloc, number(rest)?),
-            "turn" => self.turns(alloc),
-            "paint" => self.paints_last(alloc),
-            "paint_as" => self.paints_as(alloc, number(rest)?),
-            "paint_old" => self.paints_old(alloc),
-            "serve" => self.serves(alloc, number(rest)?),
-            "tell" => self.tells(alloc),
-            "window" => self.window(alloc, number(rest)?),
-            "hush" => {
-                self.text.clear();
-                Ok(())
-            }
-            _ => self.write("no such act"),
         }
+        let (w, h) = pixels;
+        let (across, down) = twips;
+        let text = format!(in alloc;
+            "clientzoom tilepixelwidth={w} tilepixelheight={h} tiletwipwidth={across} tiletwipheight={down} nviewid={nviewid}"
+        )?;
+        self.says(alloc, view, text.as_str())
     }
-}
 
-/// All that a blank document gives out while these lines are done.
-///
-/// - `join w` and `join r`: a view joins that may write, or one that may not. `crowd 3`: three that may.
-/// - `leave 0`, `say 0 text`: a view leaves, or says a text. `ask 9`: view 0 asks for nine tiles in a row.
-/// - `turn`: one turn. `paint`: the job that was cut last comes back painted. `paint_as 7`: the same under
-///   another ticket. `paint_old`: the scene of the job before it comes back with the last one's ticket.
-/// - `serve 2`: two times `turn` and `paint`.
-/// - `tell`: the counts of inputs, and whether the document is quiet. `window 0`: the numbers of the tiles
-///   that the view has not acknowledged.
-/// - `hush`: what was given out so far is forgotten.
-pub(crate) fn played(alloc: Global, lines: &str) -> Result<String, Fail> {
-    let mut stage = Stage::new(alloc)?;
-    for line in lines.lines() {
-        stage.act(alloc, line)?;
+    /// The view goes to a part, and forgets all that it was sent.
+    fn goes(&mut self, alloc: Global, view: u32, part: u32) -> Result<(), Memory> {
+        for client in self.views.iter_mut() {
+            if client.id == view {
+                client.part = part;
+            }
+        }
+        self.tiles.retain(|tile| tile.view != view);
+        let text = format!(in alloc; "setclientpart part={part}")?;
+        self.says(alloc, view, text.as_str())
     }
-    stage.broker.kept();
-    let Stage {
-        broker: _,
-        last: _,
-        before: _,
-        text,
-    } = stage;
-    Ok(text)
+
+    fn looks(
+        &mut self,
+        alloc: Global,
+        view: u32,
+        corner: (u32, u32),
+        size: (u32, u32),
+    ) -> Result<(), Memory> {
+        let (x, y) = corner;
+        let (w, h) = size;
+        let Some(area) = rect(x, y, w, h) else {
+            return self.write("no such area");
+        };
+        for client in self.views.iter_mut() {
+            if client.id == view {
+                client.area = area;
+            }
+        }
+        let text = format!(in alloc; "clientvisiblearea x={x} y={y} width={w} height={h}")?;
+        self.says(alloc, view, text.as_str())
+    }
+
+    /// The input is an accepted one where its view may write.
+    fn enters(&mut self, view: u32, what: What) -> Result<(), Memory> {
+        for client in &self.views {
+            if client.id == view && client.can_write {
+                self.inputs.push(Input {
+                    view: ViewId(view),
+                    part: client.part,
+                    what,
+                })?;
+            }
+        }
+        Ok(())
+    }
+
+    fn clicks(&mut self, alloc: Global, view: u32, x: u32, y: u32) -> Result<(), Memory> {
+        self.enters(
+            view,
+            What::Mouse {
+                x,
+                y,
+                count: 1,
+                buttons: 1,
+                modifier: 0,
+            },
+        )?;
+        let text = format!(in alloc; "mouse type=buttondown x={x} y={y}")?;
+        self.says(alloc, view, text.as_str())
+    }
+
+    fn types(&mut self, alloc: Global, view: u32, chr: u32) -> Result<(), Memory> {
+        self.enters(view, What::Key { chr, code: 0 })?;
+        let text = format!(in alloc; "key type=input char={chr} key=0")?;
+        self.says(alloc, view, text.as_str())
+    }
+
+    /// One turn, with each job painted and answered at once: whether it did a work.
+    fn round(&mut self, alloc: Global) -> Result<bool, Memory> {
+        if !self.broker.is_free() {
+            return Ok(false);
+        }
+        let Turned::Worked(outs) = self.broker.turn()? else {
+            return Ok(false);
+        };
+        self.show(alloc, &outs)?;
+        for job in outs.jobs.into_inner() {
+            self.gives(alloc, job.ticket.0, job.scene)?;
+        }
+        Ok(true)
+    }
+
+    /// Turns up to Idle.
+    fn rounds(&mut self, alloc: Global) -> Result<(), Memory> {
+        for _turn in 0..100 {
+            if !self.round(alloc)? {
+                return self.write("idle");
+            }
+        }
+        self.write("turns do not end")
+    }
+
+    /// Each view acknowledges all that it was sent.
+    fn acknowledges(&mut self, alloc: Global, view: u32) -> Result<(), Memory> {
+        if !self.broker.is_live(ViewId(view)) {
+            return Ok(());
+        }
+        let wids = self.broker.unprocessed(ViewId(view));
+        if wids.is_empty() {
+            return Ok(());
+        }
+        let mut text = String::from_str(alloc, "tileprocessed wids=")?;
+        for wid in wids.as_slice() {
+            let number = wid.0;
+            text.push_str(format!(in alloc; "{number},")?.as_str())?;
+        }
+        let _comma = text.pop();
+        self.says(alloc, view, text.as_str())
+    }
+
+    /// A line with whether the document is quiet once all windows are acknowledged, and how many of the tiles
+    /// that the views see are what the document of the accepted inputs shows there.
+    fn compares(&mut self, alloc: Global) -> Result<(), Memory> {
+        for i in 0..self.views.len() {
+            let view = match self.views.get(i) {
+                Some(client) => client.id,
+                None => break,
+            };
+            self.acknowledges(alloc, view)?;
+        }
+        self.tells(alloc)?;
+        let made = afresh(alloc, self.file.as_slice(), self.inputs.as_slice())?;
+        let Some(mut kit): Option<K> = made else {
+            return self.write("no such document");
+        };
+        let (mut count, mut all) = (0usize, 0usize);
+        for client in &self.views {
+            let (keys, right) = compared(alloc, &mut kit, client, self.tiles.as_slice())?;
+            all = all.wrapping_add(keys);
+            count = count.wrapping_add(right);
+        }
+        let line = format!(in alloc; "{count} of {all} tiles are right")?;
+        self.write(line.as_str())
+    }
+
+    fn shows(&mut self, alloc: Global, view: u32, x: u32, y: u32) -> Result<(), Memory> {
+        for tile in &self.tiles {
+            if tile.view == view && tile.key.posx() == x && tile.key.posy() == y {
+                let letters = letters(alloc, tile.pixels.as_slice())?;
+                self.text.push_str(letters.as_str())?;
+                self.text.push('\n')?;
+                return Ok(());
+            }
+        }
+        self.write("no such tile")
+    }
 }

@@ -15,8 +15,6 @@ mod ids;
 mod lists;
 mod numbers;
 mod points;
-#[cfg(test)]
-mod tests;
 mod tokens;
 mod want;
 

@@ -1,5 +1,5 @@
 //! `Token`.
-ghost use Rattle.std.specs.Prelude.{◌≡◌, IsTrue, IfOk, string_bytes, ◌&&◌, nat_le, length};
+ghost use Rattle.std.specs.Prelude.{◌≡◌, ◌↔◌, Ok, None, IsTrue, IfOk, string_bytes, ◌&&◌, nat_le, length};
 ghost use Rattle.std.specs.List.{list_all};
 ghost use Rattle.cool_base.specs.Words.{token, is_token, is_token_byte};
 
@@ -28,9 +28,10 @@ impl Model for Token {
 }
 
 impl Token {
-    /// The token that the text is; None exactly where it is none.
+    /// The token that the text is; `Ok(None)` exactly where it is none, judged before memory is taken.
     pub fn read(alloc: Global, text: &str) -> Result<Option<Token>, Memory>
-        ensures { IfOk result (λ read. read ≡ token text.now) }
+        ensures read { IfOk result (λ read. read ≡ token text.now) }
+        ensures none { (result ≡ Ok None) ↔ (token text.now ≡ None) }
     {
         if !is_token(text) {
             return Ok(None);

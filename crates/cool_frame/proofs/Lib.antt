@@ -1,4 +1,3 @@
-pub mod Letters
 pub mod LineAgain
 pub mod Places
 pub mod ReadLaws

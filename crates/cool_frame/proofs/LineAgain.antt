@@ -14,8 +14,9 @@ use Rattle.cool_frame.specs.declared.kind.ErrorKind.{ErrorKind}
 use Rattle.cool_frame.specs.declared.kind.ErrorKind.TheVariants.{BadMessage, NotLoaded, AlreadyLoaded, BadUrl, LoadFailed, DocsFull, BookFull, MailFull, DocGone, BadFile, ViewsFull, ReadOnly, InputsFull, SavesFull, BadTile, TooLarge, AskedFull, SaveFailed}
 use Rattle.cool_frame.specs.Frames.{kit_text, kind_text, digit_of, word_of, frame_bytes, status_document, status_view, invalidate_place, invalidate_size, saved_bytes, error_head, error_code}
 use Rattle.cool_frame.specs.Likely.{number_in, status_in, invalidation_in, saved_in, refusal_in, kind_of, code_in, is_coded, is_mark, kit_in, small, large, is_other}
-use Rattle.cool_frame.specs.Reading.{IsCode, is_letter, is_command}
-use Rattle.cool_frame.proofs.Letters.{command_letters}
+use Rattle.cool_words.specs.Words.{is_letter, is_command}
+use Rattle.cool_frame.specs.Reading.{IsCode}
+use Rattle.cool_words.proofs.Letters.{command_letters}
 use Rattle.cool_frame.proofs.Scans.{number_again, word_again}
 
 -- a status, word for word

@@ -10,7 +10,7 @@ use Rattle.std.specs.List.{list_all, prefix_len, position_or_len, after_first}
 use Rattle.std.specs.Str.Parse.{digits_value}
 use Rattle.cool_base.proofs.NumberLemmas.{number-decimal}
 use Rattle.cool_frame.specs.Likely.{number_in, from_digit, is_other, is_equals, is_mark, word_in, behind_word}
-use Rattle.cool_frame.specs.Reading.{is_letter}
+use Rattle.cool_words.specs.Words.{is_letter}
 
 -- a scan passes over a list that passes
 passes : (q : ℕ → Bool) (xs ys : List ℕ) → list_all q xs ≡ true → prefix_len q (xs ++ ys) ≡ length xs + prefix_len q ys

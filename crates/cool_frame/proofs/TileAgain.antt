@@ -1,11 +1,12 @@
 -- The line of a tile is read as what it names.
-use Rattle.std.proofs.Common.{◌≡◌, ℕ, ◌<◌, ◌^◌, ◌%◌, true, List, ◌++◌, codes, Some, refl, arith, append_assoc, le-leb, eq-eqb}
+use Rattle.std.proofs.Common.{◌≡◌, ℕ, zero, suc, ◌<◌, ◌≤◌, ◌^◌, ◌%◌, true, false, List, ◌∷◌, ◌++◌, take, codes, Some, refl, arith, append_assoc, le-leb, eq-eqb}
 use Rattle.std.specs.Fmt.{decimal}
 use Rattle.std.specs.List.{position_or_len}
+use Rattle.std.specs.Str.{bytes_eq}
 use Rattle.cool_base.specs.declared.ids.Wid.{Wid}
 use Rattle.tile_key.specs.Places.{Place, IsKey, is_key, key_at}
-use Rattle.cool_frame.specs.Frames.{tile_pixels, tile_twips, tile_numbers, tile_line}
-use Rattle.cool_frame.specs.Likely.{place_in, tile_in, is_other, small, large}
+use Rattle.cool_frame.specs.Frames.{tile_pixels, tile_twips, look_text, tile_numbers, tile_line}
+use Rattle.cool_frame.specs.Likely.{look_in, place_in, tile_in, is_other, small, large}
 use Rattle.cool_frame.specs.Reading.{IsTileLine}
 use Rattle.cool_frame.proofs.Scans.{number_again}
 
@@ -18,15 +19,30 @@ place_text key tail =
 
 -- a tile, word for word
 abbrev tile_text : Place → ℕ → Wid → List ℕ → List ℕ
-tile_text key ver wid pixels = place_text key (codes " ver=" ++ (decimal ver ++ (codes " wid=" ++ (decimal wid.0 ++ (codes "\n" ++ pixels)))))
+tile_text key ver wid pixels = place_text key (look_text key.nviewid ++ (codes " ver=" ++ (decimal ver ++ (codes " wid=" ++ (decimal wid.0 ++ (codes "\n" ++ pixels))))))
 
 pub tile_bytes : (key : Place) (ver : ℕ) (wid : Wid) (pixels : List ℕ) → tile_line key ver wid ++ pixels ≡ tile_text key ver wid pixels
 unfolding tile_line tile_pixels tile_twips tile_numbers
 tile_bytes key ver wid pixels = simp append_assoc
 
-place_again : (key : Place) (tail : List ℕ) → IsKey key → key.part < 2 ^ 32 → position_or_len is_other tail ≡ 0 → place_in (place_text key tail) ≡ Some (key, tail)
+-- the word of a look is found again, where what follows doesn't begin with it
+look_again : (n : ℕ) (rest : List ℕ) → n ≤ 1 → bytes_eq (take 10 rest) (codes " nviewid=1") ≡ false → look_in (look_text n ++ rest) ≡ (n, rest)
+unfolding look_in look_text
+look_again zero rest few other = rw other refl
+look_again (suc zero) rest few other = refl
+look_again (suc (suc n)) rest few other = absurd (omega (arith, few))
+
+-- a blank stands behind the sizes, with the word of a look and without it
+look_stops : (n : ℕ) (rest : List ℕ) → n ≤ 1 → position_or_len is_other (look_text n ++ (32 ∷ rest)) ≡ 0
+unfolding look_text
+look_stops zero rest few = refl
+look_stops (suc zero) rest few = refl
+look_stops (suc (suc n)) rest few = absurd (omega (arith, few))
+
+place_again : (key : Place) (tail rest : List ℕ) → IsKey key → key.part < 2 ^ 32 → position_or_len is_other tail ≡ 0 → look_in tail ≡ (key.nviewid, rest)
+    → place_in (place_text key tail) ≡ Some (key, rest)
 unfolding place_in
-place_again key tail is part stop =
+place_again key tail rest is part stop look =
     let t6 : List ℕ = codes " tileheight=" ++ (decimal key.tileheight ++ tail) in
     let t5 : List ℕ = codes " tilewidth=" ++ (decimal key.tilewidth ++ t6) in
     let t4 : List ℕ = codes " tileposy=" ++ (decimal key.posy ++ t5) in
@@ -40,7 +56,7 @@ place_again key tail is part stop =
     let e4 = number_again small key.posy (codes " tileposy=") t5 refl refl (omega (arith, is.posy_high)) (omega (arith, is.posy_high)) in
     let e5 = number_again small key.tilewidth (codes " tilewidth=") t6 refl refl (omega (arith, is.tilewidth_high)) (omega (arith, is.tilewidth_high)) in
     let e6 = number_again small key.tileheight (codes " tileheight=") tail refl stop (omega (arith, is.tileheight_high)) (omega (arith, is.tileheight_high)) in
-    rw (e0, e1, e2, e3, e4, e5, e6) refl
+    rw (e0, e1, e2, e3, e4, e5, e6, look) refl
 
 key_passes : (key : Place) → IsKey key → is_key key ≡ true
 key_passes key is =
@@ -57,6 +73,7 @@ key_passes key is =
       le-leb key.tileheight 61440 is.tileheight_high,
       le-leb key.posy 2147483647 is.posy_high,
       eq-eqb (key.posy % key.tileheight) 0 is.posy_multiple,
+      le-leb key.nviewid 1 is.nviewid_high,
     ) refl
 
 key_again : (key : Place) → IsKey key → key_at key ≡ Some key
@@ -69,7 +86,8 @@ tile_again key ver wid pixels line =
     let t1 : List ℕ = codes " ver=" ++ (decimal ver ++ t2) in
     let version : ver < 2 ^ 64 = line.version in
     let number : wid.0 < 2 ^ 64 = line.number in
-    let e1 = place_again key t1 line.form line.part refl in
+    let t0 : List ℕ = look_text key.nviewid ++ t1 in
+    let e1 = place_again key t0 t1 line.form line.part (look_stops key.nviewid _ line.form.nviewid_high) (look_again key.nviewid t1 line.form.nviewid_high refl) in
     let e2 = number_again large ver (codes " ver=") t2 refl refl version (omega arith) in
     let e3 = number_again large wid.0 (codes " wid=") (codes "\n" ++ pixels) refl refl number (omega arith) in
     rw (e1, key_again key line.form, e2, e3) refl

@@ -1,5 +1,5 @@
 -- The bytes of each frame.
-use Rattle.std.specs.Prelude.{ℕ, List, [], ◌++◌, Bool, true, false, Option, Some, None, codes}
+use Rattle.std.specs.Prelude.{ℕ, List, [], ◌++◌, Bool, true, false, nat_eq, Option, Some, None, codes, if◌then◌else◌}
 use Rattle.std.specs.Fmt.{decimal}
 use Rattle.cool_base.specs.Points.{Rectangle, Extent}
 use Rattle.cool_base.specs.declared.ids.ViewId.{ViewId}
@@ -96,13 +96,17 @@ tile_twips key =
     codes " tileposx=" ++ (decimal key.posx ++ (codes " tileposy=" ++ (decimal key.posy
     ++ (codes " tilewidth=" ++ (decimal key.tilewidth ++ (codes " tileheight=" ++ decimal key.tileheight))))))
 
+-- the word of a look, which stands where it is 1
+unfoldable pub look_text : ℕ → List ℕ
+look_text n = if nat_eq n 1 then codes " nviewid=1" else []
+
 -- the last words: the version and the number, and the newline
 unfoldable pub tile_numbers : ℕ → Wid → List ℕ
 tile_numbers ver wid = codes " ver=" ++ (decimal ver ++ (codes " wid=" ++ (decimal wid.0 ++ codes "\n")))
 
 -- the line of a tile with its newline
 unfoldable pub tile_line : Place → ℕ → Wid → List ℕ
-tile_line key ver wid = (tile_pixels key ++ tile_twips key) ++ tile_numbers ver wid
+tile_line key ver wid = ((tile_pixels key ++ tile_twips key) ++ look_text key.nviewid) ++ tile_numbers ver wid
 
 -- the bytes of a frame
 unfoldable pub frame_bytes : Frame → List ℕ

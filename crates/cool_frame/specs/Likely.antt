@@ -17,7 +17,8 @@ use Rattle.cool_frame.specs.declared.fault.FrameFault.TheVariants.{WrongLength, 
 use Rattle.cool_frame.specs.declared.kind.ErrorKind.{ErrorKind}
 use Rattle.cool_frame.specs.declared.kind.ErrorKind.TheVariants.{BadMessage, NotLoaded, AlreadyLoaded, BadUrl, LoadFailed, DocsFull, BookFull, MailFull, DocGone, BadFile, ViewsFull, ReadOnly, InputsFull, SavesFull, BadTile, TooLarge, AskedFull, SaveFailed}
 use Rattle.cool_frame.specs.Frames.{kind_text, frame_bytes, tile_line}
-use Rattle.cool_frame.specs.Reading.{is_command, is_letter, has_code, picture_length}
+use Rattle.cool_words.specs.Words.{is_command, is_letter}
+use Rattle.cool_frame.specs.Reading.{has_code, picture_length}
 
 infixl 10 ◌>>=◌
 abbrev pub ◌>>=◌ : {A B : Type 0} → Option A → (A → Option B) → Option B
@@ -133,7 +134,11 @@ abbrev pub taken : List ℕ → Option Frame → Result Frame FrameFault
 taken bytes None = Err NotAFrame
 taken bytes (Some frame) = if bytes_eq (frame_bytes frame) bytes then Ok frame else Err NotAFrame
 
--- what the line of a tile could name: its key, version and number
+-- the look that the line of a tile names behind the sizes, and what stands behind it
+unfoldable pub look_in : List ℕ → ℕ × List ℕ
+look_in text = if bytes_eq (take 10 text) (codes " nviewid=1") then (1, drop 10 text) else (0, text)
+
+-- the place that the line of a tile could name, and what stands behind it
 unfoldable pub place_in : List ℕ → Option (Place × List ℕ)
 place_in text = do
   part ← number_in small text
@@ -143,8 +148,21 @@ place_in text = do
   posy ← number_in small posx.1
   tilewidth ← number_in small posy.1
   tileheight ← number_in small tilewidth.1
-  Some (record { part = part.0; width = width.0; height = height.0; posx = posx.0; posy = posy.0; tilewidth = tilewidth.0; tileheight = tileheight.0 }, tileheight.1)
+  Some (
+    record {
+      part = part.0;
+      width = width.0;
+      height = height.0;
+      posx = posx.0;
+      posy = posy.0;
+      tilewidth = tilewidth.0;
+      tileheight = tileheight.0;
+      nviewid = (look_in tileheight.1).0;
+    },
+    (look_in tileheight.1).1,
+  )
 
+-- what the line of a tile could name: its key, version and number
 unfoldable pub tile_in : List ℕ → Option (Place × ℕ × Wid)
 tile_in text = do
   place ← place_in text

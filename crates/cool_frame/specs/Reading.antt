@@ -1,7 +1,7 @@
 -- What frames there are, and what bytes are one.
-use Rattle.std.specs.Prelude.{◌≡◌, ◌≢◌, ℕ, ◌+◌, ◌*◌, ◌^◌, ◌<◌, Bool, true, false, ◌&&◌, nat_le, List, ◌++◌, length, IsTrue, Option, None, Some, Result, Ok, Err}
-use Rattle.std.specs.List.{list_all}
+use Rattle.std.specs.Prelude.{◌≡◌, ◌≢◌, ℕ, ◌+◌, ◌*◌, ◌^◌, ◌<◌, Bool, true, false, List, ◌++◌, length, IsTrue, Option, None, Some, Result, Ok, Err}
 use Rattle.cool_base.specs.declared.ids.Wid.{Wid}
+use Rattle.cool_words.specs.Words.{is_command}
 use Rattle.tile_key.specs.Places.{Place, IsKey}
 use Rattle.tile_key.specs.Visible.{IsPart}
 use Rattle.cool_frame.specs.declared.frame.Frame.{Frame}
@@ -11,14 +11,6 @@ use Rattle.cool_frame.specs.declared.kind.ErrorKind.TheVariants.{LoadFailed, Sav
 use Rattle.cool_frame.specs.declared.fault.FrameFault.{FrameFault}
 use Rattle.cool_frame.specs.declared.fault.FrameFault.TheVariants.{WrongLength, NotAFrame, Memory}
 use Rattle.cool_frame.specs.Frames.{frame_bytes, tile_line}
-
--- a letter a to z
-abbrev pub is_letter : ℕ → Bool
-is_letter byte = nat_le 97 byte && nat_le byte 122
-
--- a command: 1 to 32 letters a to z
-abbrev pub is_command : List ℕ → Bool
-is_command word = nat_le 1 (length word) && nat_le (length word) 32 && list_all is_letter word
 
 -- the kinds of error that have a code
 abbrev pub has_code : ErrorKind → Bool

@@ -21,6 +21,3 @@ pub use frame::Frame;
 pub use kind::ErrorKind;
 pub use read::{frames_are_told_apart, read_frame};
 pub use write::write_frame;
-
-#[cfg(test)]
-mod tests;

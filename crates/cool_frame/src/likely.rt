@@ -4,14 +4,16 @@ ghost use Rattle.std.specs.List.{find};
 ghost use Rattle.std.specs.Option.{option_map};
 ghost use Rattle.std.specs.Str.{bytes_eq};
 ghost use Rattle.cool_frame.specs.Frames.{kind_text};
-ghost use Rattle.cool_frame.specs.Likely.{likely, status_in, invalidation_in, invalidation_of, saved_in, refusal_in, refusal_of, kind_of, kit_in, is_coded, code_in, place_in, tile_in};
+ghost use Rattle.cool_frame.specs.Likely.{likely, status_in, invalidation_in, invalidation_of, saved_in, refusal_in, refusal_of, kind_of, kit_in, is_coded, code_in, look_in, place_in, tile_in};
 ghost use Rattle.cool_frame.specs.Reading.{IsFrame, has_code};
+ghost use Rattle.tile_key.specs.Places.{look_of};
 ghost use Rattle.tile_key.specs.Words.{place_of};
 
 use crate::frame::Frame;
 use crate::kind::ErrorKind;
-use crate::scan::{command_text, is_command, large_in, number_in, side_in, small_in, word_in};
+use crate::scan::{large_in, number_in, side_in, small_in, word_in};
 use cool_base::{Memory, Rect, Size, TextOf, ViewId, Wid};
+use cool_words::{command_text, is_command};
 use kit_trait::KitName;
 use std::alloc::Global;
 use tile_key::{TileKey, TileWords, key_of};
@@ -215,6 +217,7 @@ fn words_in(text: &[u8]) -> Option<(TileWords, &[u8])>
     let (tileposy, rest) = small_in(rest)?;
     let (tilewidth, rest) = small_in(rest)?;
     let (tileheight, rest) = small_in(rest)?;
+    let (nviewid, rest) = look_in(rest);
     let words = TileWords {
         part,
         width,
@@ -223,6 +226,19 @@ fn words_in(text: &[u8]) -> Option<(TileWords, &[u8])>
         tileposy,
         tilewidth,
         tileheight,
+        nviewid,
     };
     Some((words, rest))
+}
+
+// The look that the line of a tile names behind the sizes, and what stands behind it.
+#[tactic(auto, unfolding(crate::specs::Likely::look_in))]
+fn look_in(text: &[u8]) -> (u32, &[u8])
+    ensures look { look_of result.0 ≡ (look_in text.now).0 }
+    ensures behind { result.1.now ≡ (look_in text.now).1 }
+{
+    match text.strip_prefix(b" nviewid=1".as_slice()) {
+        Some(rest) => (1, rest),
+        None => (0, text),
+    }
 }

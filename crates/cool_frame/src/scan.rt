@@ -1,12 +1,12 @@
 //! The numbers and words of a line, one after the other.
-ghost use Rattle.std.specs.Prelude.{◌≡◌, ◌≤◌, ◌^◌, ◌<◌, ℕ, IfSome, not, length, drop, true};
+ghost use Rattle.std.specs.Prelude.{◌≡◌, ◌≤◌, ◌^◌, ◌<◌, ℕ, IfSome, not, length, drop};
 ghost use Rattle.std.specs.Char.{is_ascii_digit};
-ghost use Rattle.std.specs.List.{position, position_or_len, before_first, after_first, list_all};
+ghost use Rattle.std.specs.List.{position, position_or_len, before_first, after_first};
 ghost use Rattle.std.specs.Option.{option_map};
 ghost use Rattle.cool_frame.specs.Likely.{number_in, from_digit, is_other, is_equals, is_mark, word_in, behind_word, small, large};
-ghost use Rattle.cool_frame.specs.Reading.{is_letter, is_command};
 
 use cool_base::read_number;
+use cool_words::is_letter;
 
 /// The first number in the text, which is below 2^32, and what stands behind it; None where there is
 /// none.
@@ -118,34 +118,4 @@ fn first_mark(text: &[u8]) -> Option<usize>
     ensures { result ≡ position is_mark text.now }
 {
     text.iter().position(|byte| !is_letter(*byte))
-}
-
-/// Whether the word is 1 to 32 letters a to z.
-pub fn is_command(word: &[u8]) -> bool
-    ensures { result ≡ is_command word.now }
-{
-    1 <= word.len() && word.len() <= 32 && are_letters(word)
-}
-
-fn are_letters(word: &[u8]) -> bool
-    ensures { result ≡ list_all is_letter word.now }
-{
-    word.iter().all(|byte| is_letter(*byte))
-}
-
-fn is_letter(byte: u8) -> bool
-    ensures { result ≡ is_letter byte }
-{
-    b'a' <= byte && byte <= b'z'
-}
-
-/// The command as a text.
-pub fn command_text(word: &[u8]) -> &str
-    requires { is_command word.now ≡ true }
-    ensures { result.now ≡ word.now }
-{
-    match std::str::from_utf8(word) {
-        Ok(text) => text,
-        Err(_) => "unknown",
-    }
 }

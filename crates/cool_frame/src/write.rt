@@ -1,6 +1,6 @@
 //! The bytes of a frame.
 ghost use Rattle.std.specs.Prelude.{◌≡◌, ◌++◌, IfOk, OnOk, string_bytes};
-ghost use Rattle.cool_frame.specs.Frames.{frame_bytes, server_bytes, status_document, status_view, invalidate_place, invalidate_size, saved_bytes, error_head, error_code, tile_pixels, tile_twips, tile_numbers, tile_line, kit_text, digit_of, word_of};
+ghost use Rattle.cool_frame.specs.Frames.{frame_bytes, server_bytes, status_document, status_view, invalidate_place, invalidate_size, saved_bytes, error_head, error_code, tile_pixels, tile_twips, look_text, tile_numbers, tile_line, kit_text, digit_of, word_of};
 
 use crate::frame::Frame;
 use crate::kind::ErrorKind;
@@ -167,6 +167,7 @@ pub fn line_of(alloc: Global, key: &TileKey, ver: u64, wid: Wid) -> Result<Strin
 {
     let mut text = pixels_of(alloc, key)?;
     text.push_str(twips_of(alloc, key)?.as_str())?;
+    text.push_str(look_text(key.nviewid()))?;
     text.push_str(numbers_of(alloc, ver, wid)?.as_str())?;
     Ok(text)
 }
@@ -194,6 +195,13 @@ fn twips_of(alloc: Global, key: &TileKey) -> Result<String, Memory>
         " tileposx={x} tileposy={y} tilewidth={width} tileheight={height}"
     )?;
     Ok(text)
+}
+
+#[tactic(auto, unfolding(crate::specs::Frames::look_text))]
+fn look_text(nviewid: u32) -> &'static str
+    ensures { result.now ≡ look_text nviewid }
+{
+    if nviewid == 1 { " nviewid=1" } else { "" }
 }
 
 #[tactic(auto, unfolding(crate::specs::Frames::tile_numbers))]

@@ -1,3 +1,5 @@
+pub mod AskedPlaces
+pub mod Early
 pub mod Places
 pub mod Letters
 pub mod Readings

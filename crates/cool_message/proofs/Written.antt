@@ -34,12 +34,12 @@ pub combined : (t : CombineWords) (start shape across down all : List ℕ) → s
     → shape ≡ start ++ flat_map number_word ((word.Part, t.part) ∷ (word.Width, t.width) ∷ (word.Height, t.height) ∷ [])
     → across ≡ shape ++ word_text word.TilePosX (list_text t.tileposx)
     → down ≡ across ++ word_text word.TilePosY (list_text t.tileposy)
-    → all ≡ down ++ flat_map number_word ((word.TileWidth, t.tilewidth) ∷ (word.TileHeight, t.tileheight) ∷ [])
+    → all ≡ down ++ flat_map number_word ((word.TileWidth, t.tilewidth) ∷ (word.TileHeight, t.tileheight) ∷ (word.NViewId, t.nviewid) ∷ [])
     → all ≡ written (message.TileCombine t)
 unfolding numbers_before
 combined t start shape across down all a b c d e =
     let front : List (Word × ℕ) = (word.Part, t.part) ∷ (word.Width, t.width) ∷ (word.Height, t.height) ∷ [] in
-    let size : List ℕ = flat_map number_word ((word.TileWidth, t.tilewidth) ∷ (word.TileHeight, t.tileheight) ∷ []) in
+    let size : List ℕ = flat_map number_word ((word.TileWidth, t.tilewidth) ∷ (word.TileHeight, t.tileheight) ∷ (word.NViewId, t.nviewid) ∷ []) in
     let xs : List ℕ = list_text t.tileposx in
     let ys : List ℕ = list_text t.tileposy in
     rw (e, d, c, b, a)

@@ -3,3 +3,4 @@ pub mod Names
 pub mod Table
 pub mod Reading
 pub mod Writing
+pub mod Asked

@@ -2,10 +2,10 @@
 use Rattle.std.specs.Prelude.{ℕ, Bool, ◌&&◌, ◌||◌, not, ◌==◌, nat_lt, nat_le, List, [], ◌∷◌, length, Option, Some, None, is_some, is_none, unwrap_or, map, Result, Ok, Err, codes, if◌then◌else◌}
 use Rattle.std.specs.Borrow.{Bor}
 use Rattle.std.specs.Option.{option_map, option_or}
-use Rattle.std.specs.Result.{result_ok}
 use Rattle.std.specs.List.{list_all, find}
 use Rattle.std.specs.Str.{bytes_eq, is_utf8}
 use Rattle.cool_base.specs.Numbers.{number_31, number_64}
+use Rattle.tile_key.specs.Places.{look_of}
 use Rattle.cool_words.specs.Words.{words, is_blank, first_value, count_named}
 use Rattle.cool_words.specs.Lists.{parts, is_list, number_in, numbers}
 use Rattle.cool_message.specs.declared.fault.MessageFault.{MessageFault}
@@ -23,6 +23,7 @@ use Rattle.cool_message.specs.declared.table.Command.TheVariants as command
 use Rattle.cool_message.specs.declared.table.Field.{Field}
 use Rattle.cool_message.specs.declared.table.Kind.{Kind}
 use Rattle.cool_message.specs.declared.table.Kind.TheVariants as kind
+use Rattle.cool_message.specs.declared.limits.TheConstants.{MESSAGE_LIMIT, URL_LIMIT}
 use Rattle.cool_message.specs.Names.{name_of, command_named}
 use Rattle.cool_message.specs.Table.{fields_of, default_of}
 
@@ -39,11 +40,12 @@ text_of list name = unwrap_or (standing list name) []
 
 -- whether a text is a value of the kind, among these words
 abbrev pub fits : List (List ℕ) → Kind → List ℕ → Bool
-fits list kind.Address text = nat_le 1 (length text) && nat_le (length text) 8192
+fits list kind.Address text = nat_le 1 (length text) && nat_le (length text) URL_LIMIT
 fits list kind.KeyType text = bytes_eq text (codes "input") || bytes_eq text (codes "up")
 fits list kind.MouseType text =
     bytes_eq text (codes "buttondown") || bytes_eq text (codes "buttonup") || bytes_eq text (codes "move")
 fits list kind.Number text = is_some (number_31 text)
+fits list kind.Look text = is_some (number_31 text)
 fits list kind.Numbers text = is_list number_31 text
 fits list kind.AsManyNumbers text =
     is_list number_31 text && length (parts text) == length (parts (text_of list word.TilePosX))
@@ -71,6 +73,10 @@ fault_of fields list =
 
 abbrev pub number_at : List ℕ → ℕ
 number_at text = number_in number_31 text
+
+-- the look that a text names
+abbrev pub look_at : List ℕ → ℕ
+look_at text = look_of (number_at text)
 
 abbrev pub key_kind : List ℕ → KeyKind
 key_kind text = if bytes_eq text (codes "up") then key.Up else key.Input
@@ -100,6 +106,7 @@ message_from command.Tile text = message.Tile (record {
   tileposy = number_at (text word.TilePosY);
   tilewidth = number_at (text word.TileWidth);
   tileheight = number_at (text word.TileHeight);
+  nviewid = look_at (text word.NViewId);
 })
 message_from command.TileCombine text = message.TileCombine (record {
   part = number_at (text word.Part);
@@ -109,6 +116,7 @@ message_from command.TileCombine text = message.TileCombine (record {
   tileposy = numbers number_31 (text word.TilePosY);
   tilewidth = number_at (text word.TileWidth);
   tileheight = number_at (text word.TileHeight);
+  nviewid = look_at (text word.NViewId);
 })
 message_from command.CancelTiles text = message.CancelTiles
 message_from command.VisibleArea text = message.VisibleArea (record {
@@ -119,7 +127,7 @@ message_from command.VisibleArea text = message.VisibleArea (record {
 })
 message_from command.Zoom text =
     message.Zoom (number_at (text word.TilePixelWidth)) (number_at (text word.TilePixelHeight))
-    (number_at (text word.TileTwipWidth)) (number_at (text word.TileTwipHeight))
+    (number_at (text word.TileTwipWidth)) (number_at (text word.TileTwipHeight)) (look_at (text word.NViewId))
 message_from command.SetPart text = message.SetPart (number_at (text word.Part))
 message_from command.TileProcessed text = message.TileProcessed (numbers number_64 (text word.Wids))
 message_from command.Save text = message.Save (flag (text word.KeepEdit)) (flag (text word.SkipUnmodified))
@@ -148,9 +156,5 @@ said (first ∷ others) =
 unfoldable pub reading : List ℕ → Result ClientMessage MessageFault
 reading text =
     if list_all is_blank text then Err Empty
-    else (if nat_lt 65536 (length text) then Err TooLong
+    else (if nat_lt MESSAGE_LIMIT (length text) then Err TooLong
     else (if not (is_utf8 text) then Err NotUtf8 else said (words text)))
-
--- the message that the text says, if it says one
-abbrev pub message_of : List ℕ → Option ClientMessage
-message_of text = result_ok (reading text)

@@ -22,7 +22,8 @@ abbrev pub tile_fields : Kind → Kind → List Field
 tile_fields across down =
     field word.Part kind.Number ∷ field word.Width kind.Number ∷ field word.Height kind.Number
     ∷ field word.TilePosX across ∷ field word.TilePosY down
-    ∷ field word.TileWidth kind.Number ∷ field word.TileHeight kind.Number ∷ []
+    ∷ field word.TileWidth kind.Number ∷ field word.TileHeight kind.Number
+    ∷ field word.NViewId kind.Look ∷ []
 
 -- the words of a command
 abbrev pub fields_of : Command → List Field
@@ -37,7 +38,9 @@ fields_of command.TileCombine = tile_fields kind.Numbers kind.AsManyNumbers
 fields_of command.CancelTiles = []
 fields_of command.VisibleArea = numbers_in (word.X ∷ word.Y ∷ word.Width ∷ word.Height ∷ [])
 fields_of command.Zoom =
-    numbers_in (word.TilePixelWidth ∷ word.TilePixelHeight ∷ word.TileTwipWidth ∷ word.TileTwipHeight ∷ [])
+    field word.TilePixelWidth kind.Number ∷ field word.TilePixelHeight kind.Number
+    ∷ field word.TileTwipWidth kind.Number ∷ field word.TileTwipHeight kind.Number
+    ∷ field word.NViewId kind.Look ∷ []
 fields_of command.SetPart = numbers_in (word.Part ∷ [])
 fields_of command.TileProcessed = field word.Wids kind.LongNumbers ∷ []
 fields_of command.Save = field word.KeepEdit kind.Flag ∷ field word.SkipUnmodified kind.Flag ∷ []
@@ -47,6 +50,7 @@ abbrev pub default_of : Word → Option (List ℕ)
 default_of word.Count = Some (codes "1")
 default_of word.Buttons = Some (codes "1")
 default_of word.Modifier = Some (codes "0")
+default_of word.NViewId = Some (codes "0")
 default_of word.KeepEdit = Some (codes "0")
 default_of word.SkipUnmodified = Some (codes "0")
 default_of name = None

@@ -49,14 +49,15 @@ written (message.Key kind chr code) = line command.Key (key_text kind ∷ map de
 written (message.Mouse kind x y count buttons modifier) =
     line command.Mouse (mouse_text kind ∷ map decimal (x ∷ y ∷ count ∷ buttons ∷ modifier ∷ []))
 written (message.Tile t) =
-    line command.Tile (map decimal (t.part ∷ t.width ∷ t.height ∷ t.tileposx ∷ t.tileposy ∷ t.tilewidth ∷ t.tileheight ∷ []))
+    line command.Tile (map decimal (t.part ∷ t.width ∷ t.height ∷ t.tileposx ∷ t.tileposy
+    ∷ t.tilewidth ∷ t.tileheight ∷ t.nviewid ∷ []))
 written (message.TileCombine t) =
     line command.TileCombine (decimal t.part ∷ decimal t.width ∷ decimal t.height ∷ list_text t.tileposx
-    ∷ list_text t.tileposy ∷ decimal t.tilewidth ∷ decimal t.tileheight ∷ [])
+    ∷ list_text t.tileposy ∷ decimal t.tilewidth ∷ decimal t.tileheight ∷ decimal t.nviewid ∷ [])
 written message.CancelTiles = line command.CancelTiles []
 written (message.VisibleArea r) = line command.VisibleArea (map decimal (r.x ∷ r.y ∷ r.w ∷ r.h ∷ []))
-written (message.Zoom pixel_w pixel_h twip_w twip_h) =
-    line command.Zoom (map decimal (pixel_w ∷ pixel_h ∷ twip_w ∷ twip_h ∷ []))
+written (message.Zoom pixel_w pixel_h twip_w twip_h nviewid) =
+    line command.Zoom (map decimal (pixel_w ∷ pixel_h ∷ twip_w ∷ twip_h ∷ nviewid ∷ []))
 written (message.SetPart part) = line command.SetPart (decimal part ∷ [])
 written (message.TileProcessed wids) = line command.TileProcessed (list_text wids ∷ [])
 written (message.Save keep_edit skip_unmodified) =

@@ -1,11 +1,12 @@
 //! The command that an error frame names.
-ghost use Rattle.std.specs.Prelude.{◌≡◌, ◌≤◌, not, true, length};
-ghost use Rattle.std.specs.List.{position, position_or_len, list_all};
+ghost use Rattle.std.specs.Prelude.{◌≡◌, ◌≤◌, not, length};
+ghost use Rattle.std.specs.List.{position, position_or_len};
 ghost use Rattle.std.specs.Str.{is_utf8};
-ghost use Rattle.cool_message.specs.Command.{command_name, first_word, is_command, is_readable, is_blank, is_letter};
+ghost use Rattle.cool_words.specs.Words.{is_blank};
+ghost use Rattle.cool_message.specs.Command.{command_name, first_word, is_readable};
 
-/// The longest text of a message, in bytes.
-pub const MAX_LEN: usize = 65_536;
+use crate::limits::MESSAGE_LIMIT;
+use cool_words::{command_text, is_command};
 
 /// The command that an error frame names for a refused message: the message's first word, or
 /// `unknown` where the text is longer than 65,536 bytes or not UTF-8, or where that word isn't 1 to
@@ -16,20 +17,9 @@ pub fn command_of(text: &[u8]) -> &str
 {
     let word = first_word(text);
     if is_readable(text) && is_command(word) {
-        letters(word)
+        command_text(word)
     } else {
         "unknown"
-    }
-}
-
-/// The letters as a text.
-fn letters(word: &[u8]) -> &str
-    requires { is_command word.now ≡ true }
-    ensures { result.now ≡ word.now }
-{
-    match std::str::from_utf8(word) {
-        Ok(text) => text,
-        Err(_) => "unknown",
     }
 }
 
@@ -60,7 +50,7 @@ fn word_len(text: &[u8]) -> usize
 }
 
 /// Where the first blank stands.
-pub fn blank_at(text: &[u8]) -> Option<usize>
+fn blank_at(text: &[u8]) -> Option<usize>
     ensures { result ≡ position is_blank text.now }
 {
     text.iter().position(|byte| *byte == b' ')
@@ -73,32 +63,12 @@ fn other_at(text: &[u8]) -> Option<usize>
     text.iter().position(|byte| *byte != b' ')
 }
 
-/// Whether the word is 1 to 32 letters a to z.
-#[tactic(auto, unfolding(crate::specs::Command::is_command))]
-fn is_command(word: &[u8]) -> bool
-    ensures { result ≡ is_command word.now }
-{
-    1 <= word.len() && word.len() <= 32 && is_lettered(word)
-}
-
-fn is_lettered(word: &[u8]) -> bool
-    ensures { result ≡ list_all is_letter word.now }
-{
-    word.iter().all(|byte| is_letter(*byte))
-}
-
-fn is_letter(byte: u8) -> bool
-    ensures { result ≡ is_letter byte }
-{
-    b'a' <= byte && byte <= b'z'
-}
-
 /// Whether the text is at most 65,536 bytes of UTF-8.
 #[tactic(auto, unfolding(crate::specs::Command::is_readable))]
 fn is_readable(text: &[u8]) -> bool
     ensures { result ≡ is_readable text.now }
 {
-    text.len() <= MAX_LEN && is_utf8(text)
+    text.len() <= MESSAGE_LIMIT && is_utf8(text)
 }
 
 fn is_utf8(text: &[u8]) -> bool

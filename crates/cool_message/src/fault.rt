@@ -7,7 +7,7 @@ use std::fmt;
 use thiserror::Error;
 
 /// Why a text is no message: the first of these that applies, in this order. `Memory` may come in
-/// place of any answer.
+/// place of any answer but the first three.
 #[derive(Clone, Copy, Debug, PartialEq, Eq, Error)]
 pub enum MessageFault {
     #[error("no word")]
@@ -59,6 +59,7 @@ pub enum Word {
     TilePixelHeight,
     TileTwipWidth,
     TileTwipHeight,
+    NViewId,
     Wids,
     KeepEdit,
     SkipUnmodified,
@@ -92,6 +93,7 @@ impl Word {
             Word::TilePixelHeight => "tilepixelheight",
             Word::TileTwipWidth => "tiletwipwidth",
             Word::TileTwipHeight => "tiletwipheight",
+            Word::NViewId => "nviewid",
             Word::Wids => "wids",
             Word::KeepEdit => "dontTerminateEdit",
             Word::SkipUnmodified => "dontSaveIfUnmodified",

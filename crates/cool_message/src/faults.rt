@@ -5,6 +5,7 @@ ghost use Rattle.std.specs.Option.{option_copied};
 ghost use Rattle.cool_message.specs.Reading.{texts, standing, text_of, fits, is_missing, is_bad, is_repeated, fault_of};
 
 use crate::fault::{MessageFault, Word};
+use crate::limits::URL_LIMIT;
 use crate::table::{Field, Kind, default_of};
 use cool_base::read_u31;
 use cool_words::{count_named, count_parts, first_value, is_list_31, is_list_64};
@@ -94,10 +95,10 @@ fn fits(words: &[&str], kind: Kind, text: &str) -> bool
     ensures { result ≡ fits (texts words.now) kind text.now }
 {
     match kind {
-        Kind::Address => 1 <= text.len() && text.len() <= 8192,
+        Kind::Address => 1 <= text.len() && text.len() <= URL_LIMIT,
         Kind::KeyType => text == "input" || text == "up",
         Kind::MouseType => text == "buttondown" || text == "buttonup" || text == "move",
-        Kind::Number => read_u31(text.as_bytes()).is_some(),
+        Kind::Number | Kind::Look => read_u31(text.as_bytes()).is_some(),
         Kind::Numbers => is_list_31(text),
         Kind::AsManyNumbers => {
             is_list_31(text) && count_parts(text) == count_parts(text_of(words, Word::TilePosX))

@@ -1,7 +1,8 @@
 use cool_base::{ListOf, Rect, TextOf};
 use tile_key::TileWords;
 
-/// A message of a client, as the protocol's page lists them.
+/// A message of a client, as the protocol's page lists them. In what is read a look, `nviewid`, is 0
+/// or 1.
 #[derive(Debug, Drop)]
 pub enum ClientMessage {
     /// The client greets.
@@ -33,12 +34,13 @@ pub enum ClientMessage {
     CancelTiles,
     /// The part of the document that the client sees, in twips.
     VisibleArea(Rect),
-    /// The pixels and the twips of one tile.
+    /// The pixels, the twips and the look of one tile.
     Zoom {
         pixel_w: u32,
         pixel_h: u32,
         twip_w: u32,
         twip_h: u32,
+        nviewid: u32,
     },
     /// The part of the document that the client works on.
     SetPart {
@@ -82,4 +84,5 @@ pub struct CombineWords {
     pub tileposy: ListOf<u32>,
     pub tilewidth: u32,
     pub tileheight: u32,
+    pub nviewid: u32,
 }

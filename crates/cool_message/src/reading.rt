@@ -1,31 +1,34 @@
 //! A text read as a message.
-ghost use Rattle.std.specs.Prelude.{◌≡◌, ◌≢◌, IfOk, IfErr, Ok, Err};
+ghost use Rattle.std.specs.Prelude.{◌≡◌, ◌≢◌, ◌↔◌, IfOk, IfErr, Ok, Err};
 ghost use Rattle.std.specs.List.{list_all};
 ghost use Rattle.cool_words.specs.Words.{is_blank, words};
 ghost use Rattle.cool_message.specs.Reading.{reading, said, tabled, uno, with_command, fault_of, texts};
 ghost use Rattle.cool_message.specs.Table.{fields_of};
 ghost use Rattle.cool_message.specs.declared.fault.MessageFault.TheVariants.{Memory};
 
-use crate::command::MAX_LEN;
 use crate::fault::{MessageFault, Word};
 use crate::faults::fault_of;
+use crate::limits::MESSAGE_LIMIT;
 use crate::message::ClientMessage;
 use crate::table::Command;
 use crate::values::message_from;
 use cool_words::words;
 use std::alloc::Global;
 
-/// The message that the text says, or the first fault: in time linear in the text's length. `Memory`
-/// may come in place of any answer.
+/// The message that the text says, or the first fault: in time linear in the text's length. The first
+/// three faults are judged before any memory is taken; `Memory` may come in place of any other answer.
 #[tactic(auto, unfolding(crate::specs::Reading::reading))]
 pub fn read_message(alloc: Global, text: &[u8]) -> Result<ClientMessage, MessageFault>
     ensures ok { IfOk result (λ message. reading text.now ≡ Ok message) }
     ensures refused { IfErr result (λ fault. fault ≢ Memory → reading text.now ≡ Err fault) }
+    ensures empty { (result ≡ Err MessageFault.Empty) ↔ (reading text.now ≡ Err MessageFault.Empty) }
+    ensures too_long { (result ≡ Err MessageFault.TooLong) ↔ (reading text.now ≡ Err MessageFault.TooLong) }
+    ensures not_utf8 { (result ≡ Err MessageFault.NotUtf8) ↔ (reading text.now ≡ Err MessageFault.NotUtf8) }
 {
     if is_blank_text(text) {
         return Err(MessageFault::Empty);
     }
-    if text.len() > MAX_LEN {
+    if text.len() > MESSAGE_LIMIT {
         return Err(MessageFault::TooLong);
     }
     let Ok(text) = std::str::from_utf8(text) else {

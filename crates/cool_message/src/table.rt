@@ -34,6 +34,8 @@ pub enum Kind {
     MouseType,
     /// A number of at most 2,147,483,647.
     Number,
+    /// Such a number, which names a look: 1 means 1, every other number counts as 0.
+    Look,
     /// 1 to 1,024 such numbers.
     Numbers,
     /// As many such numbers as `tileposx` has.
@@ -113,7 +115,7 @@ static MOUSE: [Field; 6] = [
     },
 ];
 
-static TILE: [Field; 7] = [
+static TILE: [Field; 8] = [
     Field {
         word: Word::Part,
         kind: Kind::Number,
@@ -142,9 +144,13 @@ static TILE: [Field; 7] = [
         word: Word::TileHeight,
         kind: Kind::Number,
     },
+    Field {
+        word: Word::NViewId,
+        kind: Kind::Look,
+    },
 ];
 
-static TILE_COMBINE: [Field; 7] = [
+static TILE_COMBINE: [Field; 8] = [
     Field {
         word: Word::Part,
         kind: Kind::Number,
@@ -173,6 +179,10 @@ static TILE_COMBINE: [Field; 7] = [
         word: Word::TileHeight,
         kind: Kind::Number,
     },
+    Field {
+        word: Word::NViewId,
+        kind: Kind::Look,
+    },
 ];
 
 static VISIBLE_AREA: [Field; 4] = [
@@ -194,7 +204,7 @@ static VISIBLE_AREA: [Field; 4] = [
     },
 ];
 
-static ZOOM: [Field; 4] = [
+static ZOOM: [Field; 5] = [
     Field {
         word: Word::TilePixelWidth,
         kind: Kind::Number,
@@ -210,6 +220,10 @@ static ZOOM: [Field; 4] = [
     Field {
         word: Word::TileTwipHeight,
         kind: Kind::Number,
+    },
+    Field {
+        word: Word::NViewId,
+        kind: Kind::Look,
     },
 ];
 
@@ -291,7 +305,7 @@ pub fn default_of(word: Word) -> Option<&'static str>
 {
     match word {
         Word::Count | Word::Buttons => Some("1"),
-        Word::Modifier | Word::KeepEdit | Word::SkipUnmodified => Some("0"),
+        Word::Modifier | Word::NViewId | Word::KeepEdit | Word::SkipUnmodified => Some("0"),
         _ => None,
     }
 }

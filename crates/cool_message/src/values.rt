@@ -2,7 +2,7 @@
 ghost use Rattle.std.specs.Prelude.{◌≡◌, ◌<◌, ◌^◌, IfOk};
 ghost use Rattle.cool_base.specs.Numbers.{number_31, number_64};
 ghost use Rattle.cool_words.specs.Lists.{numbers};
-ghost use Rattle.cool_message.specs.Reading.{texts, text_of, number_at, key_kind, mouse_kind, flag, message_from};
+ghost use Rattle.cool_message.specs.Reading.{texts, text_of, number_at, look_at, key_kind, mouse_kind, flag, message_from};
 ghost use Rattle.cool_message.specs.declared.table.Command.TheVariants as command;
 
 use crate::fault::Word;
@@ -12,7 +12,7 @@ use crate::table::Command;
 use cool_base::{ListOf, Memory, Rect, TextOf};
 use cool_words::{list_31, list_64, number_31};
 use std::alloc::Global;
-use tile_key::TileWords;
+use tile_key::{TileWords, look_of};
 
 /// The message of a command, by the texts that stand for its words.
 pub fn message_from(
@@ -108,6 +108,7 @@ fn tile(words: &[&str]) -> TileWords
         tileposy: number(words, Word::TilePosY),
         tilewidth: number(words, Word::TileWidth),
         tileheight: number(words, Word::TileHeight),
+        nviewid: look(words),
     }
 }
 
@@ -124,6 +125,7 @@ fn combine(alloc: Global, words: &[&str]) -> Result<ClientMessage, Memory>
         tileposy: ListOf::of(tileposy),
         tilewidth: number(words, Word::TileWidth),
         tileheight: number(words, Word::TileHeight),
+        nviewid: look(words),
     }))
 }
 
@@ -146,6 +148,7 @@ fn zoom(words: &[&str]) -> ClientMessage
         pixel_h: number(words, Word::TilePixelHeight),
         twip_w: number(words, Word::TileTwipWidth),
         twip_h: number(words, Word::TileTwipHeight),
+        nviewid: look(words),
     }
 }
 
@@ -163,6 +166,13 @@ fn number(words: &[&str], word: Word) -> u32
     ensures small { result < 2 ^ 31 }
 {
     number_31(text_of(words, word))
+}
+
+/// The look that the words name.
+fn look(words: &[&str]) -> u32
+    ensures { result ≡ look_at (text_of (texts words.now) Word.NViewId) }
+{
+    look_of(number(words, Word::NViewId))
 }
 
 fn flag(words: &[&str], word: Word) -> bool

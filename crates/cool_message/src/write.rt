@@ -40,7 +40,8 @@ pub fn write_message(alloc: Global, message: &ClientMessage) -> Result<Vec<u8>, 
             pixel_h,
             twip_w,
             twip_h,
-        } => zoom(alloc, *pixel_w, *pixel_h, *twip_w, *twip_h),
+            nviewid,
+        } => zoom(alloc, *pixel_w, *pixel_h, *twip_w, *twip_h, *nviewid),
         ClientMessage::SetPart { part } => set_part(alloc, *part),
         ClientMessage::TileProcessed { wids } => processed(alloc, wids.get()),
         ClientMessage::Save {
@@ -123,6 +124,7 @@ fn tile(alloc: Global, words: &TileWords) -> Result<Vec<u8>, Memory>
         (Word::TilePosY, words.tileposy),
         (Word::TileWidth, words.tilewidth),
         (Word::TileHeight, words.tileheight),
+        (Word::NViewId, words.nviewid),
     ];
     push_numbers(&mut bytes, &numbers)?;
     Ok(bytes)
@@ -143,6 +145,7 @@ fn combine(alloc: Global, words: &CombineWords) -> Result<Vec<u8>, Memory>
     let size = [
         (Word::TileWidth, words.tilewidth),
         (Word::TileHeight, words.tileheight),
+        (Word::NViewId, words.nviewid),
     ];
     push_numbers(&mut bytes, &size)?;
     Ok(bytes)
@@ -168,8 +171,9 @@ fn zoom(
     pixel_h: u32,
     twip_w: u32,
     twip_h: u32,
+    nviewid: u32,
 ) -> Result<Vec<u8>, Memory>
-    ensures { IfOk result (λ bytes. bytes.items ≡ written (message.Zoom pixel_w pixel_h twip_w twip_h)) }
+    ensures { IfOk result (λ bytes. bytes.items ≡ written (message.Zoom pixel_w pixel_h twip_w twip_h nviewid)) }
 {
     let mut bytes = started(alloc, Command::Zoom)?;
     let numbers = [
@@ -177,6 +181,7 @@ fn zoom(
         (Word::TilePixelHeight, pixel_h),
         (Word::TileTwipWidth, twip_w),
         (Word::TileTwipHeight, twip_h),
+        (Word::NViewId, nviewid),
     ];
     push_numbers(&mut bytes, &numbers)?;
     Ok(bytes)

@@ -1,7 +1,7 @@
 -- What a line of a script does, and what a line under way has made, over the world that one kit makes.
 use Rattle.std.specs.Prelude.{ℕ, ◌≡◌, List, [], ◌∷◌, ◌++◌, Option, None, Some, ◌⊎◌}
 use Rattle.kit_trait.specs.Rules.{Rules}
-use Rattle.kit_trait.specs.declared.values.Pixels.{Pixels}
+use Rattle.tile_key.specs.Places.{Place as TilePlace}
 use Rattle.outside.specs.Streams.{Adds}
 use Rattle.script_lines.specs.Grammar.{start, verdict, Verdict, Acts, Ends, Refused}
 use Rattle.script_lines.specs.Places.{Place}
@@ -12,6 +12,7 @@ use Rattle.script_lines.specs.declared.output.Stop.TheVariants.{Sink, Memory as 
 use Rattle.script_run.specs.Play.{Stopped}
 use Rattle.script_run.specs.declared.status.Status.{Status}
 use Rattle.script_run.specs.declared.status.Status.TheVariants.{Done, WrongWords, FaultLine, ReadFault, WriteFault, Memory, NoEnd}
+use Rattle.script_world.specs.House.{IsHoused}
 use Rattle.script_world.specs.World.{Seen, unopened, opening_events, typed_events, Turned, Settled, Begun}
 use Rattle.script_world.specs.declared.event.Waiting.TheVariants.{Says, Gone}
 
@@ -26,45 +27,49 @@ first = record { place = start; world = unopened }
 
 -- Opening a file makes three events that wait, saying a message makes one, typing makes one for each character, a
 -- link that is dropped makes one; turns and settling do what waits; a blank line does nothing.
-abbrev pub Does : {C B S : Type 0} → Rules C B → (S → Pixels) → ScriptLine → Seen S → List ℕ → Seen S → Type 0
-Does rules paints (Open link file writes) s out t = (out ≡ []) × (t ≡ record s { waiting = s.waiting ++ opening_events link file writes })
-Does rules paints (Say link message) s out t = (out ≡ []) × (t ≡ record s { waiting = s.waiting ++ Says link message ∷ [] })
-Does rules paints (Keys link typed) s out t = (out ≡ []) × (t ≡ record s { waiting = s.waiting ++ typed_events link typed })
-Does rules paints (Leave link) s out t = (out ≡ []) × (t ≡ record s { waiting = s.waiting ++ Gone link ∷ [] })
-Does rules paints (Turn count) s out t = Turned rules paints count s out t
-Does rules paints Settle s out t = Settled rules paints s out t
-Does rules paints Blank s out t = (out ≡ []) × (t ≡ s)
-Does rules paints End s out t = (out ≡ []) × (t ≡ s)
+abbrev pub Does : {C B S : Type 0} → Rules C B → (C → TilePlace → S) → ScriptLine → Seen S → List ℕ → Seen S → Type 0
+Does rules cut (Open link file writes) s out t = (out ≡ []) × (t ≡ record s { waiting = s.waiting ++ opening_events link file writes })
+Does rules cut (Say link message) s out t = (out ≡ []) × (t ≡ record s { waiting = s.waiting ++ Says link message ∷ [] })
+Does rules cut (Keys link typed) s out t = (out ≡ []) × (t ≡ record s { waiting = s.waiting ++ typed_events link typed })
+Does rules cut (Leave link) s out t = (out ≡ []) × (t ≡ record s { waiting = s.waiting ++ Gone link ∷ [] })
+Does rules cut (Turn count) s out t = Turned rules cut count s out t
+Does rules cut Settle s out t = Settled rules cut s out t
+Does rules cut Blank s out t = (out ≡ []) × (t ≡ s)
+Does rules cut End s out t = (out ≡ []) × (t ≡ s)
 
 -- What a line that is under way has made: turns and settling do whole moves, the others write nothing.
-abbrev pub Doing : {C B S : Type 0} → Rules C B → (S → Pixels) → ScriptLine → Seen S → List ℕ → Type 0
-Doing rules paints (Open link file writes) s out = out ≡ []
-Doing rules paints (Say link message) s out = out ≡ []
-Doing rules paints (Keys link typed) s out = out ≡ []
-Doing rules paints (Leave link) s out = out ≡ []
-Doing rules paints (Turn count) s out = Begun rules paints s out
-Doing rules paints Settle s out = Begun rules paints s out
-Doing rules paints Blank s out = out ≡ []
-Doing rules paints End s out = out ≡ []
+abbrev pub Doing : {C B S : Type 0} → Rules C B → (C → TilePlace → S) → ScriptLine → Seen S → List ℕ → Type 0
+Doing rules cut (Open link file writes) s out = out ≡ []
+Doing rules cut (Say link message) s out = out ≡ []
+Doing rules cut (Keys link typed) s out = out ≡ []
+Doing rules cut (Leave link) s out = out ≡ []
+Doing rules cut (Turn count) s out = Begun rules cut s out
+Doing rules cut Settle s out = Begun rules cut s out
+Doing rules cut Blank s out = out ≡ []
+Doing rules cut End s out = out ≡ []
 
 -- only a line that acts does something, and the script then stands behind it
-abbrev pub DoesBy : {C B S : Type 0} → Rules C B → (S → Pixels) → Verdict → Seen S → List ℕ → Standing S → Type 0
-DoesBy rules paints (Acts line place) world out t = Does rules paints line world out t.world × (t.place ≡ place)
-DoesBy rules paints Ends world out t = ⊥
-DoesBy rules paints Refused world out t = ⊥
+abbrev pub DoesBy : {C B S : Type 0} → Rules C B → (C → TilePlace → S) → Verdict → Seen S → List ℕ → Standing S → Type 0
+DoesBy rules cut (Acts line place) world out t = Does rules cut line world out t.world × (t.place ≡ place)
+DoesBy rules cut Ends world out t = ⊥
+DoesBy rules cut Refused world out t = ⊥
 
-abbrev pub DoingBy : {C B S : Type 0} → Rules C B → (S → Pixels) → Verdict → Seen S → List ℕ → Type 0
-DoingBy rules paints (Acts line place) world out = Doing rules paints line world out
-DoingBy rules paints Ends world out = ⊥
-DoingBy rules paints Refused world out = ⊥
+abbrev pub DoingBy : {C B S : Type 0} → Rules C B → (C → TilePlace → S) → Verdict → Seen S → List ℕ → Type 0
+DoingBy rules cut (Acts line place) world out = Doing rules cut line world out
+DoingBy rules cut Ends world out = ⊥
+DoingBy rules cut Refused world out = ⊥
 
 -- a line that acts, where the grammar stands
-unfoldable pub Acting : {C B S : Type 0} → Rules C B → (S → Pixels) → Standing S → List ℕ → List ℕ → Standing S → Type 0
-Acting rules paints s line out t = DoesBy rules paints (verdict s.place line) s.world out t
+unfoldable pub Acting : {C B S : Type 0} → Rules C B → (C → TilePlace → S) → Standing S → List ℕ → List ℕ → Standing S → Type 0
+Acting rules cut s line out t = DoesBy rules cut (verdict s.place line) s.world out t
 
 -- a line that is under way, where the grammar stands
-unfoldable pub UnderWay : {C B S : Type 0} → Rules C B → (S → Pixels) → Standing S → List ℕ → List ℕ → Type 0
-UnderWay rules paints s line out = DoingBy rules paints (verdict s.place line) s.world out
+unfoldable pub UnderWay : {C B S : Type 0} → Rules C B → (C → TilePlace → S) → Standing S → List ℕ → List ℕ → Type 0
+UnderWay rules cut s line out = DoingBy rules cut (verdict s.place line) s.world out
+
+-- the world keeps to its rules, so what a line writes is no choice
+abbrev pub IsGood : {C B S : Type 0} → Rules C B → Standing S → Type 0
+IsGood rules s = IsHoused rules s.world.house
 
 -- How a line was stopped: the sink took a front of what was made, and not all of it; or memory was wanting,
 -- before anything was written or while it was.
@@ -73,12 +78,12 @@ Halted Sink Made before now = Stopped Sink Made before now
 Halted NoMemory Made before now = (now ≡ before) ⊎ Stopped NoMemory Made before now
 
 -- What a line that acts is answered: nothing once it is done, else the status that stopped it.
-abbrev pub Obeys : {C B S : Type 0} → Rules C B → (S → Pixels) → ScriptLine → Option Status → Seen S → Seen S → Option (List ℕ) → Option (List ℕ) → Type 0
-Obeys rules paints said None old new before now = (out : List ℕ) × Does rules paints said old out new × Adds before out now
-Obeys rules paints said (Some Done) old new before now = ⊥
-Obeys rules paints said (Some WrongWords) old new before now = ⊥
-Obeys rules paints said (Some FaultLine) old new before now = ⊥
-Obeys rules paints said (Some ReadFault) old new before now = ⊥
-Obeys rules paints said (Some WriteFault) old new before now = Halted Sink (Doing rules paints said old) before now
-Obeys rules paints said (Some Memory) old new before now = Halted NoMemory (Doing rules paints said old) before now
-Obeys rules paints said (Some NoEnd) old new before now = ⊥
+abbrev pub Obeys : {C B S : Type 0} → Rules C B → (C → TilePlace → S) → ScriptLine → Option Status → Seen S → Seen S → Option (List ℕ) → Option (List ℕ) → Type 0
+Obeys rules cut said None old new before now = (out : List ℕ) × Does rules cut said old out new × Adds before out now
+Obeys rules cut said (Some Done) old new before now = ⊥
+Obeys rules cut said (Some WrongWords) old new before now = ⊥
+Obeys rules cut said (Some FaultLine) old new before now = ⊥
+Obeys rules cut said (Some ReadFault) old new before now = ⊥
+Obeys rules cut said (Some WriteFault) old new before now = Halted Sink (Doing rules cut said old) before now
+Obeys rules cut said (Some Memory) old new before now = Halted NoMemory (Doing rules cut said old) before now
+Obeys rules cut said (Some NoEnd) old new before now = ⊥

@@ -1,13 +1,11 @@
 //! Scripts on the daemon's world, and the command that replays them.
 //!
 //! `Script` is the world of one document with the place in the script's grammar, as a player of
-//! scripts. `replay` plays the script of a source on a patch document, and writes the transcript.
+//! scripts. `replay` plays the script of a source on a patch document or a sheet, and writes the transcript.
 #![tactic(auto)]
 
 mod command;
 mod script;
-#[cfg(test)]
-mod tests;
 
-pub use command::{one_code, one_transcript, replay};
+pub use command::replay;
 pub use script::Script;

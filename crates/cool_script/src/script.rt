@@ -2,13 +2,14 @@
 ghost use Rattle.std.specs.Prelude.{◌≡◌, ℕ, List, Some, Err, OnOk, IfErr};
 ghost use Rattle.outside.specs.Causes.{HasCause};
 ghost use Rattle.outside.specs.Streams.{Adds};
-ghost use Rattle.cool_script.specs.Script.{Does, Doing, Halted, Obeys};
+ghost use Rattle.script_run.specs.Determined.{StepsOnce, StaysGood};
+ghost use Rattle.cool_script.specs.Script.{Acting, Does, Doing, Halted, IsGood, Obeys};
 
 use kit_trait::{Kit, PatchKit};
 use outside::Sink;
 use script_lines::{Judged, Place, ScriptLine, Stop};
 use script_run::{Play, Status, refuse};
-use script_world::World;
+use script_world::{World, settling_has_one_record, turns_have_one_record};
 use sheet_kit::SheetKit;
 use std::alloc::Global;
 use std::marker::Model;
@@ -52,7 +53,7 @@ impl<K: Kit> Script<K> {
         line: &[u8],
         number: u64,
     ) -> Option<Status>
-        ensures answers { Answers (λ s. s.place) (Acting K.rules K.Scene.paints) (UnderWay K.rules K.Scene.paints) result self.old line.now number self.new (T.written sink.old) (T.written sink.new) }
+        ensures answers { Answers (λ s. s.place) (Acting K.rules K.cut) (UnderWay K.rules K.cut) result self.old line.now number self.new (T.written sink.old) (T.written sink.new) }
         ensures cause { HasCause (T.faults sink.old) (T.faults sink.new) (result ≡ Some Status.WriteFault) }
     {
         let Ok(judged) = self.place.judge(alloc, line) else {
@@ -73,7 +74,7 @@ fn obey<K: Kit, T: Sink>(
     sink: &mut T,
     said: ScriptLine,
 ) -> Option<Status>
-    ensures obeys { Obeys K.rules K.Scene.paints said result world.old world.new (T.written sink.old) (T.written sink.new) }
+    ensures obeys { Obeys K.rules K.cut said result world.old world.new (T.written sink.old) (T.written sink.new) }
     ensures cause { HasCause (T.faults sink.old) (T.faults sink.new) (result ≡ Some Status.WriteFault) }
 {
     match act(world, alloc, sink, said) {
@@ -90,8 +91,8 @@ fn act<K: Kit, T: Sink>(
     sink: &mut T,
     said: ScriptLine,
 ) -> Result<(), Stop>
-    ensures ok { OnOk result ((out : List ℕ) × Does K.rules K.Scene.paints said world.old out world.new × Adds (T.written sink.old) out (T.written sink.new)) }
-    ensures halted { IfErr result (λ stop. Halted stop (Doing K.rules K.Scene.paints said world.old) (T.written sink.old) (T.written sink.new)) }
+    ensures ok { OnOk result ((out : List ℕ) × Does K.rules K.cut said world.old out world.new × Adds (T.written sink.old) out (T.written sink.new)) }
+    ensures halted { IfErr result (λ stop. Halted stop (Doing K.rules K.cut said world.old) (T.written sink.old) (T.written sink.new)) }
     ensures cause { HasCause (T.faults sink.old) (T.faults sink.new) (result ≡ Err Stop.Sink) }
 {
     match said {
@@ -106,11 +107,20 @@ fn act<K: Kit, T: Sink>(
     }
 }
 
+// A law: what a line that acts writes, and where it leads, is no choice.
+fn steps_once<K: Kit>()
+    ensures once { StepsOnce (Acting K.rules K.cut) (IsGood K.rules) }
+    ensures stays { StaysGood (Acting K.rules K.cut) (IsGood K.rules) }
+{
+    turns_have_one_record::<K>();
+    settling_has_one_record::<K>();
+}
+
 impl Play for Script<PatchKit> {
     ghost use Rattle.kit_trait.specs.Patch.{patch_rules};
-    ghost use Rattle.kit_trait.specs.PatchSeen.{scene_picture};
+    ghost use Rattle.kit_trait.specs.PatchSeen.{patch_cut};
     ghost use Rattle.kit_trait.specs.declared.patch_scene.PatchScene.{PatchScene};
-    ghost use Rattle.cool_script.specs.Script.{Standing, Acting, UnderWay};
+    ghost use Rattle.cool_script.specs.Script.{Standing, Acting, UnderWay, IsGood};
     ghost use Rattle.cool_script.specs.Follows.{acting_follows};
 
     ghost State = { Standing PatchScene };
@@ -119,9 +129,15 @@ impl Play for Script<PatchKit> {
 
     ghost place = { λ s. s.place };
 
-    ghost step = { Acting patch_rules scene_picture };
+    ghost step = { Acting patch_rules patch_cut };
 
-    ghost under = { UnderWay patch_rules scene_picture };
+    ghost under = { UnderWay patch_rules patch_cut };
+
+    ghost is_good = { IsGood patch_rules };
+
+    fn steps_once() {
+        steps_once::<PatchKit>();
+    }
 
     fn answer<T: Sink>(
         &mut self,
@@ -133,14 +149,14 @@ impl Play for Script<PatchKit> {
         self.take_line(alloc, sink, line, number)
     }
 
-    ghost follows = { acting_follows patch_rules scene_picture };
+    ghost follows = { acting_follows patch_rules patch_cut };
 }
 
 impl Play for Script<SheetKit> {
-    ghost use Rattle.sheet_kit.specs.Seen.{scene_picture};
+    ghost use Rattle.sheet_kit.specs.Seen.{sheet_cut};
     ghost use Rattle.sheet_kit.specs.SheetKind.{sheet_kind};
     ghost use Rattle.sheet_kit.specs.declared.scene.SheetScene.{SheetScene};
-    ghost use Rattle.cool_script.specs.Script.{Standing, Acting, UnderWay};
+    ghost use Rattle.cool_script.specs.Script.{Standing, Acting, UnderWay, IsGood};
     ghost use Rattle.cool_script.specs.Follows.{acting_follows};
 
     ghost State = { Standing SheetScene };
@@ -149,9 +165,15 @@ impl Play for Script<SheetKit> {
 
     ghost place = { λ s. s.place };
 
-    ghost step = { Acting sheet_kind scene_picture };
+    ghost step = { Acting sheet_kind sheet_cut };
 
-    ghost under = { UnderWay sheet_kind scene_picture };
+    ghost under = { UnderWay sheet_kind sheet_cut };
+
+    ghost is_good = { IsGood sheet_kind };
+
+    fn steps_once() {
+        steps_once::<SheetKit>();
+    }
 
     fn answer<T: Sink>(
         &mut self,
@@ -163,5 +185,5 @@ impl Play for Script<SheetKit> {
         self.take_line(alloc, sink, line, number)
     }
 
-    ghost follows = { acting_follows sheet_kind scene_picture };
+    ghost follows = { acting_follows sheet_kind sheet_cut };
 }

@@ -2,14 +2,15 @@
 use Rattle.std.specs.Prelude.{ℕ, Bool, ◌&&◌, ◌++◌, ◌==◌, nat_le, List, [], ◌∷◌, length, map, Option, is_some, unwrap_or}
 use Rattle.std.specs.List.{list_all, slice_split, flat_map}
 use Rattle.std.specs.Fmt.{decimal}
+use Rattle.cool_words.specs.declared.lists.TheConstants.{MOST_NUMBERS}
 
 -- the parts between single commas
 abbrev pub parts : List ℕ → List (List ℕ)
 parts text = slice_split (λ byte. byte == 44) text
 
--- whether the text is 1 to 1,024 of these numbers, separated by single commas
+-- whether the text is 1 to 1,024 (`MOST_NUMBERS`) of these numbers, separated by single commas
 abbrev pub is_list : (List ℕ → Option ℕ) → List ℕ → Bool
-is_list read text = nat_le (length (parts text)) 1024 && list_all (λ part. is_some (read part)) (parts text)
+is_list read text = nat_le (length (parts text)) MOST_NUMBERS && list_all (λ part. is_some (read part)) (parts text)
 
 -- the number that a text is, and 0 for a text that is none
 abbrev pub number_in : (List ℕ → Option ℕ) → List ℕ → ℕ

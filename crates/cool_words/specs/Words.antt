@@ -1,8 +1,9 @@
 -- Words between blanks, and words that give a name a value.
-use Rattle.std.specs.Prelude.{ℕ, Bool, false, not, ◌==◌, List, [], ◌∷◌, length, Option, Some, None, option_and_then, if◌then◌else◌}
+use Rattle.std.specs.Prelude.{ℕ, Bool, false, not, ◌&&◌, ◌==◌, nat_le, List, [], ◌∷◌, length, Option, Some, None, option_and_then, if◌then◌else◌}
 use Rattle.std.specs.Option.{option_map}
-use Rattle.std.specs.List.{filter, find, count_by, slice_split}
+use Rattle.std.specs.List.{filter, find, count_by, list_all, slice_split}
 use Rattle.std.specs.Str.{bytes_eq}
+use Rattle.cool_words.specs.declared.commands.TheConstants.{COMMAND_LIMIT}
 
 -- a blank is the byte 32 alone
 abbrev pub is_blank : ℕ → Bool
@@ -15,6 +16,14 @@ is_filled part = not (length part == 0)
 -- the words of a text: what stands between its blanks
 unfoldable pub words : List ℕ → List (List ℕ)
 words text = filter is_filled (slice_split is_blank text)
+
+-- a letter a to z
+abbrev pub is_letter : ℕ → Bool
+is_letter byte = nat_le 97 byte && nat_le byte 122
+
+-- a command: 1 to 32 (`COMMAND_LIMIT`) letters a to z
+abbrev pub is_command : List ℕ → Bool
+is_command word = nat_le 1 (length word) && nat_le (length word) COMMAND_LIMIT && list_all is_letter word
 
 -- a first part with one more byte in front of it
 abbrev pub with_front : ℕ → List ℕ × List ℕ → List ℕ × List ℕ

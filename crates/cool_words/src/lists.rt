@@ -6,6 +6,9 @@ ghost use Rattle.cool_words.specs.Lists.{parts, is_list, number_in, numbers};
 use cool_base::{Memory, read_u31, read_u64};
 use std::alloc::{AllocError, Global};
 
+/// The most numbers of a list.
+pub const MOST_NUMBERS: usize = 1_024;
+
 /// Whether the text is a list of 1 to 1,024 numbers of at most 2,147,483,647.
 pub fn is_list_31(text: &str) -> bool
     ensures { result ≡ is_list number_31 text.now }
@@ -27,9 +30,9 @@ pub fn is_list_64(text: &str) -> bool
 }
 
 fn is_short(text: &str) -> bool
-    ensures { result ≡ nat_le (length (parts text.now)) 1024 }
+    ensures { result ≡ nat_le (length (parts text.now)) MOST_NUMBERS }
 {
-    count_parts(text) <= 1024
+    count_parts(text) <= MOST_NUMBERS
 }
 
 /// How many parts stand between the commas of the text.

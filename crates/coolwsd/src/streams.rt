@@ -1,5 +1,5 @@
-//! Standard input as a source, and standard output as a sink. Neither tells its bytes; both count their
-//! faults.
+//! Standard input as a source, standard output and standard error as sinks. None tells its bytes; each counts
+//! its faults.
 ghost use Rattle.std.specs.Prelude.{◌≤◌, length, None, IfSome, ◌≡◌};
 
 use outside::{ReadStep, Sink, Source, WriteStep};

@@ -21,13 +21,13 @@ use Rattle.document_machine.specs.State.{View, first_zoom, no_area}
 
 -- tiles of 8 by 8 pixels, for 240 by 240 and for 480 by 480 twips, in a part of 3,840 by 3,840 twips
 small : Scale
-small = record { pixel_w = 8; pixel_h = 8; twip_w = 240; twip_h = 240 }
+small = record { pixel_w = 8; pixel_h = 8; twip_w = 240; twip_h = 240; nviewid = 0 }
 
 wide : Scale
-wide = record { pixel_w = 8; pixel_h = 8; twip_w = 480; twip_h = 480 }
+wide = record { pixel_w = 8; pixel_h = 8; twip_w = 480; twip_h = 480; nviewid = 0 }
 
 tiny : Scale
-tiny = record { pixel_w = 1; pixel_h = 1; twip_w = 15; twip_h = 15 }
+tiny = record { pixel_w = 1; pixel_h = 1; twip_w = 15; twip_h = 15; nviewid = 0 }
 
 patch : Extent
 patch = record { w = 3840; h = 3840 }
@@ -84,10 +84,10 @@ too_large : is_too_large tiny 65536 ≡ true
 unfolding tiny
 too_large = refl
 
-large_enough : is_too_large (record { pixel_w = 64; pixel_h = 64; twip_w = 60; twip_h = 60 }) 4096 ≡ false
+large_enough : is_too_large (record { pixel_w = 64; pixel_h = 64; twip_w = 60; twip_h = 60; nviewid = 0 }) 4096 ≡ false
 large_enough = refl
 
-too_many_pixels : is_too_large (record { pixel_w = 64; pixel_h = 65; twip_w = 60; twip_h = 60 }) 4096 ≡ true
+too_many_pixels : is_too_large (record { pixel_w = 64; pixel_h = 65; twip_w = 60; twip_h = 60; nviewid = 0 }) 4096 ≡ true
 too_many_pixels = refl
 
 -- key order goes by the part, then down, then to the right, and then by the size in pixels and in twips
@@ -106,6 +106,22 @@ part_before = refl
 twips_last : key_order (tile_at 0 small 0 0) (tile_at 0 wide 0 0) ≡ Less
 unfolding small wide
 twips_last = refl
+
+-- the look comes last: of two keys that differ in it alone, the one with grid lines is first, and each is its own
+plain : Scale
+plain = record small { nviewid = 1 }
+
+look_last : key_order (tile_at 0 small 240 0) (tile_at 0 plain 240 0) ≡ Less
+unfolding plain small
+look_last = refl
+
+look_behind : key_order (tile_at 0 plain 240 0) (tile_at 0 small 480 0) ≡ Less
+unfolding plain small
+look_behind = refl
+
+two_looks : ordered (tile_at 0 plain 240 0 ∷ []) (tile_at 0 small 240 0 ∷ []) ≡ tile_at 0 small 240 0 ∷ (tile_at 0 plain 240 0 ∷ [])
+unfolding plain small
+two_looks = refl
 
 same_key : key_order (tile_at 0 small 240 0) (tile_at 0 small 240 0) ≡ Equal
 unfolding small
@@ -176,7 +192,7 @@ does : Bool → ClientMessage → Effect
 does can_write message = message_effect 0 1 (λ part. patch) (looker can_write) message
 
 tile_words : ℕ → ℕ → TileWords
-tile_words part x = record { part = part; width = 8; height = 8; tileposx = x; tileposy = 0; tilewidth = 240; tileheight = 240 }
+tile_words part x = record { part = part; width = 8; height = 8; tileposx = x; tileposy = 0; tilewidth = 240; tileheight = 240; nviewid = 0 }
 
 processed : does true (TileProcessed (99 ∷ (1 ∷ (1 ∷ [])))) ≡ Acknowledges (99 ∷ (1 ∷ (1 ∷ [])))
 unfolding does looker
@@ -214,13 +230,22 @@ own_part : does true (SetPart 0) ≡ GoesTo 0
 unfolding does looker visible_keys rows_of row_of small patch area
 own_part = refl
 
-no_zoom : does true (Zoom 8 8 14 240) ≡ Refuses (codes "clientzoom") BadTile
+no_zoom : does true (Zoom 8 8 14 240 0) ≡ Refuses (codes "clientzoom") BadTile
 unfolding does looker
 no_zoom = refl
 
-other_zoom : does true (Zoom 8 8 480 480) ≡ Zooms wide
+other_zoom : does true (Zoom 8 8 480 480 0) ≡ Zooms wide
 unfolding does looker visible_keys rows_of row_of wide patch area
 other_zoom = refl
+
+-- the other look is another zoom; a number that names none makes none
+other_look : does true (Zoom 8 8 240 240 1) ≡ Zooms plain
+unfolding does looker visible_keys rows_of row_of small plain patch area
+other_look = refl
+
+no_look : does true (Zoom 8 8 240 240 2) ≡ Refuses (codes "clientzoom") BadTile
+unfolding does looker
+no_look = refl
 
 other_area : does true (VisibleArea (area 3120 1200)) ≡ Looks (area 3120 1200)
 unfolding does looker visible_keys rows_of row_of small patch area
@@ -230,7 +255,7 @@ other_area = refl
 sees_all : View
 sees_all = record (looker true) { area = area 3840 3840 }
 
-too_large_zoom : message_effect 0 1 (λ part. patch) sees_all (Zoom 1 1 15 15) ≡ Refuses (codes "clientzoom") TooLarge
+too_large_zoom : message_effect 0 1 (λ part. patch) sees_all (Zoom 1 1 15 15 0) ≡ Refuses (codes "clientzoom") TooLarge
 unfolding sees_all looker tiny
 too_large_zoom = ap (λ n. cond (is_too_large tiny n) (Refuses (codes "clientzoom") TooLarge) (Zooms tiny)) too_many
 
@@ -246,6 +271,10 @@ hurt_small = refl
 hurt_wide : touched patch_rules [] click 0 (tile_at 0 wide 0 0) 1 ≡ true
 unfolding click wide
 hurt_wide = refl
+
+hurt_plain : touched patch_rules [] click 0 (tile_at 0 plain 0 0) 1 ≡ true
+unfolding click small plain
+hurt_plain = refl
 
 hurt_not : touched patch_rules [] click 0 (tile_at 0 small 240 0) 1 ≡ false
 unfolding click small

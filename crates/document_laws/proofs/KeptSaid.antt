@@ -164,7 +164,8 @@ module _ {C B S : Type 0} (rules : Rules C B) (d : Document S) (view : View) whe
     message_fine count (TileCombine words) = asking_fine _ (keys_of (parts_of rules d.base) (TileCombine words)) (keys_are (parts_of rules d.base) (TileCombine words))
     message_fine count CancelTiles = tt
     message_fine count (VisibleArea area) = looking_fine area _
-    message_fine count (Zoom pixel_w pixel_h twip_w twip_h) = zooming_fine (record { pixel_w = pixel_w; pixel_h = pixel_h; twip_w = twip_w; twip_h = twip_h })
+    message_fine count (Zoom pixel_w pixel_h twip_w twip_h nviewid) =
+        zooming_fine (record { pixel_w = pixel_w; pixel_h = pixel_h; twip_w = twip_w; twip_h = twip_h; nviewid = nviewid })
     message_fine count (SetPart part) = going_fine part
     message_fine count (TileProcessed wids) = tt
     message_fine count (Save keep skip) = tt

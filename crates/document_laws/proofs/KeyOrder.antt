@@ -18,7 +18,8 @@ key_total =
     (then_total (on_total (λ (p : Place). p.posx) nat_cmp_total)
     (then_total (on_total (λ (p : Place). p.width) nat_cmp_total)
     (then_total (on_total (λ (p : Place). p.height) nat_cmp_total)
-    (then_total (on_total (λ (p : Place). p.tilewidth) nat_cmp_total) (on_total (λ (p : Place). p.tileheight) nat_cmp_total))))))
+    (then_total (on_total (λ (p : Place). p.tilewidth) nat_cmp_total)
+    (then_total (on_total (λ (p : Place). p.tileheight) nat_cmp_total) (on_total (λ (p : Place). p.nviewid) nat_cmp_total)))))))
 
 -- the numbers of two places are the same
 record AreAlike (p q : Place) : Type 0 where
@@ -29,6 +30,7 @@ record AreAlike (p q : Place) : Type 0 where
   height : p.height ≡ q.height
   tilewidth : p.tilewidth ≡ q.tilewidth
   tileheight : p.tileheight ≡ q.tileheight
+  nviewid : p.nviewid ≡ q.nviewid
 
 alike_is : (p q : Place) → AreAlike p q → p ≡ q
 alike_is p q a = λ i. record {
@@ -39,6 +41,7 @@ alike_is p q a = λ i. record {
   posy = a.posy i;
   tilewidth = a.tilewidth i;
   tileheight = a.tileheight i;
+  nviewid = a.nviewid i;
 }
 
 alike_by : (p q : Place) → same_place p q ≡ true → AreAlike p q
@@ -79,6 +82,7 @@ equal_is p q e =
     let d = then_equal (nat_cmp p.width q.width) _ c.1 in
     let f = then_equal (nat_cmp p.height q.height) _ d.1 in
     let g = then_equal (nat_cmp p.tilewidth q.tilewidth) _ f.1 in
+    let h = then_equal (nat_cmp p.tileheight q.tileheight) _ g.1 in
     alike_is p q (record {
       part = cmp_equal p.part q.part a.0;
       posy = cmp_equal p.posy q.posy b.0;
@@ -86,7 +90,8 @@ equal_is p q e =
       width = cmp_equal p.width q.width d.0;
       height = cmp_equal p.height q.height f.0;
       tilewidth = cmp_equal p.tilewidth q.tilewidth g.0;
-      tileheight = cmp_equal p.tileheight q.tileheight g.1;
+      tileheight = cmp_equal p.tileheight q.tileheight h.0;
+      nviewid = cmp_equal p.nviewid q.nviewid h.1;
     })
 
 -- one that comes before another is another

@@ -13,6 +13,7 @@ pub mod Quiet
 pub mod QuietTest
 pub mod Rank
 pub mod Rising
+pub mod Screens
 pub mod Sending
 pub mod Tiles
 pub mod Untouched

@@ -8,7 +8,6 @@ use Rattle.std.proofs.lemmas.Option.{slice_get_cases}
 use Rattle.kit_trait.specs.Rules.{Rules}
 use Rattle.kit_trait.specs.declared.jobs.PaintJob.{PaintJob}
 use Rattle.kit_trait.specs.declared.values.Input.{Input}
-use Rattle.kit_trait.specs.declared.values.Pixels.{Pixels}
 use Rattle.tile_key.specs.Places.{Place}
 use Rattle.document_machine.proofs.Lists.{nat_eq_self}
 use Rattle.document_machine.proofs.Present.{untouched}
@@ -227,9 +226,9 @@ module _ {C B S : Type 0} (rules : Rules C B) where
   abbrev cut_now : Document S → Job S → Document S
   cut_now old job = record old { jobs = old.jobs ++ job ∷ []; next_ticket = old.next_ticket + 1 }
 
-  painted_is : (paints : S → Pixels) (old new : Document S) (job : Job S) (later : Outs S) → old.jobs ≡ [] → Step rules paints (cut_now old job) (answered (given job)) later new
+  painted_is : (cut : C → Place → S) (old new : Document S) (job : Job S) (later : Outs S) → old.jobs ≡ [] → Step rules cut (cut_now old job) (answered (given job)) later new
       → new ≡ with_views old (views_offered rules old job.number job.keys old.views) [] (old.next_ticket + 1)
-  painted_is paints old new job later none step =
+  painted_is cut old new job later none step =
       let jobs_are : old.jobs ++ job ∷ [] ≡ job ∷ [] = ap (λ js. js ++ job ∷ []) none in
       let here : find_job (job ∷ []) job.ticket ≡ Some job = rw (nat_eq_self job.ticket) refl in
       let gone : without_job (job ∷ []) job.ticket ≡ [] = rw (nat_eq_self job.ticket) refl in
@@ -250,23 +249,23 @@ module _ {C B S : Type 0} (rules : Rules C B) where
       let before : left_to_do rules old ≡ sum_by (left_of rules old) old.views = left_is old old.views old.jobs old.next_ticket level in
       omega (arith, less, same, after, before)
 
-  pub cut_and_painted_lowers : (paints : S → Pixels) (old mid new : Document S) (outs later : Outs S) (job : PaintJob S) → Cuts rules paints old outs mid → old.jobs ≡ [] → IsKept rules old → outs.jobs ≡ job ∷ [] → Step rules paints mid (answered job) later new → (new.jobs ≡ []) × (left_to_do rules new < left_to_do rules old)
-  cut_and_painted_lowers paints old mid new outs later job cuts none kept one step =
+  pub cut_and_painted_lowers : (cut : C → Place → S) (old mid new : Document S) (outs later : Outs S) (job : PaintJob S) → Cuts rules cut old outs mid → old.jobs ≡ [] → IsKept rules old → outs.jobs ≡ job ∷ [] → Step rules cut mid (answered job) later new → (new.jobs ≡ []) × (left_to_do rules new < left_to_do rules old)
+  cut_and_painted_lowers cut old mid new outs later job cuts none kept one step =
       let given_is : outs.jobs ≡ given cuts.job ∷ [] = ap (λ o. o.jobs) cuts.outs_are in
       let same : job ≡ given cuts.job = cc in
-      let there : Step rules paints (cut_now old cuts.job) (answered (given cuts.job)) later new =
-      subst (λ (j : PaintJob S). Step rules paints (cut_now old cuts.job) (answered j) later new) same
-      (subst (λ (m : Document S). Step rules paints m (answered job) later new) cuts.new_is step) in
-      let is = painted_is paints old new cuts.job later none there in
+      let there : Step rules cut (cut_now old cuts.job) (answered (given cuts.job)) later new =
+      subst (λ (j : PaintJob S). Step rules cut (cut_now old cuts.job) (answered j) later new) same
+      (subst (λ (m : Document S). Step rules cut m (answered job) later new) cuts.new_is step) in
+      let is = painted_is cut old new cuts.job later none there in
       let less = cut_left old cuts.job kept cuts.level cuts.number_is cuts.wanted in
       (ap (λ e. e.jobs) is, subst (λ e. left_to_do rules e < left_to_do rules old) (sym is) less)
 
   -- a turn that works, with each job that it gave out painted directly behind it
-  pub at_once_lowers : (paints : S → Pixels) (old mid new : Document S) (outs later : Outs S) → Works rules paints old outs mid → old.jobs ≡ [] → IsKept rules old → Segment rules paints mid (all_answered outs) later new → (new.jobs ≡ []) × (left_to_do rules new < left_to_do rules old)
-  at_once_lowers paints old mid new outs later works none kept run =
+  pub at_once_lowers : (cut : C → Place → S) (old mid new : Document S) (outs later : Outs S) → Works rules cut old outs mid → old.jobs ≡ [] → IsKept rules old → Segment rules cut mid (all_answered outs) later new → (new.jobs ≡ []) × (left_to_do rules new < left_to_do rules old)
+  at_once_lowers cut old mid new outs later works none kept run =
       let Lower : Document S → Type 0 = λ e. (e.jobs ≡ []) × (left_to_do rules e < left_to_do rules old) in
       let stays : outs.jobs ≡ [] → Lower mid → Lower new = λ e low.
-      let run0 = subst (λ (js : List (PaintJob S)). Segment rules paints mid (map answered js) later new) e run in
+      let run0 = subst (λ (js : List (PaintJob S)). Segment rules cut mid (map answered js) later new) e run in
       subst Lower (sym run0.1) low in
       elim works [
         | inl applies ↦ stays (ap (λ o. o.jobs) applies.outs_are) (applied_lowers old mid outs applies none)
@@ -274,7 +273,7 @@ module _ {C B S : Type 0} (rules : Rules C B) where
           | inl sends ↦ stays (ap (λ o. o.jobs) sends.outs_are) (ap (λ e. e.jobs) sends.new_is ∙ none, sent_lowers old mid outs sends kept)
           | inr cuts ↦
               let jobs_are : outs.jobs ≡ given cuts.job ∷ [] = ap (λ o. o.jobs) cuts.outs_are in
-              let run1 = subst (λ (js : List (PaintJob S)). Segment rules paints mid (map answered js) later new) jobs_are run in
-              subst Lower (sym run1.4.1) (cut_and_painted_lowers paints old mid run1.0 outs run1.1 (given cuts.job) cuts none kept jobs_are run1.3)
+              let run1 = subst (λ (js : List (PaintJob S)). Segment rules cut mid (map answered js) later new) jobs_are run in
+              subst Lower (sym run1.4.1) (cut_and_painted_lowers cut old mid run1.0 outs run1.1 (given cuts.job) cuts none kept jobs_are run1.3)
         ]
       ]

@@ -9,7 +9,6 @@ use Rattle.cool_frame.specs.declared.frame.Frame.{Frame}
 use Rattle.cool_frame.specs.declared.frame.Frame.TheVariants.{Invalidate}
 use Rattle.kit_trait.specs.Rules.{Rules, doc}
 use Rattle.kit_trait.specs.declared.values.Damage.{Damage}
-use Rattle.kit_trait.specs.declared.values.Pixels.{Pixels}
 use Rattle.tile_key.specs.Places.{Place}
 use Rattle.document_machine.specs.Due.{takes, tile_frame, sent}
 use Rattle.document_machine.specs.Event.{Event, Joined, Left, Said, Turned, Painted}
@@ -161,7 +160,7 @@ unchanged views id v w live later =
     let eq : w ≡ v = cc in
     ap (λ x. x.next_wid) eq
 
-module _ {C B S : Type 0} (rules : Rules C B) (paints : S → Pixels) where
+module _ {C B S : Type 0} (rules : Rules C B) (cut : C → Place → S) where
   abbrev AllNumbered : List View → Outs S → Document S → Type 0
   AllNumbered views outs new = (id : ℕ) (v w : View) → find_view views id ≡ Some v → find_view new.views id ≡ Some w → AreNumbered id v w outs.frames
 
@@ -212,7 +211,7 @@ module _ {C B S : Type 0} (rules : Rules C B) (paints : S → Pixels) where
             none_for id v w (tile_frame rules old version key view ∷ []) (rw away refl) (ap (λ x. x.next_wid) eq)
       ]
 
-  works_numbered : (old new : Document S) (outs : Outs S) → Works rules paints old outs new → AllNumbered old.views outs new
+  works_numbered : (old new : Document S) (outs : Outs S) → Works rules cut old outs new → AllNumbered old.views outs new
   works_numbered old new outs works =
       elim works [
         | inl applies ↦ no_tile old.views old.views (told old.views (rules.hurt (doc rules old.base old.journal old.applied) applies.input)) outs new (ap (λ o. o.frames) applies.outs_are) (ap (λ e. e.views) applies.new_is)
@@ -242,7 +241,7 @@ module _ {C B S : Type 0} (rules : Rules C B) (paints : S → Pixels) where
             (λ id v w live later. all_tiles rules old job.number job.keys old.views id v w whole.kept.ids live later)
       ]
 
-  pub steps_numbered : (old new : Document S) (event : Event S) (outs : Outs S) → IsWhole rules old → Step rules paints old event outs new → AllNumbered old.views outs new
+  pub steps_numbered : (old new : Document S) (event : Event S) (outs : Outs S) → IsWhole rules old → Step rules cut old event outs new → AllNumbered old.views outs new
   steps_numbered old new (Joined rights) outs whole step = join_numbered old new rights outs (nat_lt (length old.views) 64) step
   steps_numbered old new (Left view) outs whole step =
       no_tile old.views (without_view old.views view) [] outs new (ap (λ o. o.frames) step.0) (ap (λ e. e.views) step.1) (λ id. refl)

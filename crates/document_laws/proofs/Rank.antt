@@ -5,7 +5,6 @@ use Rattle.std.proofs.lemmas.Bool.{cases_Bool, and_parts, or_parts, not-true}
 use Rattle.std.proofs.lemmas.List.Sums.{sum_by-cons, sum_by_push}
 use Rattle.kit_trait.specs.Rules.{Rules}
 use Rattle.kit_trait.specs.declared.values.Input.{Input}
-use Rattle.kit_trait.specs.declared.values.Pixels.{Pixels}
 use Rattle.tile_key.specs.Places.{Place, same_place}
 use Rattle.document_machine.proofs.Lists.{holds_among, same_self}
 use Rattle.document_machine.specs.Due.{is_due, is_lacking, has_room, is_out, touched, keys, version_of, visible, sent}
@@ -293,8 +292,8 @@ module _ {C B S : Type 0} (rules : Rules C B) (d : Document S) (id : ℕ) (key :
       let b : still_to_come rules d ≡ 2 * due_pairs rules d = no_input (length d.journal) d.applied (2 * pairs rules d + 1) (2 * due_pairs rules d) level in
       omega (arith, less, sum, jobs, a, b)
 
-module _ {C B S : Type 0} (rules : Rules C B) (paints : S → Pixels) where
-  pub work_lowers : (old new : Document S) (outs : Outs S) → Works rules paints old outs new → IsKept rules old → AreApart old.jobs → IsLower rules new old
+module _ {C B S : Type 0} (rules : Rules C B) (cut : C → Place → S) where
+  pub work_lowers : (old new : Document S) (outs : Outs S) → Works rules cut old outs new → IsKept rules old → AreApart old.jobs → IsLower rules new old
   work_lowers old new outs works kept apart =
       elim works [
         | inl applies ↦ subst (λ (e : Document S). IsLower rules e old) (sym applies.new_is) (applied_lower rules old (some_input old.journal old.applied applies.input applies.behind))

@@ -5,7 +5,6 @@ use Rattle.std.specs.List.{AllByRecursion}
 use Rattle.std.proofs.lemmas.Bool.{cases_Bool, and_parts, leb-true, eqb-true}
 use Rattle.std.proofs.lemmas.Bool.Decides.{nat_tests}
 use Rattle.kit_trait.specs.Rules.{Rules}
-use Rattle.kit_trait.specs.declared.values.Pixels.{Pixels}
 use Rattle.tile_key.specs.Places.{Place, same_place}
 use Rattle.document_machine.specs.Due.{has_room, is_current, is_due, is_lacking, is_newer, is_not_back, takes, visible, version_of, without_version, asked_after, screen_after, sees_or_asks, sent}
 use Rattle.document_machine.specs.Event.{Event, Joined, Left, Said, Turned, Painted}
@@ -70,7 +69,7 @@ filtered f v w is key had has a b =
     omega arith
 
 -- the key whose entry was taken out
-without_same : (screen : List Shown) (key : Place) → version_of (without_version screen key) key ≡ None
+pub without_same : (screen : List Shown) (key : Place) → version_of (without_version screen key) key ≡ None
 without_same [] key = refl
 without_same (shown ∷ screen) key =
     let go : (b : Bool) → same_place shown.key key ≡ b → version_of (cond (not b) (shown ∷ without_version screen key) (without_version screen key)) key ≡ None = elim [
@@ -79,7 +78,8 @@ without_same (shown ∷ screen) key =
     ] in
     go (same_place shown.key key) refl
 
-newer_not_back : (o : Option ℕ) (version : ℕ) (asked : Bool) → is_newer o version asked ≡ true → is_not_back o version ≡ true
+-- a newer version is no step back
+pub newer_not_back : (o : Option ℕ) (version : ℕ) (asked : Bool) → is_newer o version asked ≡ true → is_not_back o version ≡ true
 newer_not_back None version asked e = refl
 newer_not_back (Some had) version asked e =
     let go : (a b : Bool) → nat_lt had version ≡ a → nat_le had version ≡ b → (a || (asked && b)) ≡ true → b ≡ true = elim [
@@ -94,26 +94,31 @@ newer_not_back (Some had) version asked e =
 module _ {C B S : Type 0} (rules : Rules C B) (d : Document S) (n : ℕ) (v : View) where
   -- what the screen of a view has of a key once tiles in version n were offered to it: what the view had, or
   -- nothing and it doesn't want the key, or version n where that is no step back
-  abbrev Follows : Place → View → Type 0
+  abbrev pub Follows : Place → View → Type 0
   Follows key u =
       (version_of u.screen key ≡ version_of v.screen key)
       ⊎ (((version_of u.screen key ≡ None) × (sees_or_asks rules d u key ≡ false))
       ⊎ ((version_of u.screen key ≡ Some n) × (is_not_back (version_of v.screen key) n ≡ true)))
 
-  not_wanted_not_due : (key : Place) (u : View) → sees_or_asks rules d u key ≡ false → is_due rules d u key ≡ false
+  -- a key that the view doesn't want is not due
+  pub not_wanted_not_due : (key : Place) (u : View) → sees_or_asks rules d u key ≡ false → is_due rules d u key ≡ false
   not_wanted_not_due key u off =
       let go : (a b c : Bool) → (a || c) ≡ false → ((a && b) || c) ≡ false = elim [ true ↦ λ b c e. absurd (cc) | false ↦ λ b c e. e ] in
       go (is_among (visible rules d u) key) (is_lacking rules d key (version_of u.screen key)) (is_among u.asked key) off
 
+  -- a tile that is no step back for the view as it is now is none for the view as it was
+  pub back_before : (key : Place) (u : View) → is_not_back (version_of u.screen key) n ≡ true → is_due rules d u key ≡ true → Follows key u → is_not_back (version_of v.screen key) n ≡ true
+  back_before key u not_back due follows = elim follows [
+    | inl same ↦ ap (λ o. is_not_back o n) (sym same) ∙ not_back
+    | inr other ↦ elim other [
+      | inl out ↦ absurd (let no = not_wanted_not_due key u out.1 in cc)
+      | inr now ↦ now.1
+    ]
+  ]
+
   here_follows : (key : Place) (u : View) → is_not_back (version_of u.screen key) n ≡ true → is_due rules d u key ≡ true → Follows key u → Follows key (sent rules d n key u)
   here_follows key u not_back due follows =
-      let back : is_not_back (version_of v.screen key) n ≡ true = elim follows [
-        | inl same ↦ ap (λ o. is_not_back o n) (sym same) ∙ not_back
-        | inr other ↦ elim other [
-          | inl out ↦ absurd (let no = not_wanted_not_due key u out.1 in cc)
-          | inr now ↦ now.1
-        ]
-      ] in
+      let back : is_not_back (version_of v.screen key) n ≡ true = back_before key u not_back due follows in
       let go : (wanted : Bool) → sees_or_asks rules d (sent rules d n key u) key ≡ wanted → (version_of (screen_after u.screen key n wanted) key ≡ version_of v.screen key) ⊎ (((version_of (screen_after u.screen key n wanted) key ≡ None) × (wanted ≡ false)) ⊎ ((version_of (screen_after u.screen key n wanted) key ≡ Some n) × (is_not_back (version_of v.screen key) n ≡ true))) = elim [
         | true ↦ λ e. inr (inr (with_same u.screen key n, back))
         | false ↦ λ e. inr (inl (without_same u.screen key, refl))
@@ -143,7 +148,7 @@ module _ {C B S : Type 0} (rules : Rules C B) (d : Document S) (n : ℕ) (v : Vi
         | inr away ↦ other_follows k key u away follows
       ]
 
-  offered_follows : (k key : Place) (u : View) → Follows key u → Follows key (offered rules d n k u)
+  pub offered_follows : (k key : Place) (u : View) → Follows key u → Follows key (offered rules d n k u)
   offered_follows k key u follows =
       let go : (b : Bool) → takes rules d n k u ≡ b → Follows key (cond b (sent rules d n k u) u) = elim [
         | true ↦ λ taken.
@@ -169,7 +174,7 @@ module _ {C B S : Type 0} (rules : Rules C B) (d : Document S) (n : ℕ) (v : Vi
 
 module _ {C B S : Type 0} (rules : Rules C B) (d : Document S) (n : ℕ) where
   -- one view, to which painted tiles were offered key by key
-  offers_to : List Place → View → View
+  unfoldable pub offers_to : List Place → View → View
   offers_to [] view = view
   offers_to (key ∷ keys) view = offers_to keys (offered rules d n key view)
 
@@ -195,7 +200,7 @@ module _ {C B S : Type 0} (rules : Rules C B) (d : Document S) (n : ℕ) where
       ] in
       go (nat_eq w.id id) refl e
 
-  find_offers : (keys : List Place) (views : List View) (id : ℕ) (v : View) → find_view views id ≡ Some v → find_view (views_offered rules d n keys views) id ≡ Some (offers_to keys v)
+  pub find_offers : (keys : List Place) (views : List View) (id : ℕ) (v : View) → find_view views id ≡ Some v → find_view (views_offered rules d n keys views) id ≡ Some (offers_to keys v)
   unfolding offers_to
   find_offers [] views id v e = e
   find_offers (key ∷ keys) views id v e = find_offers keys (map (offered rules d n key) views) id (offered rules d n key v) (find_map key views id v e)
@@ -273,7 +278,7 @@ find_without (v ∷ vs) i id w order e =
 without_rise : (views : List View) (i id : ℕ) (v w : View) → Pairwise (λ v w. v.id < w.id) views → find_view views id ≡ Some v → find_view (without_view views i) id ≡ Some w → IsNoStepBack v w
 without_rise views i id v w order live later = unchanged_rise views id v w live (find_without views i id w order later)
 
-module _ {C B S : Type 0} (rules : Rules C B) (paints : S → Pixels) where
+module _ {C B S : Type 0} (rules : Rules C B) (cut : C → Place → S) where
   -- no view's screen takes a step back
   abbrev AllRise : List View → Document S → Type 0
   AllRise views new = (id : ℕ) (v w : View) → find_view views id ≡ Some v → find_view new.views id ≡ Some w → IsNoStepBack v w
@@ -290,7 +295,7 @@ module _ {C B S : Type 0} (rules : Rules C B) (paints : S → Pixels) where
   took_rise old id (Acknowledges wids) = with_rise old.views id (acknowledged wids) (λ v. refl) (λ v live. same_screen v (acknowledged wids v) refl)
   took_rise old id Passes = unchanged_rise old.views
 
-  works_rise : (old new : Document S) (outs : Outs S) → Works rules paints old outs new → AllRise old.views new
+  works_rise : (old new : Document S) (outs : Outs S) → Works rules cut old outs new → AllRise old.views new
   works_rise old new outs works =
       elim works [
         | inl applies ↦ subst (AllRise old.views) (sym applies.new_is) (unchanged_rise old.views)
@@ -321,7 +326,7 @@ module _ {C B S : Type 0} (rules : Rules C B) (paints : S → Pixels) where
         | inr taken ↦ subst (AllRise old.views) (sym taken.2) (offers_rise rules old job.number job.keys old.views)
       ]
 
-  pub steps_rise : (old new : Document S) (event : Event S) (outs : Outs S) → IsWhole rules old → Step rules paints old event outs new → AllRise old.views new
+  pub steps_rise : (old new : Document S) (event : Event S) (outs : Outs S) → IsWhole rules old → Step rules cut old event outs new → AllRise old.views new
   steps_rise old new (Joined rights) outs whole step = join_rises old new rights outs (nat_lt (length old.views) 64) step
   steps_rise old new (Left view) outs whole step = subst (AllRise old.views) (sym step.1) (λ id v w. without_rise old.views view id v w whole.kept.ids)
   steps_rise old new (Said id text) outs whole step = subst (AllRise old.views) (sym step.new_is) (took_rise old id (effect rules old step.view text))

@@ -9,7 +9,6 @@ use Rattle.cool_frame.specs.declared.frame.Frame.TheVariants.{Status, Invalidate
 use Rattle.kit_trait.specs.Rules.{Rules, after, doc, shown}
 use Rattle.kit_trait.specs.declared.values.Damage.{Damage}
 use Rattle.kit_trait.specs.declared.values.Input.{Input}
-use Rattle.kit_trait.specs.declared.values.Pixels.{Pixels}
 use Rattle.tile_key.specs.Places.{Place}
 use Rattle.document_machine.specs.Due.{parts_of, takes, tile_frame}
 use Rattle.document_machine.specs.Event.{Event, Joined, Left, Said, Turned, Painted}
@@ -94,12 +93,12 @@ module _ {C B S : Type 0} (rules : Rules C B) (d : Document S) where
       all_append Shows (flat_map (tile_for rules d version key) views) (tiles_for rules d version keys (map (offered rules d version key) views))
       (views_shown version key views past) (all_tiles_shown version keys (map (offered rules d version key) views) past)
 
-module _ {C B S : Type 0} (rules : Rules C B) (paints : S → Pixels) where
+module _ {C B S : Type 0} (rules : Rules C B) (cut : C → Place → S) where
   abbrev AllShown : Document S → Outs S → Type 0
   AllShown d outs = AllByRecursion (Shows rules d) outs.frames
 
   -- steps
-  works_show : (old new : Document S) (outs : Outs S) → Works rules paints old outs new → AllShown old outs
+  works_show : (old new : Document S) (outs : Outs S) → Works rules cut old outs new → AllShown old outs
   works_show old new outs works =
       elim works [
         | inl applies ↦ subst (AllShown old) (sym applies.outs_are) (all_told rules old.base old.journal old.applied old.views (rules.hurt (doc rules old.base old.journal old.applied) applies.input))
@@ -122,7 +121,7 @@ module _ {C B S : Type 0} (rules : Rules C B) (paints : S → Pixels) where
             (all_tiles_shown rules old job.number job.keys old.views (found_job (λ j. j.number ≤ old.applied) old.jobs ticket job whole.jobs.numbers found))
       ]
 
-  pub step_shows : (old new : Document S) (event : Event S) (outs : Outs S) → IsWhole rules old → Step rules paints old event outs new → AllByRecursion (IsShown rules old.base old.journal old.applied) outs.frames
+  pub step_shows : (old new : Document S) (event : Event S) (outs : Outs S) → IsWhole rules old → Step rules cut old event outs new → AllByRecursion (IsShown rules old.base old.journal old.applied) outs.frames
   step_shows old new (Joined rights) outs whole step = join_shows old new rights outs (nat_lt (length old.views) 64) step
   step_shows old new (Left view) outs whole step = subst (AllShown old) (sym step.0) tt
   step_shows old new (Said id text) outs whole step = subst (AllShown old) (sym step.outs_are) (all_replied rules old.base old.journal old.applied id (effect rules old step.view text))
@@ -152,7 +151,7 @@ module _ {C B S : Type 0} (rules : Rules C B) (paints : S → Pixels) where
   took_on old id (Acknowledges wids) = stays old
   took_on old id Passes = stays old
 
-  works_on : (old new : Document S) (outs : Outs S) → Works rules paints old outs new → GoesOn old new
+  works_on : (old new : Document S) (outs : Outs S) → Works rules cut old outs new → GoesOn old new
   works_on old new outs works =
       elim works [
         | inl applies ↦ subst (GoesOn old) (sym applies.new_is) (stays old)
@@ -174,7 +173,7 @@ module _ {C B S : Type 0} (rules : Rules C B) (paints : S → Pixels) where
         | inr taken ↦ subst (GoesOn old) (sym taken.2) (stays old)
       ]
 
-  pub step_on : (old new : Document S) (event : Event S) (outs : Outs S) → Step rules paints old event outs new → GoesOn old new
+  pub step_on : (old new : Document S) (event : Event S) (outs : Outs S) → Step rules cut old event outs new → GoesOn old new
   step_on old new (Joined rights) outs step = join_on old new rights outs (nat_lt (length old.views) 64) step
   step_on old new (Left view) outs step = subst (GoesOn old) (sym step.1) (stays old)
   step_on old new (Said id text) outs step = subst (GoesOn old) (sym step.new_is) (took_on old id (effect rules old step.view text))
@@ -189,11 +188,11 @@ module _ {C B S : Type 0} (rules : Rules C B) (paints : S → Pixels) where
   goes_on old mid new a b = (b.0 ∙ a.0, a.1 ++ b.1, b.2 ∙ ap (λ j. j ++ b.1) a.2 ∙ append_assoc old.journal a.1 b.1)
 
   -- runs
-  pub run_on : (events : List (Event S)) (old new : Document S) (outs : Outs S) → Segment rules paints old events outs new → GoesOn old new
+  pub run_on : (events : List (Event S)) (old new : Document S) (outs : Outs S) → Segment rules cut old events outs new → GoesOn old new
   run_on [] old new outs run = subst (GoesOn old) (sym run.1) (stays old)
   run_on (event ∷ events) old new outs run = goes_on old run.0 new (step_on old run.0 event run.1 run.3) (run_on events run.0 new run.2 run.4)
 
-  pub run_shows : ((base : List ℕ) → 0 < parts_of rules base) → (events : List (Event S)) (old new : Document S) (outs : Outs S) → IsWhole rules old → Segment rules paints old events outs new → AllByRecursion (IsShown rules new.base new.journal (length new.journal)) outs.frames
+  pub run_shows : ((base : List ℕ) → 0 < parts_of rules base) → (events : List (Event S)) (old new : Document S) (outs : Outs S) → IsWhole rules old → Segment rules cut old events outs new → AllByRecursion (IsShown rules new.base new.journal (length new.journal)) outs.frames
   run_shows some [] old new outs whole run = subst (λ (o : Outs S). AllByRecursion (IsShown rules new.base new.journal (length new.journal)) o.frames) (sym run.0) tt
   run_shows some (event ∷ events) old new outs whole run =
       let here = step_shows old run.0 event run.1 whole run.3 in
@@ -205,6 +204,6 @@ module _ {C B S : Type 0} (rules : Rules C B) (paints : S → Pixels) where
       let moved : AllByRecursion (IsShown rules new.base new.journal (length new.journal)) run.1.frames =
       subst (λ (b : List ℕ). AllByRecursion (IsShown rules b new.journal (length new.journal)) run.1.frames) (sym on.0)
       (subst (λ (j : List Input). AllByRecursion (IsShown rules old.base j (length new.journal)) run.1.frames) (sym on.2) first) in
-      let rest = run_shows some events run.0 new run.2 (steps_keep rules paints some old run.0 event run.1 run.3 whole) run.4 in
+      let rest = run_shows some events run.0 new run.2 (steps_keep rules cut some old run.0 event run.1 run.3 whole) run.4 in
       subst (λ (o : Outs S). AllByRecursion (IsShown rules new.base new.journal (length new.journal)) o.frames) (sym run.5)
       (all_append (IsShown rules new.base new.journal (length new.journal)) run.1.frames run.2.frames moved rest)

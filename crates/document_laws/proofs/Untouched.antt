@@ -96,8 +96,9 @@ sound_after rules IsSound step (input ∷ inputs) c sound = sound_after rules Is
 -- a point in no damaged rectangle keeps its colour
 abbrev pub Covers : {C B : Type 0} → Rules C B → (C → Type 0) → Type 0
 Covers {C} rules IsSound =
-    (c : C) (input : Input) (part x y : ℕ) → IsSound c → list_any (λ d. hurts_point d part x y) (rules.hurt c input) ≡ false
-    → rules.colour (rules.body (rules.step c input)) part x y ≡ rules.colour (rules.body c) part x y
+    (c : C) (input : Input) (nviewid part x y : ℕ) → IsSound c
+    → list_any (λ d. hurts_point d part x y) (rules.hurt c input) ≡ false
+    → rules.colour (rules.body (rules.step c input)) nviewid part x y ≡ rules.colour (rules.body c) nviewid part x y
 
 -- what damaged no rectangle that meets a place leaves its look
 step_keeps : {C B : Type 0} (rules : Rules C B) (IsSound : C → Type 0)
@@ -105,8 +106,9 @@ step_keeps : {C B : Type 0} (rules : Rules C B) (IsSound : C → Type 0)
     → (c : C) (input : Input) (place : Place) → 1 ≤ place.tilewidth → 1 ≤ place.tileheight → IsSound c → is_hurt (rules.hurt c input) place ≡ false
     → shown rules (rules.step c input) place ≡ shown rules c place
 step_keeps rules IsSound covered c input place wide high sound clean =
-    picture_same (rules.colour (rules.body (rules.step c input))) (rules.colour (rules.body c)) place wide high
-    (λ x y there. covered c input place.part x y sound (all_spared place x y there (rules.hurt c input) clean))
+    picture_same (rules.colour (rules.body (rules.step c input)) place.nviewid)
+    (rules.colour (rules.body c) place.nviewid) place wide high
+    (λ x y there. covered c input place.nviewid place.part x y sound (all_spared place x y there (rules.hurt c input) clean))
 
 -- one more input that damaged no rectangle that meets the place, where there is one more
 one_more : {C B : Type 0} (rules : Rules C B) (IsSound : C → Type 0)

@@ -7,7 +7,7 @@ use Rattle.std.proofs.lemmas.Bool.Decides.{nat_tests}
 use Rattle.cool_base.specs.Points.{Rectangle, Extent, do_meet, cut_of, nowhere}
 use Rattle.kit_trait.specs.Rules.{Rules}
 use Rattle.kit_trait.specs.declared.values.Input.{Input}
-use Rattle.kit_trait.specs.declared.values.Pixels.{Pixels}
+use Rattle.tile_key.specs.Places.{Place}
 use Rattle.tile_key.specs.Visible.{visible_keys, rows_of, is_too_large, tiles_to, whole_part}
 use Rattle.document_machine.proofs.Lists.{all_push}
 use Rattle.document_machine.specs.Due.{parts_of, size_of, is_out, sent}
@@ -194,8 +194,8 @@ module _ {C B S : Type 0} (rules : Rules C B) (d : Document S) where
     took_whole id view (Acknowledges wids) live kept fine = change_whole id view (acknowledged wids) (λ v. refl) live (acknowledged_kept rules d view wids kept)
     took_whole id view Passes live kept fine = whole
 
-module _ {C B S : Type 0} (rules : Rules C B) (paints : S → Pixels) where
-  pub works_keep : (old new : Document S) (outs : Outs S) → Works rules paints old outs new → IsWhole rules old → IsWhole rules new
+module _ {C B S : Type 0} (rules : Rules C B) (cut : C → Place → S) where
+  pub works_keep : (old new : Document S) (outs : Outs S) → Works rules cut old outs new → IsWhole rules old → IsWhole rules new
   works_keep old new outs works whole =
       elim works [
         | inl applies ↦ subst (IsWhole rules) (sym applies.new_is) (apply_whole rules old whole (some_input old.journal old.applied applies.input applies.behind))
@@ -220,7 +220,7 @@ module _ {C B S : Type 0} (rules : Rules C B) (paints : S → Pixels) where
         | inr taken ↦ subst (IsWhole rules) (sym taken.2) (paint_whole rules old whole ticket job found)
       ]
 
-  pub steps_keep : ((base : List ℕ) → 0 < parts_of rules base) → (old new : Document S) (event : Event S) (outs : Outs S) → Step rules paints old event outs new → IsWhole rules old → IsWhole rules new
+  pub steps_keep : ((base : List ℕ) → 0 < parts_of rules base) → (old new : Document S) (event : Event S) (outs : Outs S) → Step rules cut old event outs new → IsWhole rules old → IsWhole rules new
   steps_keep some old new (Joined rights) outs step whole = join_keeps old new rights outs (some old.base) (nat_lt (length old.views) 64) refl step whole
   steps_keep some old new (Left view) outs step whole = subst (IsWhole rules) (sym step.1) (leave_whole rules old whole view)
   steps_keep some old new (Said id text) outs step whole =
@@ -233,7 +233,7 @@ module _ {C B S : Type 0} (rules : Rules C B) (paints : S → Pixels) where
       ]
   steps_keep some old new (Painted ticket scene) outs step whole = paints_keep old new ticket scene outs (find_job old.jobs ticket) refl step whole
 
-  pub runs_keep : ((base : List ℕ) → 0 < parts_of rules base) → (events : List (Event S)) (old new : Document S) (outs : Outs S) → Segment rules paints old events outs new → IsWhole rules old → IsWhole rules new
+  pub runs_keep : ((base : List ℕ) → 0 < parts_of rules base) → (events : List (Event S)) (old new : Document S) (outs : Outs S) → Segment rules cut old events outs new → IsWhole rules old → IsWhole rules new
   runs_keep some [] old new outs run whole = subst (IsWhole rules) (sym run.1) whole
   runs_keep some (event ∷ events) old new outs run whole =
       runs_keep some events run.0 new run.2 run.4 (steps_keep some old run.0 event run.1 run.3 whole)

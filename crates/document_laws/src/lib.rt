@@ -10,7 +10,7 @@ ghost use Rattle.std.specs.List.{list_any, AllByRecursion};
 ghost use Rattle.document_laws.specs.Apart.{AreApart};
 ghost use Rattle.document_laws.specs.AtOnce.{all_answered, numbers, IsAcknowledged};
 ghost use Rattle.document_laws.specs.InARow.{WorkInARow};
-ghost use Rattle.document_laws.specs.Tiles.{IsShown, IsNoStepBack, AreNumbered};
+ghost use Rattle.document_laws.specs.Tiles.{IsShown, IsNoStepBack, AreNumbered, AreDelivered, StepsWith, versions_to};
 ghost use Rattle.document_laws.specs.Whole.{IsWhole};
 ghost use Rattle.document_machine.specs.Due.{touched, is_due, is_out, has_room, keys};
 ghost use Rattle.document_machine.specs.Event.{Event as Happening, Painted};
@@ -20,7 +20,7 @@ ghost use Rattle.document_machine.specs.Next.{next_pair, none_kept};
 ghost use Rattle.document_machine.specs.Outputs.{nothing};
 ghost use Rattle.document_machine.specs.Quiet.{IsQuiet, is_quiet, IsRight, AllRight};
 ghost use Rattle.document_machine.specs.Rank.{IsLower, due_pairs, jobs_due, left_to_do, rank};
-ghost use Rattle.document_machine.specs.Run.{Segment};
+ghost use Rattle.document_machine.specs.Run.{Run, Segment};
 ghost use Rattle.document_machine.specs.State.{View, Document, find_view, opening};
 ghost use Rattle.document_machine.specs.Step.{Applies, Cuts, Rests, Says, Sends, Step, Works};
 ghost use Rattle.document_machine.specs.declared.outs.Outs.{Outs as Given};
@@ -55,26 +55,42 @@ pub fn quiet_test<K: Kit>()
 /// Each tile shows the document after as many inputs as its version says, in one step (`step`), where that
 /// many are applied, and in a run (`run`), where that many are accepted at its end.
 pub fn tiles_show_prefixes<K: Kit>()
-    ensures step { (old new : Document K.Scene) (event : Happening K.Scene) (outs : Given K.Scene) → IsWhole K.rules old → Step K.rules K.Scene.paints old event outs new → AllByRecursion (IsShown K.rules old.base old.journal old.applied) outs.frames }
-    ensures run { (events : List (Happening K.Scene)) (old new : Document K.Scene) (outs : Given K.Scene) → IsWhole K.rules old → Segment K.rules K.Scene.paints old events outs new → AllByRecursion (IsShown K.rules new.base new.journal (length new.journal)) outs.frames }
+    ensures step { (old new : Document K.Scene) (event : Happening K.Scene) (outs : Given K.Scene) → IsWhole K.rules old → Step K.rules K.cut old event outs new → AllByRecursion (IsShown K.rules old.base old.journal old.applied) outs.frames }
+    ensures run { (events : List (Happening K.Scene)) (old new : Document K.Scene) (outs : Given K.Scene) → IsWhole K.rules old → Segment K.rules K.cut old events outs new → AllByRecursion (IsShown K.rules new.base new.journal (length new.journal)) outs.frames }
 {}
 
 /// No event takes a screen a step back: what a view was sent of a key is later no older, as long as its
 /// screen has the key.
 pub fn screens_never_step_back<K: Kit>()
-    ensures { (old new : Document K.Scene) (event : Happening K.Scene) (outs : Given K.Scene) → IsWhole K.rules old → Step K.rules K.Scene.paints old event outs new → (id : ℕ) (before later : View) → find_view old.views id ≡ Some before → find_view new.views id ≡ Some later → IsNoStepBack before later }
+    ensures { (old new : Document K.Scene) (event : Happening K.Scene) (outs : Given K.Scene) → IsWhole K.rules old → Step K.rules K.cut old event outs new → (id : ℕ) (before later : View) → find_view old.views id ≡ Some before → find_view new.views id ≡ Some later → IsNoStepBack before later }
+{}
+
+/// Of the tiles of a key that a step gives to a view none is a step back on the screen that the view had,
+/// and each is what its screen then has (`step`). Of two tiles of a key that a view was given in a run, and
+/// between which its screen had the key, the later has no lower version (`run`).
+pub fn frames_never_step_back<K: Kit>()
+    ensures step { (old new : Document K.Scene) (event : Happening K.Scene) (outs : Given K.Scene)
+        → IsWhole K.rules old → Step K.rules K.cut old event outs new
+        → (id : ℕ) (key : Place) → (versions_to id key outs.frames ≡ [])
+        ⊎ AreDelivered K.rules old new id key (versions_to id key outs.frames) }
+    ensures run { (old mid late new : Document K.Scene) (first last : Happening K.Scene)
+        (between : List (Happening K.Scene)) (outs held later : Given K.Scene) (id : ℕ) (key : Place)
+        → IsWhole K.rules old → StepsWith K.rules K.cut id key old first outs mid
+        → Run (StepsWith K.rules K.cut id key) mid between held late → Step K.rules K.cut late last later new
+        → AllByRecursion (λ n. AllByRecursion (λ m. n ≤ m) (versions_to id key later.frames))
+        (versions_to id key outs.frames) }
 {}
 
 /// The tiles that a step gives to a view that was there and stays have the view's next numbers, one after
 /// the other, whatever other views get. A view's first number is 1, so its tiles are numbered from 1 on
 /// without a gap.
 pub fn tiles_are_numbered<K: Kit>()
-    ensures { (old new : Document K.Scene) (event : Happening K.Scene) (outs : Given K.Scene) → IsWhole K.rules old → Step K.rules K.Scene.paints old event outs new → (id : ℕ) (before later : View) → find_view old.views id ≡ Some before → find_view new.views id ≡ Some later → AreNumbered id before later outs.frames }
+    ensures { (old new : Document K.Scene) (event : Happening K.Scene) (outs : Given K.Scene) → IsWhole K.rules old → Step K.rules K.cut old event outs new → (id : ℕ) (before later : View) → find_view old.views id ≡ Some before → find_view new.views id ≡ Some later → AreNumbered id before later outs.frames }
 {}
 
 /// The accepted inputs of a run begin with those that there were, and the file stays.
 pub fn inputs_go_on<K: Kit>()
-    ensures { (events : List (Happening K.Scene)) (old new : Document K.Scene) (outs : Given K.Scene) → Segment K.rules K.Scene.paints old events outs new → (new.base ≡ old.base) × (more : List Typed) × (new.journal ≡ old.journal ++ more) }
+    ensures { (events : List (Happening K.Scene)) (old new : Document K.Scene) (outs : Given K.Scene) → Segment K.rules K.cut old events outs new → (new.base ≡ old.base) × (more : List Typed) × (new.journal ≡ old.journal ++ more) }
 {}
 
 /// In a document that a broker keeps each pair of a view and a key that it sees or asked for is right, or
@@ -96,13 +112,13 @@ pub fn sent_lowers<K: Kit>()
 /// A job that is cut where none is out, and painted directly behind it, leaves less to do and no job: of
 /// its keys one at least goes to a view with room, and each view that gets a tile has a due pair less.
 pub fn cut_and_painted_lowers<K: Kit>()
-    ensures { (old mid new : Document K.Scene) (outs later : Given K.Scene) (job : Task K.Scene) → Cuts K.rules K.Scene.paints old outs mid → old.jobs ≡ [] → IsKept K.rules old → outs.jobs ≡ job ∷ [] → Step K.rules K.Scene.paints mid (Painted job.ticket.0 job.scene) later new → (new.jobs ≡ []) × (left_to_do K.rules new < left_to_do K.rules old) }
+    ensures { (old mid new : Document K.Scene) (outs later : Given K.Scene) (job : Task K.Scene) → Cuts K.rules K.cut old outs mid → old.jobs ≡ [] → IsKept K.rules old → outs.jobs ≡ job ∷ [] → Step K.rules K.cut mid (Painted job.ticket.0 job.scene) later new → (new.jobs ≡ []) × (left_to_do K.rules new < left_to_do K.rules old) }
 {}
 
 /// A turn that does a work where no job is out, with each job that it gives out painted directly behind
 /// it, in order, leaves less to do and no job. So turns whose jobs are painted at once come to an end.
 pub fn at_once_lowers<K: Kit>()
-    ensures { (old mid new : Document K.Scene) (outs later : Given K.Scene) → Works K.rules K.Scene.paints old outs mid → old.jobs ≡ [] → IsKept K.rules old → Segment K.rules K.Scene.paints mid (all_answered outs) later new → (new.jobs ≡ []) × (left_to_do K.rules new < left_to_do K.rules old) }
+    ensures { (old mid new : Document K.Scene) (outs later : Given K.Scene) → Works K.rules K.cut old outs mid → old.jobs ≡ [] → IsKept K.rules old → Segment K.rules K.cut mid (all_answered outs) later new → (new.jobs ≡ []) × (left_to_do K.rules new < left_to_do K.rules old) }
 {}
 
 /// Acknowledging the numbers of a window that isn't empty makes it empty and leaves less to do.
@@ -145,7 +161,7 @@ pub fn idle_exactly<K: Kit>()
 /// Each work of a turn lowers the rank, in a document that a broker keeps and in which no key is in two
 /// jobs out. (Without the latter a tile that is sent could leave several jobs without a due pair.)
 pub fn work_lowers<K: Kit>()
-    ensures { (old new : Document K.Scene) (outs : Given K.Scene) → Works K.rules K.Scene.paints old outs new → IsKept K.rules old → AreApart old.jobs → IsLower K.rules new old }
+    ensures { (old new : Document K.Scene) (outs : Given K.Scene) → Works K.rules K.cut old outs new → IsKept K.rules old → AreApart old.jobs → IsLower K.rules new old }
 {}
 
 /// Where no key is in two jobs out, no more jobs have a due pair than there are due pairs. So the rank is
@@ -156,18 +172,18 @@ pub fn rank_counts<K: Kit>()
 
 /// From a whole document at most as many turns in a row do a work as its rank says.
 pub fn turns_end<K: Kit>()
-    ensures { (n : ℕ) (old new : Document K.Scene) → WorkInARow K.rules K.Scene.paints old n new → IsWhole K.rules old → n + rank K.rules new ≤ rank K.rules old }
+    ensures { (n : ℕ) (old new : Document K.Scene) → WorkInARow K.rules K.cut old n new → IsWhole K.rules old → n + rank K.rules new ≤ rank K.rules old }
 {}
 
 /// A document as it is loaded is whole, and every step leaves a whole document whole.
 pub fn steps_keep<K: Kit>()
     ensures opening { (file base : List ℕ) → K.rules.accepts base ≡ true → IsWhole K.rules (opening {S = K.Scene} file base) }
-    ensures step { (old new : Document K.Scene) (event : Happening K.Scene) (outs : Given K.Scene) → Step K.rules K.Scene.paints old event outs new → IsWhole K.rules old → IsWhole K.rules new }
-    ensures run { (events : List (Happening K.Scene)) (old new : Document K.Scene) (outs : Given K.Scene) → Segment K.rules K.Scene.paints old events outs new → IsWhole K.rules old → IsWhole K.rules new }
+    ensures step { (old new : Document K.Scene) (event : Happening K.Scene) (outs : Given K.Scene) → Step K.rules K.cut old event outs new → IsWhole K.rules old → IsWhole K.rules new }
+    ensures run { (events : List (Happening K.Scene)) (old new : Document K.Scene) (outs : Given K.Scene) → Segment K.rules K.cut old events outs new → IsWhole K.rules old → IsWhole K.rules new }
 {}
 
 /// Whatever events come to a loaded document: whenever it is quiet, each key that a view sees is on its
 /// screen in a version that looks like the document after all accepted inputs.
 pub fn quiet_runs_are_right<K: Kit>()
-    ensures { (file base : List ℕ) (events : List (Happening K.Scene)) (outs : Given K.Scene) (d : Document K.Scene) → K.rules.accepts base ≡ true → Segment K.rules K.Scene.paints (opening file base) events outs d → IsQuiet K.rules d → AllRight K.rules d }
+    ensures { (file base : List ℕ) (events : List (Happening K.Scene)) (outs : Given K.Scene) (d : Document K.Scene) → K.rules.accepts base ≡ true → Segment K.rules K.cut (opening file base) events outs d → IsQuiet K.rules d → AllRight K.rules d }
 {}

@@ -15,7 +15,10 @@ nat_eq_self n = grind arith
 -- a place is itself
 pub same_self : (p : Place) → same_place p p ≡ true
 same_self p =
-    rw (nat_eq_self p.part, nat_eq_self p.posy, nat_eq_self p.posx, nat_eq_self p.width, nat_eq_self p.height, nat_eq_self p.tilewidth, nat_eq_self p.tileheight) refl
+    rw
+    (nat_eq_self p.part, nat_eq_self p.posy, nat_eq_self p.posx, nat_eq_self p.width, nat_eq_self p.height, nat_eq_self p.tilewidth,
+    nat_eq_self p.tileheight, nat_eq_self p.nviewid)
+    refl
 
 -- where the key belongs in front of the one at the place, it is put there
 pub put_here : (keys : List Place) (i : ℕ) (key other : Place) → i < length keys → get_or keys i other ≡ other → is_lt (key_order key other) ≡ true → take i keys ++ inserted (drop i keys) key ≡ insert keys i key

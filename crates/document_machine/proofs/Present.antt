@@ -7,6 +7,7 @@ use Rattle.kit_trait.specs.declared.values.Input.{Input}
 use Rattle.tile_key.specs.Places.{Place}
 use Rattle.document_machine.specs.Due.{touched}
 
+-- a number below another is not above it
 pub not_le : (m n : ℕ) → n < m → nat_le m n ≡ false
 not_le m n lt = grind (arith, nat_tests)
 

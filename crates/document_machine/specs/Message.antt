@@ -108,8 +108,9 @@ message_effect count parts sizes view (Tile words) = asking_effect view (codes "
 message_effect count parts sizes view (TileCombine words) = asking_effect view (codes "tilecombine") (keys_of parts (TileCombine words))
 message_effect count parts sizes view CancelTiles = Cancels
 message_effect count parts sizes view (VisibleArea area) = seeing_effect sizes (codes "clientvisiblearea") view.part view.zoom area (Looks area)
-message_effect count parts sizes view (Zoom pixel_w pixel_h twip_w twip_h) =
-    zooming_effect sizes view (zoom_of (record { pixel_w = pixel_w; pixel_h = pixel_h; twip_w = twip_w; twip_h = twip_h }))
+message_effect count parts sizes view (Zoom pixel_w pixel_h twip_w twip_h nviewid) =
+    zooming_effect sizes view
+    (zoom_of (record { pixel_w = pixel_w; pixel_h = pixel_h; twip_w = twip_w; twip_h = twip_h; nviewid = nviewid }))
 message_effect count parts sizes view (SetPart part) = going_effect parts sizes view part
 message_effect count parts sizes view (TileProcessed wids) = Acknowledges wids
 -- a document is not saved yet: the message is refused like a text that is none

@@ -1,22 +1,21 @@
 -- Runs: steps one after the other, with all that they gave out.
 use Rattle.std.specs.Prelude.{◌≡◌, List, [], ◌∷◌, Option, None, Some}
-use Rattle.kit_trait.specs.declared.values.Pixels.{Pixels}
 use Rattle.kit_trait.specs.Rules.{Rules}
+use Rattle.tile_key.specs.Places.{Place}
 use Rattle.document_machine.specs.Outputs.{nothing, joined}
 use Rattle.document_machine.specs.State.{Document}
 use Rattle.document_machine.specs.Event.{Event}
 use Rattle.document_machine.specs.Step.{Step}
 use Rattle.document_machine.specs.declared.outs.Outs.{Outs}
 
--- from one state the events lead to another, and give this out
-abbrev pub Segment : {C B S : Type 0} → Rules C B → (S → Pixels) → Document S → List (Event S) → Outs S → Document S → Type 0
-Segment rules paints old [] outs new = (outs ≡ nothing) × (new ≡ old)
-Segment {C} {B} {S} rules paints old (event ∷ events) outs new =
-    (mid : Document S) × (first : Outs S) × (later : Outs S)
-    × Step rules paints old event first mid × Segment rules paints mid events later new × (outs ≡ joined first later)
+-- from one state events lead to another, each by a move of this relation, and all moves give this out
+abbrev pub Run : {E S X : Type 0} → (X → E → Outs S → X → Type 0) → X → List E → Outs S → X → Type 0
+Run Moves old [] outs new = (outs ≡ nothing) × (new ≡ old)
+Run {E} {S} {X} Moves old (event ∷ events) outs new =
+    (mid : X) × (first : Outs S) × (later : Outs S)
+    × Moves old event first mid × Run Moves mid events later new × (outs ≡ joined first later)
 
--- the same of a broker that can be spent: it wasn't, and it isn't
-abbrev pub Runs : {C B S : Type 0} → Rules C B → (S → Pixels) → Option (Document S) → List (Event S) → Outs S → Option (Document S) → Type 0
-Runs rules paints (Some old) events outs (Some new) = Segment rules paints old events outs new
-Runs rules paints (Some old) events outs None = ⊥
-Runs rules paints None events outs new = ⊥
+-- the events of a document lead from one state to another, each by a step of the machine
+abbrev pub Segment : {C B S : Type 0} → Rules C B → (C → Place → S)
+    → Document S → List (Event S) → Outs S → Document S → Type 0
+Segment rules cut old events outs new = Run (Step rules cut) old events outs new

@@ -63,9 +63,9 @@ opening file base = record {
   next_ticket = 1;
 }
 
--- the zoom of a view that joins: tiles of 256 by 256 pixels, each of 3,840 by 3,840 twips
+-- the zoom of a view that joins: tiles of 256 by 256 pixels, each of 3,840 by 3,840 twips, with grid lines
 abbrev pub first_zoom : Scale
-first_zoom = record { pixel_w = 256; pixel_h = 256; twip_w = 3840; twip_h = 3840 }
+first_zoom = record { pixel_w = 256; pixel_h = 256; twip_w = 3840; twip_h = 3840; nviewid = 0 }
 
 -- the area of a view that joins: no point
 abbrev pub no_area : Rectangle

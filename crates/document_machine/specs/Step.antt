@@ -4,7 +4,6 @@ use Rattle.std.specs.List.{list_any, flat_map, AllByRecursion}
 use Rattle.cool_base.specs.declared.ids.ViewId.{ViewId}
 use Rattle.cool_frame.specs.declared.frame.Frame.{Frame}
 use Rattle.cool_frame.specs.declared.frame.Frame.TheVariants.{Status, Invalidate}
-use Rattle.kit_trait.specs.declared.values.Pixels.{Pixels}
 use Rattle.kit_trait.specs.Rules.{Rules, doc, shown}
 use Rattle.kit_trait.specs.declared.values.Damage.{Damage}
 use Rattle.kit_trait.specs.declared.values.Input.{Input}
@@ -74,7 +73,7 @@ given job = record { ticket = record { 0 = job.ticket }; number = job.number; gr
 
 -- a turn cuts a job: all inputs are applied, fewer than 64 jobs are out, none of them of these keys, each
 -- key is owed, one of them to a view with room; the scene shows the document as it is now
-pub record Cuts {C B S : Type 0} (rules : Rules C B) (paints : S → Pixels) (old : Document S) (outs : Outs S) (new : Document S) : Type 0 where
+pub record Cuts {C B S : Type 0} (rules : Rules C B) (cut : C → Place → S) (old : Document S) (outs : Outs S) (new : Document S) : Type 0 where
   pub job : Job S
   pub level : old.applied ≡ length old.journal
   pub few : length old.jobs < 64
@@ -85,7 +84,7 @@ pub record Cuts {C B S : Type 0} (rules : Rules C B) (paints : S → Pixels) (ol
   pub free : AllByRecursion (λ key. is_out old.jobs key ≡ false) job.keys
   pub owed : AllByRecursion (λ key. is_owed rules old key ≡ true) job.keys
   pub wanted : list_any (is_wanted rules old) job.keys ≡ true
-  pub shows : paints job.scene ≡ shown rules (doc rules old.base old.journal old.applied) job.area
+  pub scene_is : job.scene ≡ cut (doc rules old.base old.journal old.applied) job.area
   pub outs_are : outs ≡ record { frames = []; jobs = given job ∷ [] }
   pub new_is : new ≡ record old { jobs = old.jobs ++ job ∷ []; next_ticket = old.next_ticket + 1 }
 
@@ -106,8 +105,8 @@ pub record Sends {C B S : Type 0} (rules : Rules C B) (old : Document S) (outs :
   pub new_is : new ≡ record old { views = with_view old.views view.id (sent rules old version key) }
 
 -- a turn that does a work: it applies an input, it sends a tile, or it cuts a job
-abbrev pub Works : {C B S : Type 0} → Rules C B → (S → Pixels) → Document S → Outs S → Document S → Type 0
-Works rules paints old outs new = Applies rules old outs new ⊎ (Sends rules old outs new ⊎ Cuts rules paints old outs new)
+abbrev pub Works : {C B S : Type 0} → Rules C B → (C → Place → S) → Document S → Outs S → Document S → Type 0
+Works rules cut old outs new = Applies rules old outs new ⊎ (Sends rules old outs new ⊎ Cuts rules cut old outs new)
 
 -- what a view with room is owed is under way, or 64 jobs are out
 abbrev pub IsServed : {C B S : Type 0} → Rules C B → Document S → View → Type 0
@@ -122,9 +121,9 @@ pub record Rests {C B S : Type 0} (rules : Rules C B) (d : Document S) : Type 0 
   pub served : AllByRecursion (IsServed rules d) d.views
 
 -- a turn is Worked where it did a work, and Idle where there was nothing to do
-abbrev pub TurnsTo : {C B S : Type 0} → Rules C B → (S → Pixels) → Document S → TurnAnswer S → Document S → Type 0
-TurnsTo rules paints old (Worked outs) new = Works rules paints old outs new
-TurnsTo rules paints old Idle new = Rests rules old × (new ≡ old)
+abbrev pub TurnsTo : {C B S : Type 0} → Rules C B → (C → Place → S) → Document S → TurnAnswer S → Document S → Type 0
+TurnsTo rules cut old (Worked outs) new = Works rules cut old outs new
+TurnsTo rules cut old Idle new = Rests rules old × (new ≡ old)
 
 -- a view once the painted tile of a key was offered to it
 abbrev pub offered : {C B S : Type 0} → Rules C B → Document S → ℕ → Place → View → View
@@ -160,15 +159,15 @@ Paints rules old ticket scene outs new (Some job) =
     }))
 
 -- the one thing that a step of the machine is
-abbrev pub Step : {C B S : Type 0} → Rules C B → (S → Pixels) → Document S → Event S → Outs S → Document S → Type 0
-Step rules paints old (Joined rights) outs new = Joins rules old rights outs new
-Step rules paints old (Left view) outs new = Leaves old view outs new
-Step rules paints old (Said view text) outs new = Says rules old view text outs new
-Step rules paints old Turned outs new = Works rules paints old outs new ⊎ (Rests rules old × (outs ≡ nothing) × (new ≡ old))
-Step rules paints old (Painted ticket scene) outs new = Paints rules old ticket scene outs new (find_job old.jobs ticket)
+abbrev pub Step : {C B S : Type 0} → Rules C B → (C → Place → S) → Document S → Event S → Outs S → Document S → Type 0
+Step rules cut old (Joined rights) outs new = Joins rules old rights outs new
+Step rules cut old (Left view) outs new = Leaves old view outs new
+Step rules cut old (Said view text) outs new = Says rules old view text outs new
+Step rules cut old Turned outs new = Works rules cut old outs new ⊎ (Rests rules old × (outs ≡ nothing) × (new ≡ old))
+Step rules cut old (Painted ticket scene) outs new = Paints rules old ticket scene outs new (find_job old.jobs ticket)
 
 -- the step of a broker that can be spent: only a broker that isn't makes one, and it isn't spent after it
-abbrev pub Goes : {C B S : Type 0} → Rules C B → (S → Pixels) → Option (Document S) → Event S → Outs S → Option (Document S) → Type 0
-Goes rules paints (Some old) event outs (Some new) = Step rules paints old event outs new
-Goes rules paints (Some old) event outs None = ⊥
-Goes rules paints None event outs new = ⊥
+abbrev pub Goes : {C B S : Type 0} → Rules C B → (C → Place → S) → Option (Document S) → Event S → Outs S → Option (Document S) → Type 0
+Goes rules cut (Some old) event outs (Some new) = Step rules cut old event outs new
+Goes rules cut (Some old) event outs None = ⊥
+Goes rules cut None event outs new = ⊥

@@ -17,6 +17,3 @@ pub fn formulas_are_those_of_the_grammar()
 pub fn one_expression_a_text()
     ensures { (raw : List ℕ) (one : Expr) (other : Expr) → IsFormula raw one → IsFormula raw other → one ≡ other }
 {}
-
-#[cfg(test)]
-mod tests;

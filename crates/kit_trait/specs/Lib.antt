@@ -1,3 +1,4 @@
+pub mod Keys
 pub mod Patch
 pub mod PatchLaws
 pub mod PatchSeen

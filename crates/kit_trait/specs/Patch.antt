@@ -48,7 +48,7 @@ shade squares part x y = if nat_eq part 0 && is_inside x y then slice_index squa
 abbrev pub grey : ℕ → Colour
 grey c = record { red = c; green = c; blue = c; alpha = 255 }
 
--- the colour of a point: its square's inside the document, white outside it
+-- the colour of a point, in both looks: its square's inside the document, white outside it
 abbrev pub colour_of : List ℕ → ℕ → ℕ → ℕ → Colour
 colour_of squares part x y = if nat_eq part 0 && is_inside x y then grey (slice_index squares (square_at x y)) else white
 
@@ -105,7 +105,7 @@ patch_rules =
       step = stepped;
       hurt = step_hurt;
       body = λ c. c.squares;
-      colour = colour_of;
+      colour = λ squares nviewid. colour_of squares;
       text = λ squares. squares;
       parts = λ squares. 1;
       size = λ squares part. record { w = 3840; h = 3840 };

@@ -22,8 +22,8 @@ pub record Rules (C B : Type 0) : Type 0 where
   pub hurt : C → Input → List Damage
   -- what is shown and saved of the contents
   pub body : C → B
-  -- the colour of the point (x, y) of a part
-  pub colour : B → ℕ → ℕ → ℕ → Colour
+  -- in the look that a number names, the colour of the point (x, y) of a part
+  pub colour : B → (nviewid part x y : ℕ) → Colour
   -- the file of a body
   pub text : B → List ℕ
   -- the number of parts, and the size of each
@@ -39,9 +39,9 @@ after rules c (input ∷ inputs) = after rules (rules.step c input) inputs
 abbrev pub doc : {C B : Type 0} → Rules C B → List ℕ → List Input → ℕ → C
 doc rules base journal n = after rules (rules.start base) (take n journal)
 
--- what a place shows
+-- what a place shows, in its look
 abbrev pub shown : {C B : Type 0} → Rules C B → C → Place → Pixels
-shown rules c p = picture (rules.colour (rules.body c)) p
+shown rules c p = picture (rules.colour (rules.body c) p.nviewid) p
 
 -- whether the damage has the point (x, y) of the part
 abbrev pub hurts_point : Damage → ℕ → ℕ → ℕ → Bool

@@ -7,10 +7,12 @@
 //! - `Pixels`, `Input`, `What`, `Damage`, `KitName`, `LoadFault` (`values`) go in and out.
 //! - `PaintJob`, `Done`, `paint` (`jobs`): a scene on its way to a painter, and its picture on the way
 //!   back.
+//! - `KeyCode`, `typed` (`keys`): what a key means by its code and by its char.
 //! - `PatchKit` (`patch`): the patch document, the smallest kind.
 #![tactic(auto)]
 
 mod jobs;
+mod keys;
 mod patch;
 mod patch_scene;
 #[cfg(test)]
@@ -19,6 +21,7 @@ mod traits;
 mod values;
 
 pub use jobs::{Done, PaintJob, paint};
+pub use keys::{KeyCode, typed};
 pub use patch::PatchKit;
 pub use patch_scene::PatchScene;
 pub use traits::{Kit, Scene};

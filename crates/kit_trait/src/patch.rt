@@ -95,9 +95,9 @@ fn read_squares(file: &[u8]) -> Option<[u8; 256]>
 impl Kit for PatchKit {
     type Scene = PatchScene;
 
-    ghost use Rattle.std.specs.Prelude.{◌≡◌, ℕ, List};
-    ghost use Rattle.kit_trait.specs.Patch.{Patches, patch_rules, IsPatch};
-    ghost use Rattle.kit_trait.specs.PatchSeen.{patches_of};
+    ghost use Rattle.std.specs.Prelude.{◌≡◌, ℕ, List, not};
+    ghost use Rattle.kit_trait.specs.Patch.{Patches, accepts_file, patch_rules, IsPatch};
+    ghost use Rattle.kit_trait.specs.PatchSeen.{patches_of, patch_cut};
 
     ghost Contents = { Patches };
 
@@ -108,6 +108,10 @@ impl Kit for PatchKit {
     ghost contents = { patches_of };
 
     ghost IsSound = { IsPatch };
+
+    ghost cut = { patch_cut };
+
+    ghost refuses = { λ file. not (accepts_file file) };
 
     fn load(alloc: Global, file: &[u8]) -> Result<PatchKit, LoadFault> {
         match read_squares(file) {
@@ -161,7 +165,9 @@ impl Kit for PatchKit {
 
     ghost sound_step = { law.sound_step };
 
-    ghost covered = { law.covered };
+    ghost covered = { λ c input nviewid. law.covered c input };
+
+    ghost pictures = { λ c place sound area part. law.refl };
 
     ghost within = { law.within };
 

@@ -42,6 +42,7 @@ fn first_tile(twips: u32) -> Option<TileKey> {
         tileposy: 0,
         tilewidth: twips,
         tileheight: twips,
+        nviewid: 0,
     })
 }
 

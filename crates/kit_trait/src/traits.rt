@@ -1,8 +1,9 @@
 //! `Kit` and `Scene` with their laws.
-ghost use Rattle.std.specs.Prelude.{◌≡◌, ℕ, ◌<◌, ◌≤◌, true, false, List, length, Ok, Err, IfOk, OnOk, OnErr};
+ghost use Rattle.std.specs.Prelude.{◌≡◌, ℕ, ◌<◌, ◌≤◌, Bool, true, false, List, length, Ok, Err, IfOk, OnOk, OnErr};
 ghost use Rattle.std.specs.List.{list_any, AllByRecursion};
 ghost use Rattle.kit_trait.specs.declared.values.Pixels.{Pixels as Painted};
 ghost use Rattle.kit_trait.specs.declared.values.Input.{Input as Typed};
+ghost use Rattle.tile_key.specs.Places.{Place, IsArea};
 ghost use Rattle.kit_trait.specs.Rules.{Rules, shown, hurts_point, IsWithin, ReadsAs};
 
 use crate::values::{Damage, Input, KitName, LoadFault, Pixels};
@@ -46,11 +47,19 @@ pub trait Kit: Sized + Drop + Send {
     /// What holds of all contents that a file and inputs lead to.
     ghost IsSound: { Contents → Type 0 };
 
-    /// The document of the file. BadFile exactly where the file is none of this kind.
+    /// The scene of a place: what it holds of the contents.
+    ghost cut: { Contents → Place → Self.Scene };
+
+    /// The files that are refused before memory is taken.
+    ghost refuses: { List ℕ → Bool };
+
+    /// The document of the file. BadFile exactly where the file is none of this kind; and where it is
+    /// refused before memory is taken, nothing else comes in its place.
     fn load(alloc: Global, file: &[u8]) -> Result<Self, LoadFault>
         ensures accepted { OnOk result (rules.accepts file.now ≡ true) }
         ensures ok { IfOk result (λ kit. contents kit ≡ rules.start file.now) }
-        ensures bad { result ≡ Err LoadFault.BadFile → rules.accepts file.now ≡ false };
+        ensures bad { result ≡ Err LoadFault.BadFile → rules.accepts file.now ≡ false }
+        ensures refused { refuses file.now ≡ true → result ≡ Err LoadFault.BadFile };
 
     /// The kind of document.
     fn name(&self) -> KitName
@@ -75,7 +84,7 @@ pub trait Kit: Sized + Drop + Send {
     /// What the area shows now. The contents stay.
     fn scene(&mut self, alloc: Global, area: &Area) -> Result<Self::Scene, Memory>
         requires { area.now.part < rules.parts (rules.body (contents self.old)) }
-        ensures picture { IfOk result (λ scene. Self.Scene.paints scene ≡ shown rules (contents self.old) area.now) }
+        ensures cut { IfOk result (λ scene. scene ≡ cut (contents self.old) area.now) }
         ensures kept { contents self.new ≡ contents self.old };
 
     /// The document as a file. The contents stay.
@@ -89,8 +98,16 @@ pub trait Kit: Sized + Drop + Send {
     /// Every input keeps them sound.
     ghost sound_step: { (c : Contents) (input : Typed) → IsSound c → IsSound (rules.step c input) };
 
-    /// A point in no damaged rectangle keeps its colour.
-    ghost covered: { (c : Contents) (input : Typed) (part x y : ℕ) → IsSound c → list_any (λ d. hurts_point d part x y) (rules.hurt c input) ≡ false → rules.colour (rules.body (rules.step c input)) part x y ≡ rules.colour (rules.body c) part x y };
+    /// In both looks, a point in no damaged rectangle keeps its colour.
+    ghost covered: { (c : Contents) (input : Typed) (nviewid part x y : ℕ) → IsSound c
+        → list_any (λ d. hurts_point d part x y) (rules.hurt c input) ≡ false
+        → rules.colour (rules.body (rules.step c input)) nviewid part x y
+        ≡ rules.colour (rules.body c) nviewid part x y };
+
+    /// The scene of a place of one of the parts has the picture that the place shows.
+    ghost pictures: { (c : Contents) (place : Place) → IsSound c → IsArea place
+        → place.part < rules.parts (rules.body c)
+        → Self.Scene.paints (cut c place) ≡ shown rules c place };
 
     /// Each damaged rectangle lies inside its part.
     ghost within: { (c : Contents) (input : Typed) → IsSound c → AllByRecursion (IsWithin rules c) (rules.hurt c input) };

@@ -20,19 +20,24 @@ use Rattle.cool_message.specs.declared.table.Field.{Field}
 use Rattle.cool_message.specs.declared.table.Kind.TheVariants as kind
 use Rattle.cool_message.specs.Names.{name_of}
 use Rattle.cool_message.specs.Table.{fields_of}
-use Rattle.cool_message.specs.Reading.{reading, fits, text_of, number_at, is_missing, is_bad, is_repeated, fault_of, message_from}
+use Rattle.tile_key.specs.Places.{look_of}
+use Rattle.tile_key.proofs.PlaceFacts.{look_same}
+use Rattle.cool_message.specs.Reading.{reading, fits, text_of, number_at, look_at, is_missing, is_bad, is_repeated, fault_of, message_from}
 use Rattle.cool_message.specs.Writing.{written, key_text, mouse_text, flag_text}
-use Rattle.message_laws.specs.Bounds.{IsMessage, IsSmall, IsAddress}
+use Rattle.message_laws.specs.Bounds.{IsMessage, IsSmall, IsLook, IsAddress}
 use Rattle.message_laws.proofs.Texts.{all_join, utf8_from_low}
 use Rattle.message_laws.proofs.Parts.{IsSound}
 use Rattle.message_laws.proofs.Numbers.{IsWritten, IsWrittenList, written_31, written_64, small_31, small_64, some_is, parts_hold, written_list, length_mapped, plain_digits}
-use Rattle.message_laws.proofs.KindLemmas.{sound_plain, good_key, good_mouse, good_flag, fits_key, fits_mouse, fits_flag, same_key, same_mouse, same_flag}
+use Rattle.message_laws.proofs.KindLemmas.{sound_plain, look_few, good_key, good_mouse, good_flag, fits_key, fits_mouse, fits_flag, same_key, same_mouse, same_flag}
 use Rattle.message_laws.proofs.Lines.{word_list, names}
 use Rattle.message_laws.proofs.Lookups.{Fit, fit_from_none, sound_text}
 use Rattle.message_laws.proofs.Again.{holds_of_said, tabled_again, uno_again}
 
 small_at : (list : List (List ℕ)) (text : List ℕ) → fits list kind.Number text ≡ true → number_at text < 2 ^ 31
 small_at list text h = small_31 text (number_at text) (some_is (number_31 text) h)
+
+look_at_few : (text : List ℕ) → IsLook (look_at text)
+look_at_few text = look_few (number_at text)
 
 -- how many numbers a list has, and that they are small
 record HasNumbers (P : ℕ → Type 0) (ns : List ℕ) (text : List ℕ) : Type 0 where
@@ -78,6 +83,7 @@ bounds_of command.Tile list sound fit = record {
   tileposy = small_at list (text_of list word.TilePosY) fit.1.1.1.1.0;
   tilewidth = small_at list (text_of list word.TileWidth) fit.1.1.1.1.1.0;
   tileheight = small_at list (text_of list word.TileHeight) fit.1.1.1.1.1.1.0;
+  nviewid = look_at_few (text_of list word.NViewId);
 }
 bounds_of command.TileCombine list sound fit =
     let down = and_parts (is_list number_31 (text_of list word.TilePosY)) (eqb (length (parts (text_of list word.TilePosY))) (length (parts (text_of list word.TilePosX)))) fit.1.1.1.1.0 in
@@ -93,6 +99,7 @@ bounds_of command.TileCombine list sound fit =
       as_many = ys.count ∙ eqb-true (length (parts (text_of list word.TilePosY))) (length (parts (text_of list word.TilePosX))) down.1 ∙ sym xs.count;
       tilewidth = small_at list (text_of list word.TileWidth) fit.1.1.1.1.1.0;
       tileheight = small_at list (text_of list word.TileHeight) fit.1.1.1.1.1.1.0;
+      nviewid = look_at_few (text_of list word.NViewId);
     }
 bounds_of command.CancelTiles list sound fit = tt
 bounds_of command.VisibleArea list sound fit = (
@@ -106,6 +113,7 @@ bounds_of command.Zoom list sound fit = (
   small_at list (text_of list word.TilePixelHeight) fit.1.0,
   small_at list (text_of list word.TileTwipWidth) fit.1.1.0,
   small_at list (text_of list word.TileTwipHeight) fit.1.1.1.0,
+  look_at_few (text_of list word.NViewId),
 )
 bounds_of command.SetPart list sound fit = small_at list (text_of list word.Part) fit.0
 bounds_of command.TileProcessed list sound fit =
@@ -155,6 +163,17 @@ number_text n small =
     let w = written_31 n small in
     record { fit = ap is_some w.back; sound = sound_plain (decimal n) (plain_digits (decimal n) w.digits); value = ap (λ o. unwrap_or o 0) w.back }
 
+-- a look as it is written
+record IsLookText (n : ℕ) : Type 0 where
+  pub fit : is_some (number_31 (decimal n)) ≡ true
+  pub sound : IsSound (decimal n)
+  pub value : look_at (decimal n) ≡ n
+
+look_text : (n : ℕ) → n ≤ 1 → IsLookText n
+look_text n few =
+    let w = number_text n (omega (arith, few)) in
+    record { fit = w.fit; sound = w.sound; value = ap look_of w.value ∙ look_same n few }
+
 all_written : {P : ℕ → Type 0} (read : List ℕ → Option ℕ) → ((n : ℕ) → P n → IsWritten read n) → (ns : List ℕ) → AllByRecursion P ns → AllByRecursion (IsWritten read) ns
 all_written read holds [] all = tt
 all_written read holds (n ∷ ns) all = (holds n all.0, all_written read holds ns all.1)
@@ -188,22 +207,24 @@ text_again (message.Tile t) h =
     let n4 = number_text t.tileposy h.tileposy in
     let n5 = number_text t.tilewidth h.tilewidth in
     let n6 = number_text t.tileheight h.tileheight in
-    said_by command.Tile (decimal t.part ∷ decimal t.width ∷ decimal t.height ∷ decimal t.tileposx ∷ decimal t.tileposy ∷ decimal t.tilewidth ∷ decimal t.tileheight ∷ []) (message.Tile t) refl refl (n0.fit, (n1.fit, (n2.fit, (n3.fit, (n4.fit, (n5.fit, (n6.fit, tt))))))) (n0.sound, (n1.sound, (n2.sound, (n3.sound, (n4.sound, (n5.sound, (n6.sound, tt))))))) (λ i. message.Tile (record { part = n0.value i; width = n1.value i; height = n2.value i; tileposx = n3.value i; tileposy = n4.value i; tilewidth = n5.value i; tileheight = n6.value i }))
+    let n7 = look_text t.nviewid h.nviewid in
+    said_by command.Tile (decimal t.part ∷ decimal t.width ∷ decimal t.height ∷ decimal t.tileposx ∷ decimal t.tileposy ∷ decimal t.tilewidth ∷ decimal t.tileheight ∷ decimal t.nviewid ∷ []) (message.Tile t) refl refl (n0.fit, (n1.fit, (n2.fit, (n3.fit, (n4.fit, (n5.fit, (n6.fit, (n7.fit, tt)))))))) (n0.sound, (n1.sound, (n2.sound, (n3.sound, (n4.sound, (n5.sound, (n6.sound, (n7.sound, tt)))))))) (λ i. message.Tile (record { part = n0.value i; width = n1.value i; height = n2.value i; tileposx = n3.value i; tileposy = n4.value i; tilewidth = n5.value i; tileheight = n6.value i; nviewid = n7.value i }))
 text_again (message.TileCombine t) h =
     let n0 = number_text t.part h.part in
     let n1 = number_text t.width h.width in
     let n2 = number_text t.height h.height in
     let n3 = number_text t.tilewidth h.tilewidth in
     let n4 = number_text t.tileheight h.tileheight in
+    let n5 = look_text t.nviewid h.nviewid in
     let some : 0 < length t.tileposx = h.many.0 in
     let few : length t.tileposx ≤ 1024 = h.many.1 in
     let same : length t.tileposy ≡ length t.tileposx = h.as_many in
     let xs = written_list number_31 t.tileposx some few (all_written number_31 written_31 t.tileposx h.tileposx) in
     let ys = written_list number_31 t.tileposy (omega arith) (omega arith) (all_written number_31 written_31 t.tileposy h.tileposy) in
-    said_by command.TileCombine (decimal t.part ∷ decimal t.width ∷ decimal t.height ∷ list_text t.tileposx ∷ list_text t.tileposy ∷ decimal t.tilewidth ∷ decimal t.tileheight ∷ []) (message.TileCombine t) refl refl
-    (n0.fit, (n1.fit, (n2.fit, (xs.is_list, (many_fits t.tileposx t.tileposy xs ys same, (n3.fit, (n4.fit, tt)))))))
-    (n0.sound, (n1.sound, (n2.sound, (sound_plain (list_text t.tileposx) xs.plain, (sound_plain (list_text t.tileposy) ys.plain, (n3.sound, (n4.sound, tt)))))))
-    (λ i. message.TileCombine (record { part = n0.value i; width = n1.value i; height = n2.value i; tileposx = xs.values i; tileposy = ys.values i; tilewidth = n3.value i; tileheight = n4.value i }))
+    said_by command.TileCombine (decimal t.part ∷ decimal t.width ∷ decimal t.height ∷ list_text t.tileposx ∷ list_text t.tileposy ∷ decimal t.tilewidth ∷ decimal t.tileheight ∷ decimal t.nviewid ∷ []) (message.TileCombine t) refl refl
+    (n0.fit, (n1.fit, (n2.fit, (xs.is_list, (many_fits t.tileposx t.tileposy xs ys same, (n3.fit, (n4.fit, (n5.fit, tt))))))))
+    (n0.sound, (n1.sound, (n2.sound, (sound_plain (list_text t.tileposx) xs.plain, (sound_plain (list_text t.tileposy) ys.plain, (n3.sound, (n4.sound, (n5.sound, tt))))))))
+    (λ i. message.TileCombine (record { part = n0.value i; width = n1.value i; height = n2.value i; tileposx = xs.values i; tileposy = ys.values i; tilewidth = n3.value i; tileheight = n4.value i; nviewid = n5.value i }))
 text_again message.CancelTiles h = said_by command.CancelTiles [] message.CancelTiles refl refl tt tt refl
 text_again (message.VisibleArea r) h =
     let n0 = number_text r.x h.0 in
@@ -211,12 +232,16 @@ text_again (message.VisibleArea r) h =
     let n2 = number_text r.w h.2 in
     let n3 = number_text r.h h.3 in
     said_by command.VisibleArea (decimal r.x ∷ decimal r.y ∷ decimal r.w ∷ decimal r.h ∷ []) (message.VisibleArea r) refl refl (n0.fit, (n1.fit, (n2.fit, (n3.fit, tt)))) (n0.sound, (n1.sound, (n2.sound, (n3.sound, tt)))) (λ i. message.VisibleArea (record { x = n0.value i; y = n1.value i; w = n2.value i; h = n3.value i }))
-text_again (message.Zoom pixel_w pixel_h twip_w twip_h) h =
+text_again (message.Zoom pixel_w pixel_h twip_w twip_h nviewid) h =
     let n0 = number_text pixel_w h.0 in
     let n1 = number_text pixel_h h.1 in
     let n2 = number_text twip_w h.2 in
     let n3 = number_text twip_h h.3 in
-    said_by command.Zoom (decimal pixel_w ∷ decimal pixel_h ∷ decimal twip_w ∷ decimal twip_h ∷ []) (message.Zoom pixel_w pixel_h twip_w twip_h) refl refl (n0.fit, (n1.fit, (n2.fit, (n3.fit, tt)))) (n0.sound, (n1.sound, (n2.sound, (n3.sound, tt)))) (λ i. message.Zoom (n0.value i) (n1.value i) (n2.value i) (n3.value i))
+    let n4 = look_text nviewid h.4 in
+    said_by command.Zoom (decimal pixel_w ∷ decimal pixel_h ∷ decimal twip_w ∷ decimal twip_h ∷ decimal nviewid ∷ []) (message.Zoom pixel_w pixel_h twip_w twip_h nviewid) refl refl
+    (n0.fit, (n1.fit, (n2.fit, (n3.fit, (n4.fit, tt)))))
+    (n0.sound, (n1.sound, (n2.sound, (n3.sound, (n4.sound, tt)))))
+    (λ i. message.Zoom (n0.value i) (n1.value i) (n2.value i) (n3.value i) (n4.value i))
 text_again (message.SetPart part) h =
     let n0 = number_text part h in
     said_by command.SetPart (decimal part ∷ []) (message.SetPart part) refl refl (n0.fit, tt) (n0.sound, tt) (λ i. message.SetPart (n0.value i))

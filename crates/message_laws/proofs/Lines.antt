@@ -43,6 +43,7 @@ names word.TilePixelWidth = record { clean = refl; low = refl; short = omega ari
 names word.TilePixelHeight = record { clean = refl; low = refl; short = omega arith }
 names word.TileTwipWidth = record { clean = refl; low = refl; short = omega arith }
 names word.TileTwipHeight = record { clean = refl; low = refl; short = omega arith }
+names word.NViewId = record { clean = refl; low = refl; short = omega arith }
 names word.Wids = record { clean = refl; low = refl; short = omega arith }
 names word.KeepEdit = record { clean = refl; low = refl; short = omega arith }
 names word.SkipUnmodified = record { clean = refl; low = refl; short = omega arith }

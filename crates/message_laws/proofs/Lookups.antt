@@ -17,7 +17,7 @@ use Rattle.cool_message.specs.Reading.{text_of, fits, is_missing, is_bad, is_rep
 use Rattle.cool_message.specs.Writing.{written, line}
 use Rattle.message_laws.proofs.Texts.{found, utf8_from_low}
 use Rattle.message_laws.proofs.Parts.{IsSound, sound_value}
-use Rattle.message_laws.proofs.KindLemmas.{canonical, Carries, good, fits_again, same_key, same_mouse, same_flag, same_number, same_numbers, same_many, same_wids, same_count}
+use Rattle.message_laws.proofs.KindLemmas.{canonical, Carries, good, fits_again, same_key, same_mouse, same_flag, same_number, same_look, same_numbers, same_many, same_wids, same_count}
 use Rattle.message_laws.proofs.Lines.{values_of, word_list, AreGood}
 
 abbrev pub written_words : Command → List (List ℕ) → List (List ℕ)
@@ -35,11 +35,11 @@ lookups command.CoolClient list all = tt
 lookups command.Load list all = ((refl, tt), tt)
 lookups command.Key list all = ((refl, tt), ((refl, tt), ((refl, tt), tt)))
 lookups command.Mouse list all = ((refl, tt), ((refl, tt), ((refl, tt), ((refl, tt), ((refl, tt), ((refl, tt), tt))))))
-lookups command.Tile list all = ((refl, tt), ((refl, tt), ((refl, tt), ((refl, tt), ((refl, tt), ((refl, tt), ((refl, tt), tt)))))))
-lookups command.TileCombine list all = ((refl, tt), ((refl, tt), ((refl, tt), ((refl, tt), ((refl, same_count list (text_of list word.TilePosX) all.1.1.1.0), ((refl, tt), ((refl, tt), tt)))))))
+lookups command.Tile list all = ((refl, tt), ((refl, tt), ((refl, tt), ((refl, tt), ((refl, tt), ((refl, tt), ((refl, tt), ((refl, tt), tt))))))))
+lookups command.TileCombine list all = ((refl, tt), ((refl, tt), ((refl, tt), ((refl, tt), ((refl, same_count list (text_of list word.TilePosX) all.1.1.1.0), ((refl, tt), ((refl, tt), ((refl, tt), tt))))))))
 lookups command.CancelTiles list all = tt
 lookups command.VisibleArea list all = ((refl, tt), ((refl, tt), ((refl, tt), ((refl, tt), tt))))
-lookups command.Zoom list all = ((refl, tt), ((refl, tt), ((refl, tt), ((refl, tt), tt))))
+lookups command.Zoom list all = ((refl, tt), ((refl, tt), ((refl, tt), ((refl, tt), ((refl, tt), tt)))))
 lookups command.SetPart list all = ((refl, tt), tt)
 lookups command.TileProcessed list all = ((refl, tt), tt)
 lookups command.Save list all = ((refl, tt), ((refl, tt), tt))
@@ -101,6 +101,7 @@ sound_default : (w : Word) → IsSound (unwrap_or (default_of w) [])
 sound_default word.Count = record { clean = refl; utf8 = utf8_from_low (codes "1") refl }
 sound_default word.Buttons = record { clean = refl; utf8 = utf8_from_low (codes "1") refl }
 sound_default word.Modifier = record { clean = refl; utf8 = utf8_from_low (codes "0") refl }
+sound_default word.NViewId = record { clean = refl; utf8 = utf8_from_low (codes "0") refl }
 sound_default word.KeepEdit = record { clean = refl; utf8 = utf8_from_low (codes "0") refl }
 sound_default word.SkipUnmodified = record { clean = refl; utf8 = utf8_from_low (codes "0") refl }
 sound_default w = record { clean = refl; utf8 = utf8_from_low [] refl }
@@ -159,7 +160,8 @@ same_message command.Tile list all =
     let e4 = same_number list (text_of list word.TilePosY) all.1.1.1.1.0 in
     let e5 = same_number list (text_of list word.TileWidth) all.1.1.1.1.1.0 in
     let e6 = same_number list (text_of list word.TileHeight) all.1.1.1.1.1.1.0 in
-    λ i. message.Tile (record { part = e0 i; width = e1 i; height = e2 i; tileposx = e3 i; tileposy = e4 i; tilewidth = e5 i; tileheight = e6 i })
+    let e7 = same_look (text_of list word.NViewId) in
+    λ i. message.Tile (record { part = e0 i; width = e1 i; height = e2 i; tileposx = e3 i; tileposy = e4 i; tilewidth = e5 i; tileheight = e6 i; nviewid = e7 i })
 same_message command.TileCombine list all =
     let e0 = same_number list (text_of list word.Part) all.0 in
     let e1 = same_number list (text_of list word.Width) all.1.0 in
@@ -168,7 +170,8 @@ same_message command.TileCombine list all =
     let e4 = same_many list (text_of list word.TilePosY) all.1.1.1.1.0 in
     let e5 = same_number list (text_of list word.TileWidth) all.1.1.1.1.1.0 in
     let e6 = same_number list (text_of list word.TileHeight) all.1.1.1.1.1.1.0 in
-    λ i. message.TileCombine (record { part = e0 i; width = e1 i; height = e2 i; tileposx = e3 i; tileposy = e4 i; tilewidth = e5 i; tileheight = e6 i })
+    let e7 = same_look (text_of list word.NViewId) in
+    λ i. message.TileCombine (record { part = e0 i; width = e1 i; height = e2 i; tileposx = e3 i; tileposy = e4 i; tilewidth = e5 i; tileheight = e6 i; nviewid = e7 i })
 same_message command.CancelTiles list all = refl
 same_message command.VisibleArea list all =
     let e0 = same_number list (text_of list word.X) all.0 in
@@ -181,7 +184,8 @@ same_message command.Zoom list all =
     let e1 = same_number list (text_of list word.TilePixelHeight) all.1.0 in
     let e2 = same_number list (text_of list word.TileTwipWidth) all.1.1.0 in
     let e3 = same_number list (text_of list word.TileTwipHeight) all.1.1.1.0 in
-    λ i. message.Zoom (e0 i) (e1 i) (e2 i) (e3 i)
+    let e4 = same_look (text_of list word.NViewId) in
+    λ i. message.Zoom (e0 i) (e1 i) (e2 i) (e3 i) (e4 i)
 same_message command.SetPart list all =
     let e0 = same_number list (text_of list word.Part) all.0 in
     λ i. message.SetPart (e0 i)

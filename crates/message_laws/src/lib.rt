@@ -2,9 +2,6 @@
 //! contract is the law.
 #![tactic(auto)]
 
-#[cfg(test)]
-mod tests;
-
 ghost use Rattle.std.specs.Prelude.{◌≡◌, ℕ, List, Ok};
 ghost use Rattle.cool_message.specs.Reading.{reading};
 ghost use Rattle.cool_message.specs.Writing.{written};

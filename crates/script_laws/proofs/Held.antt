@@ -12,7 +12,7 @@ use Rattle.document_machine.specs.State.{Document, opening}
 use Rattle.document_machine.specs.declared.outs.Outs.{Outs}
 use Rattle.document_machine.proofs.Runs.{segments}
 use Rattle.kit_trait.specs.Rules.{Rules}
-use Rattle.kit_trait.specs.declared.values.Pixels.{Pixels}
+use Rattle.tile_key.specs.Places.{Place}
 use Rattle.script_world.specs.House.{House}
 use Rattle.script_world.specs.Seats.{Seats, nobody, tells, records}
 use Rattle.script_world.proofs.Ids.{HasLink}
@@ -33,10 +33,10 @@ all_sent_more links more (piece ∷ pieces) all = (sent_more links more piece al
 written_more : (out here : List ℕ) (pieces more : List Piece) → out ≡ flat_map bytes_of pieces → here ≡ flat_map bytes_of more → out ++ here ≡ flat_map bytes_of (pieces ++ more)
 written_more out here pieces more a b = ap (λ (x : List ℕ). x ++ here) a ∙ ap (λ (x : List ℕ). flat_map bytes_of pieces ++ x) b ∙ sym (flat_map-append bytes_of pieces more)
 
-module _ {C B S : Type 0} (rules : Rules C B) (paints : S → Pixels) where
+module _ {C B S : Type 0} (rules : Rules C B) (cut : C → Place → S) where
   -- the transcript so far, to a document with these seats
   abbrev pub IsHeld : List ℕ → Seats → Option (Document S) → Type 0
-  IsHeld out seats document = IsPlayed rules paints out seats document
+  IsHeld out seats document = IsPlayed rules cut out seats document
 
   abbrev pub Holds : List ℕ → House S → Type 0
   Holds out house = IsHeld out house.seats house.document
@@ -71,7 +71,7 @@ module _ {C B S : Type 0} (rules : Rules C B) (paints : S → Pixels) where
         each = all_join (IsSent held.links) held.pieces (Lobby link answer ∷ []) held.each (is, tt);
         seated = held.seated;
         begun = held.begun;
-        run = subst (λ (frames : List (ViewId × Frame)). IsRunTo rules paints frames document) (sym given) held.run;
+        run = subst (λ (frames : List (ViewId × Frame)). IsRunTo rules cut frames document) (sym given) held.run;
       }
 
   -- the document is loaded
@@ -87,24 +87,24 @@ module _ {C B S : Type 0} (rules : Rules C B) (paints : S → Pixels) where
   }
 
   -- a run goes on
-  run_on : (frames more : List (ViewId × Frame)) (d e : Document S) (events : List (Event S)) (outs : Outs S) → IsRun rules paints frames d → Segment rules paints d events outs e → more ≡ outs.frames → IsRun rules paints (frames ++ more) e
+  run_on : (frames more : List (ViewId × Frame)) (d e : Document S) (events : List (Event S)) (outs : Outs S) → IsRun rules cut frames d → Segment rules cut d events outs e → more ≡ outs.frames → IsRun rules cut (frames ++ more) e
   run_on frames more d e events outs run goes is = record {
     file = run.file;
     events = run.events ++ events;
     outs = joined run.outs outs;
     accepted = run.accepted;
-    follows = segments rules paints (opening run.file []) run.events events run.outs outs d e run.follows goes;
+    follows = segments rules cut (opening run.file []) run.events events run.outs outs d e run.follows goes;
     frames_are = ap (λ (x : List (ViewId × Frame)). x ++ more) run.frames_are ∙ ap (λ (x : List (ViewId × Frame)). run.outs.frames ++ x) is;
   }
 
   -- The document goes on, and its frames are written. The links of the views that joined are behind the others.
   pub gave : (out : List ℕ) (seats now : Seats) (d e : Document S) (events : List (Event S)) (outs : Outs S) (more : List ℕ) (held : IsHeld out seats (Some d))
-      → Segment rules paints d events outs e → AllTo (HasLink now.views) outs.frames → AreSeated (held.links ++ more) now.views → length (held.links ++ more) ≡ e.next_view
+      → Segment rules cut d events outs e → AllTo (HasLink now.views) outs.frames → AreSeated (held.links ++ more) now.views → length (held.links ++ more) ≡ e.next_view
       → IsHeld (out ++ records now outs.frames) now (Some e)
   gave out seats now d e events outs more held goes to seated begun =
       let here : AsPieces (held.links ++ more) (records now outs.frames) outs.frames = as_pieces (held.links ++ more) now outs.frames seated to in
       let frames : flat_map given_of (held.pieces ++ here.pieces) ≡ flat_map given_of held.pieces ++ flat_map given_of here.pieces = flat_map-append given_of held.pieces here.pieces in
-      let run : IsRun rules paints (flat_map given_of held.pieces ++ flat_map given_of here.pieces) e = run_on (flat_map given_of held.pieces) (flat_map given_of here.pieces) d e events outs held.run goes here.given in
+      let run : IsRun rules cut (flat_map given_of held.pieces ++ flat_map given_of here.pieces) e = run_on (flat_map given_of held.pieces) (flat_map given_of here.pieces) d e events outs held.run goes here.given in
       record {
         pieces = held.pieces ++ here.pieces;
         links = held.links ++ more;
@@ -112,12 +112,12 @@ module _ {C B S : Type 0} (rules : Rules C B) (paints : S → Pixels) where
         each = all_join (IsSent (held.links ++ more)) held.pieces here.pieces (all_sent_more held.links more held.pieces held.each) here.each;
         seated = seated;
         begun = begun;
-        run = subst (λ (x : List (ViewId × Frame)). IsRun rules paints x e) (sym frames) run;
+        run = subst (λ (x : List (ViewId × Frame)). IsRun rules cut x e) (sym frames) run;
       }
 
   -- the same where no view joins
   pub gave_on : (out : List ℕ) (seats : Seats) (d e : Document S) (events : List (Event S)) (outs : Outs S) → IsHeld out seats (Some d)
-      → Segment rules paints d events outs e → AllTo (HasLink seats.views) outs.frames → e.next_view ≡ d.next_view
+      → Segment rules cut d events outs e → AllTo (HasLink seats.views) outs.frames → e.next_view ≡ d.next_view
       → IsHeld (out ++ records seats outs.frames) seats (Some e)
   gave_on out seats d e events outs held goes to same =
       let links : held.links ++ [] ≡ held.links = append-nil held.links in

@@ -24,7 +24,6 @@ use Rattle.document_machine.specs.declared.outs.Outs.{Outs}
 use Rattle.document_machine.specs.declared.rights.Rights.{Rights}
 use Rattle.kit_trait.specs.Rules.{Rules, doc, shown}
 use Rattle.kit_trait.specs.declared.values.Damage.{Damage}
-use Rattle.kit_trait.specs.declared.values.Pixels.{Pixels}
 use Rattle.tile_key.specs.Places.{Place, same_place}
 use Rattle.script_laws.specs.LastTiles.{tile_in, later_one, last_tile}
 
@@ -246,7 +245,7 @@ unchanged views id v w live later =
     let eq : v ≡ w = cc in
     subst (λ (x : View). Stays v.screen x.screen) eq (same_stays v.screen)
 
-module _ {C B S : Type 0} (rules : Rules C B) (paints : S → Pixels) where
+module _ {C B S : Type 0} (rules : Rules C B) (cut : C → Place → S) where
   abbrev AllTell : List View → Outs S → Document S → Type 0
   AllTell views outs new = (id : ℕ) (v w : View) → find_view views id ≡ Some v → find_view new.views id ≡ Some w → Tells id v.screen w.screen outs.frames
 
@@ -295,7 +294,7 @@ module _ {C B S : Type 0} (rules : Rules C B) (paints : S → Pixels) where
             none_tells id v.screen w.screen (tile_frame rules old version key view ∷ []) (other_frame rules old version key view id away) (subst (λ (x : View). Stays v.screen x.screen) eq (same_stays v.screen))
       ]
 
-  works_tell : (old new : Document S) (outs : Outs S) → Works rules paints old outs new → AllTell old.views outs new
+  works_tell : (old new : Document S) (outs : Outs S) → Works rules cut old outs new → AllTell old.views outs new
   works_tell old new outs works =
       elim works [
         | inl applies ↦ no_tile old.views old.views (told old.views (rules.hurt (doc rules old.base old.journal old.applied) applies.input)) outs new (ap (λ o. o.frames) applies.outs_are) (ap (λ e. e.views) applies.new_is)
@@ -322,7 +321,7 @@ module _ {C B S : Type 0} (rules : Rules C B) (paints : S → Pixels) where
             (λ id v w live later. all_tiles rules old job.number job.keys old.views id v w whole.kept.ids live later)
       ]
 
-  pub steps_tell : (old new : Document S) (event : Event S) (outs : Outs S) → IsWhole rules old → Step rules paints old event outs new → AllTell old.views outs new
+  pub steps_tell : (old new : Document S) (event : Event S) (outs : Outs S) → IsWhole rules old → Step rules cut old event outs new → AllTell old.views outs new
   steps_tell old new (Joined rights) outs whole step = join_tells old new rights outs (nat_lt (length old.views) 64) step
   steps_tell old new (Left view) outs whole step =
       no_tile old.views (without_view old.views view) [] outs new (ap (λ o. o.frames) step.0) (ap (λ e. e.views) step.1) (λ id key. refl)

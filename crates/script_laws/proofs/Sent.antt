@@ -69,7 +69,7 @@ module _ {C B S : Type 0} (rules : Rules C B) (d : Document S) (n : ℕ) where
   no_offered [] views id none = none
   no_offered (key ∷ keys) views id none = no_offered keys (map (offered rules d n key) views) id (no_map views (offered rules d n key) (offered_id rules d n key) id none)
 
-module _ {C B S : Type 0} (rules : Rules C B) (paints : S → Pixels) where
+module _ {C B S : Type 0} (rules : Rules C B) (cut : C → Place → S) where
   -- a view that wasn't there before a step is new behind it
   abbrev Newcomers : Document S → Document S → Type 0
   Newcomers old new = (id : ℕ) → find_view old.views id ≡ None → IsNew (find_view new.views id)
@@ -89,7 +89,7 @@ module _ {C B S : Type 0} (rules : Rules C B) (paints : S → Pixels) where
   took_new old to (Acknowledges wids) id none = no_with old.views to (acknowledged wids) (λ v. refl) id none
   took_new old to Passes id none = none
 
-  works_new : (old new : Document S) (outs : Outs S) → Works rules paints old outs new → Newcomers old new
+  works_new : (old new : Document S) (outs : Outs S) → Works rules cut old outs new → Newcomers old new
   works_new old new outs works =
       elim works [
         | inl applies ↦ none_new old new old.views (ap (λ e. e.views) applies.new_is) (λ id none. none)
@@ -117,7 +117,7 @@ module _ {C B S : Type 0} (rules : Rules C B) (paints : S → Pixels) where
         | inr taken ↦ none_new old new (views_offered rules old job.number job.keys old.views) (ap (λ e. e.views) taken.2) (λ id none. no_offered rules old job.number job.keys old.views id none)
       ]
 
-  steps_new : (old new : Document S) (event : Event S) (outs : Outs S) → IsWhole rules old → Step rules paints old event outs new → Newcomers old new
+  steps_new : (old new : Document S) (event : Event S) (outs : Outs S) → IsWhole rules old → Step rules cut old event outs new → Newcomers old new
   steps_new old new (Joined rights) outs whole step id none = join_new old new rights outs (nat_lt (length old.views) 64) step id none
   steps_new old new (Left view) outs whole step id none =
       let go : (o : Option View) → find_view new.views id ≡ o → IsNew o = elim [
@@ -138,7 +138,7 @@ module _ {C B S : Type 0} (rules : Rules C B) (paints : S → Pixels) where
   abbrev pub AreTold : List (ViewId × Frame) → Document S → Type 0
   AreTold frames d = (id : ℕ) (w : View) (key : Place) (version : ℕ) → find_view d.views id ≡ Some w → version_of w.screen key ≡ Some version → (rgba : List ℕ) × (last_tile id key frames ≡ Some (version, rgba))
 
-  step_told : (frames : List (ViewId × Frame)) (old new : Document S) (event : Event S) (outs : Outs S) → IsWhole rules old → AreTold frames old → Step rules paints old event outs new → AreTold (frames ++ outs.frames) new
+  step_told : (frames : List (ViewId × Frame)) (old new : Document S) (event : Event S) (outs : Outs S) → IsWhole rules old → AreTold frames old → Step rules cut old event outs new → AreTold (frames ++ outs.frames) new
   step_told frames old new event outs whole told step id w key version live on =
       let both : last_tile id key (frames ++ outs.frames) ≡ later_one (last_tile id key outs.frames) (last_tile id key frames) = last_append id key frames outs.frames in
       let go : (o : Option View) → find_view old.views id ≡ o → (rgba : List ℕ) × (last_tile id key (frames ++ outs.frames) ≡ Some (version, rgba)) = elim [
@@ -146,7 +146,7 @@ module _ {C B S : Type 0} (rules : Rules C B) (paints : S → Pixels) where
             let empty : w.screen ≡ [] = subst IsNew live (steps_new old new event outs whole step id none) in
             absurd (let odd : None ≡ Some version = ap (λ (s : List Shown). version_of s key) (sym empty) ∙ on in cc)
         | Some v ↦ λ there.
-            elim (steps_tell rules paints old new event outs whole step id v w there live key version on) [
+            elim (steps_tell rules cut old new event outs whole step id v w there live key version on) [
               | inl last ↦ (last.0, both ∙ ap (λ (o : Option (ℕ × List ℕ)). later_one o (last_tile id key frames)) last.1)
               | inr before ↦
                   let had = told id v key version there before.1 in
@@ -155,8 +155,8 @@ module _ {C B S : Type 0} (rules : Rules C B) (paints : S → Pixels) where
       ] in
       go (find_view old.views id) refl
 
-  run_told : (keeps : (old new : Document S) (event : Event S) (outs : Outs S) → Step rules paints old event outs new → IsWhole rules old → IsWhole rules new)
-      → (events : List (Event S)) (frames : List (ViewId × Frame)) (old new : Document S) (outs : Outs S) → IsWhole rules old → AreTold frames old → Segment rules paints old events outs new → AreTold (frames ++ outs.frames) new
+  run_told : (keeps : (old new : Document S) (event : Event S) (outs : Outs S) → Step rules cut old event outs new → IsWhole rules old → IsWhole rules new)
+      → (events : List (Event S)) (frames : List (ViewId × Frame)) (old new : Document S) (outs : Outs S) → IsWhole rules old → AreTold frames old → Segment rules cut old events outs new → AreTold (frames ++ outs.frames) new
   run_told keeps [] frames old new outs whole told run =
       subst (λ (o : Outs S). AreTold (frames ++ o.frames) new) (sym run.0)
       (subst (AreTold (frames ++ [])) (sym run.1) (subst (λ (x : List (ViewId × Frame)). AreTold x old) (sym (append-nil frames)) told))
@@ -197,7 +197,7 @@ module _ {C B : Type 0} (rules : Rules C B) (base : List ℕ) (journal : List In
   last_shows id key [] all = tt
   last_shows id key (given ∷ frames) all = later_shows key (last_tile id key frames) (tile_in id key given) (last_shows id key frames all.1) (frame_shows id key given all.0)
 
-module _ {C B S : Type 0} (rules : Rules C B) (paints : S → Pixels) (d : Document S) (frames : List (ViewId × Frame)) (told : AreTold rules paints frames d) (shows : AllByRecursion (IsShown rules d.base d.journal (length d.journal)) frames) where
+module _ {C B S : Type 0} (rules : Rules C B) (cut : C → Place → S) (d : Document S) (frames : List (ViewId × Frame)) (told : AreTold rules cut frames d) (shows : AllByRecursion (IsShown rules d.base d.journal (length d.journal)) frames) where
   -- a pair that is right
   right_painted : (view : View) (key : Place) → find_view d.views view.id ≡ Some view → IsRight rules d view key → IsPainted rules d frames view key
   right_painted view key live right =
@@ -230,10 +230,10 @@ all_found [] order = tt
 all_found (view ∷ views) order = (found_self view views, all_behind view views views order.0 (all_found views order.1))
 
 -- a run's frames, in a quiet document
-pub run_painted : {C B S : Type 0} (rules : Rules C B) (paints : S → Pixels) (keeps : (old new : Document S) (event : Event S) (outs : Outs S) → Step rules paints old event outs new → IsWhole rules old → IsWhole rules new)
-    → (events : List (Event S)) (file : List ℕ) (d : Document S) (outs : Outs S) → IsWhole rules (opening {S = S} file []) → Segment rules paints (opening file []) events outs d → IsWhole rules d
+pub run_painted : {C B S : Type 0} (rules : Rules C B) (cut : C → Place → S) (keeps : (old new : Document S) (event : Event S) (outs : Outs S) → Step rules cut old event outs new → IsWhole rules old → IsWhole rules new)
+    → (events : List (Event S)) (file : List ℕ) (d : Document S) (outs : Outs S) → IsWhole rules (opening {S = S} file []) → Segment rules cut (opening file []) events outs d → IsWhole rules d
     → AllByRecursion (IsShown rules d.base d.journal (length d.journal)) outs.frames → AllRight rules d
     → AllByRecursion (λ (view : View). AllByRecursion (IsPainted rules d outs.frames view) (keys rules d view)) d.views
-run_painted {C} {B} {S} rules paints keeps events file d outs begins run whole shows right =
-    let told : AreTold rules paints outs.frames d = run_told rules paints keeps events [] (opening file []) d outs begins (λ id w key version live on. absurd (cc)) run in
-    views_painted rules paints d outs.frames told shows d.views (all_found d.views whole.kept.ids) right
+run_painted {C} {B} {S} rules cut keeps events file d outs begins run whole shows right =
+    let told : AreTold rules cut outs.frames d = run_told rules cut keeps events [] (opening file []) d outs begins (λ id w key version live on. absurd (cc)) run in
+    views_painted rules cut d outs.frames told shows d.views (all_found d.views whole.kept.ids) right

@@ -16,7 +16,7 @@ use Rattle.document_machine.specs.Kept.{IsKept}
 use Rattle.document_machine.specs.Quiet.{IsQuiet, AllRight}
 use Rattle.document_machine.specs.State.{Document, opening}
 use Rattle.kit_trait.specs.Rules.{Rules}
-use Rattle.kit_trait.specs.declared.values.Pixels.{Pixels}
+use Rattle.tile_key.specs.Places.{Place as TilePlace}
 use Rattle.script_lines.specs.Grammar.{line_of, verdict}
 use Rattle.script_lines.specs.Places.{Place}
 use Rattle.script_run.specs.Transcript.{Runs}
@@ -41,7 +41,7 @@ no_tile answer (inl said) = subst IsNoTile (sym said.1) (no_tile_of said.0 (read
 no_tile answer (inr (inl bad)) = subst IsNoTile (sym bad) tt
 no_tile answer (inr (inr full)) = subst IsNoTile (sym full) tt
 
-module _ {C B S : Type 0} (rules : Rules C B) (paints : S → Pixels) where
+module _ {C B S : Type 0} (rules : Rules C B) (cut : C → TilePlace → S) where
   -- from frames to records
   all_show : (links : List ℕ) (document : Option (Document S)) (pieces : List Piece) → AllByRecursion (IsSent links) pieces → AllByRecursion (ShowsPrefix rules document) (flat_map given_of pieces) → AllByRecursion (Shows rules document) pieces
   all_show links document [] sent shown = tt
@@ -49,57 +49,57 @@ module _ {C B S : Type 0} (rules : Rules C B) (paints : S → Pixels) where
   all_show links document (Given link view frame ∷ pieces) sent shown = (shown.0, all_show links document pieces sent.1 shown.1)
 
   -- the document of a run is whole
-  pub run_whole : ((base : List ℕ) → 0 < parts_of rules base) → (frames : List (ViewId × Frame)) (d : Document S) → IsRun rules paints frames d → IsWhole rules d
-  run_whole some frames d run = runs_keep rules paints some run.events (opening run.file []) d run.outs run.follows (opening_is_whole S rules run.file [] run.accepted)
+  pub run_whole : ((base : List ℕ) → 0 < parts_of rules base) → (frames : List (ViewId × Frame)) (d : Document S) → IsRun rules cut frames d → IsWhole rules d
+  run_whole some frames d run = runs_keep rules cut some run.events (opening run.file []) d run.outs run.follows (opening_is_whole S rules run.file [] run.accepted)
 
-  frames_show : ((base : List ℕ) → 0 < parts_of rules base) → (frames : List (ViewId × Frame)) (document : Option (Document S)) → IsRunTo rules paints frames document → AllByRecursion (ShowsPrefix rules document) frames
+  frames_show : ((base : List ℕ) → 0 < parts_of rules base) → (frames : List (ViewId × Frame)) (document : Option (Document S)) → IsRunTo rules cut frames document → AllByRecursion (ShowsPrefix rules document) frames
   frames_show some frames None run = subst (AllByRecursion (ShowsPrefix {S = S} rules None)) (sym run) tt
   frames_show some frames (Some d) run =
       subst (AllByRecursion (ShowsPrefix rules (Some d))) (sym run.frames_are)
-      (run_shows rules paints some run.events (opening run.file []) d run.outs (opening_is_whole S rules run.file [] run.accepted) run.follows)
+      (run_shows rules cut some run.events (opening run.file []) d run.outs (opening_is_whole S rules run.file [] run.accepted) run.follows)
 
-  pub transcript_shows : ((base : List ℕ) → 0 < parts_of rules base) → (out : List ℕ) (seats : Seats) (document : Option (Document S)) (played : IsPlayed rules paints out seats document) → AllByRecursion (Shows rules document) played.pieces
+  pub transcript_shows : ((base : List ℕ) → 0 < parts_of rules base) → (out : List ℕ) (seats : Seats) (document : Option (Document S)) (played : IsPlayed rules cut out seats document) → AllByRecursion (Shows rules document) played.pieces
   transcript_shows some out seats document played = all_show played.links document played.pieces played.each (frames_show some (flat_map given_of played.pieces) document played.run)
 
   -- the line `settle` acts anywhere, and settles the world
-  settled_by : (place : Place) (world : Seen S) (out : List ℕ) (t : Standing S) → DoesBy rules paints (verdict place (codes "settle")) world out t → Settled rules paints world out t.world
+  settled_by : (place : Place) (world : Seen S) (out : List ℕ) (t : Standing S) → DoesBy rules cut (verdict place (codes "settle")) world out t → Settled rules cut world out t.world
   unfolding line_of
   settled_by place world out t does = does.0
 
-  acting_settles : (s : Standing S) (out : List ℕ) (t : Standing S) → Acting rules paints s (codes "settle") out t → Settled rules paints s.world out t.world
+  acting_settles : (s : Standing S) (out : List ℕ) (t : Standing S) → Acting rules cut s (codes "settle") out t → Settled rules cut s.world out t.world
   unfolding Acting
   acting_settles s out t acts = settled_by s.place s.world out t acts
 
-  pub settled_rests : (lines : List (List ℕ)) (out : List ℕ) (t : Standing S) → Runs (Acting rules paints) first (lines ++ codes "settle" ∷ []) out t → (t.world.waiting ≡ []) × IsAtRest rules t.world.house.document
+  pub settled_rests : (lines : List (List ℕ)) (out : List ℕ) (t : Standing S) → Runs (Acting rules cut) first (lines ++ codes "settle" ∷ []) out t → (t.world.waiting ≡ []) × IsAtRest rules t.world.house.document
   settled_rests lines out t runs =
-      let at = last_of (Acting rules paints) first lines (codes "settle") out t runs in
-      let settled : Settled rules paints at.0.world at.1 t.world = acting_settles at.0 at.1 t at.2 in
+      let at = last_of (Acting rules cut) first lines (codes "settle") out t runs in
+      let settled : Settled rules cut at.0.world at.1 t.world = acting_settles at.0 at.1 t at.2 in
       (settled.none_waits, settled.rests)
 
   -- in a quiet document the last tiles are the document from scratch
-  pub painted : (some : (base : List ℕ) → 0 < parts_of rules base) (out : List ℕ) (seats : Seats) (d : Document S) (played : IsPlayed rules paints out seats (Some d)) → AllRight rules d → ArePainted rules (Some d) (flat_map given_of played.pieces)
+  pub painted : (some : (base : List ℕ) → 0 < parts_of rules base) (out : List ℕ) (seats : Seats) (d : Document S) (played : IsPlayed rules cut out seats (Some d)) → AllRight rules d → ArePainted rules (Some d) (flat_map given_of played.pieces)
   painted some out seats d played right =
-      let run : IsRun rules paints (flat_map given_of played.pieces) d = played.run in
+      let run : IsRun rules cut (flat_map given_of played.pieces) d = played.run in
       let begins : IsWhole rules (opening {S = S} run.file []) = opening_is_whole S rules run.file [] run.accepted in
       subst (ArePainted rules (Some d)) (sym run.frames_are)
-      (run_painted rules paints (steps_keep rules paints some) run.events run.file d run.outs begins run.follows (run_whole some (flat_map given_of played.pieces) d run)
-      (run_shows rules paints some run.events (opening run.file []) d run.outs begins run.follows) right)
+      (run_painted rules cut (steps_keep rules cut some) run.events run.file d run.outs begins run.follows (run_whole some (flat_map given_of played.pieces) d run)
+      (run_shows rules cut some run.events (opening run.file []) d run.outs begins run.follows) right)
 
-  painted_at : (some : (base : List ℕ) → 0 < parts_of rules base) (out : List ℕ) (seats : Seats) (document : Option (Document S)) → IsAtRest rules document → (played : IsPlayed rules paints out seats document) → ArePainted rules document (flat_map given_of played.pieces)
+  painted_at : (some : (base : List ℕ) → 0 < parts_of rules base) (out : List ℕ) (seats : Seats) (document : Option (Document S)) → IsAtRest rules document → (played : IsPlayed rules cut out seats document) → ArePainted rules document (flat_map given_of played.pieces)
   painted_at some out seats None rests played = tt
   painted_at some out seats (Some d) rests played = painted some out seats d played rests.1
 
-  pub settled_painted : (some : (base : List ℕ) → 0 < parts_of rules base) (lines : List (List ℕ)) (out : List ℕ) (t : Standing S) → Runs (Acting rules paints) first (lines ++ codes "settle" ∷ []) out t
-      → (played : IsPlayed rules paints out t.world.house.seats t.world.house.document) → ArePainted rules t.world.house.document (flat_map given_of played.pieces)
+  pub settled_painted : (some : (base : List ℕ) → 0 < parts_of rules base) (lines : List (List ℕ)) (out : List ℕ) (t : Standing S) → Runs (Acting rules cut) first (lines ++ codes "settle" ∷ []) out t
+      → (played : IsPlayed rules cut out t.world.house.seats t.world.house.document) → ArePainted rules t.world.house.document (flat_map given_of played.pieces)
   settled_painted some lines out t runs played = painted_at some out t.world.house.seats t.world.house.document (settled_rests lines out t runs).1 played
 
   -- a transcript is right
-  painted_now : (some : (base : List ℕ) → 0 < parts_of rules base) (quiet : (d : Document S) → IsKept rules d → IsQuiet rules d → AllRight rules d) (out : List ℕ) (seats : Seats) (document : Option (Document S)) (played : IsPlayed rules paints out seats document)
+  painted_now : (some : (base : List ℕ) → 0 < parts_of rules base) (quiet : (d : Document S) → IsKept rules d → IsQuiet rules d → AllRight rules d) (out : List ℕ) (seats : Seats) (document : Option (Document S)) (played : IsPlayed rules cut out seats document)
       → IsQuietNow rules document → ArePainted rules document (flat_map given_of played.pieces)
   painted_now some quiet out seats None played still = tt
   painted_now some quiet out seats (Some d) played still = painted some out seats d played (quiet d (run_whole some (flat_map given_of played.pieces) d played.run).kept still)
 
-  pub transcript_right : (some : (base : List ℕ) → 0 < parts_of rules base) (quiet : (d : Document S) → IsKept rules d → IsQuiet rules d → AllRight rules d) (out : List ℕ) (seats : Seats) (document : Option (Document S)) → IsPlayed rules paints out seats document → IsTranscript rules paints out seats document
+  pub transcript_right : (some : (base : List ℕ) → 0 < parts_of rules base) (quiet : (d : Document S) → IsKept rules d → IsQuiet rules d → AllRight rules d) (out : List ℕ) (seats : Seats) (document : Option (Document S)) → IsPlayed rules cut out seats document → IsTranscript rules cut out seats document
   transcript_right some quiet out seats document played = record {
     played = played;
     tiles = transcript_shows some out seats document played;

@@ -16,7 +16,7 @@ use Rattle.document_machine.specs.declared.rights.Rights.{Rights}
 use Rattle.document_machine.proofs.Runs.{nothing_last}
 use Rattle.kit_trait.specs.Rules.{Rules}
 use Rattle.kit_trait.specs.declared.jobs.PaintJob.{PaintJob}
-use Rattle.kit_trait.specs.declared.values.Pixels.{Pixels}
+use Rattle.tile_key.specs.Places.{Place}
 use Rattle.script_world.specs.House.{House, rights, JoinsWhere, BeginsWhere, LoadsOne, LoadsWhere, seated, lobby_tells, SaysAs, LeavesAs, TakesOne, TakesFirst, painted_all, WorksAtOnce, TurnsDocument, PollTurn, ids_of, IsSeated, IsHousedBy, IsHoused}
 use Rattle.script_world.specs.Seats.{Seats, view_of, is_waiting, enters, sits, without, tells, records, lobby_frame, bad_file, views_full}
 use Rattle.script_world.specs.declared.event.Waiting.{Waiting}
@@ -41,11 +41,11 @@ next-took rules d id (GoesTo part) = refl
 next-took rules d id (Acknowledges wids) = refl
 next-took rules d id Passes = refl
 
-module _ {C B S : Type 0} (rules : Rules C B) (paints : S → Pixels) where
+module _ {C B S : Type 0} (rules : Rules C B) (cut : C → Place → S) where
   abbrev Next : Document S → ℕ
   Next d = d.next_view
 
-  next-works : (old new : Document S) (outs : Outs S) → Works rules paints old outs new → new.next_view ≡ old.next_view
+  next-works : (old new : Document S) (outs : Outs S) → Works rules cut old outs new → new.next_view ≡ old.next_view
   next-works old new outs works =
       elim works [
         | inl applies ↦ ap Next applies.new_is
@@ -63,16 +63,16 @@ module _ {C B S : Type 0} (rules : Rules C B) (paints : S → Pixels) where
         | inr taken ↦ ap Next taken.2
       ]
 
-  next-answers : (jobs : List (PaintJob S)) (old new : Document S) (outs : Outs S) → Segment rules paints old (painted_all jobs) outs new → new.next_view ≡ old.next_view
+  next-answers : (jobs : List (PaintJob S)) (old new : Document S) (outs : Outs S) → Segment rules cut old (painted_all jobs) outs new → new.next_view ≡ old.next_view
   next-answers [] old new outs run = ap Next run.1
   next-answers (job ∷ jobs) old new outs run = next-answers jobs run.0 new run.2 run.4 ∙ next-paints old run.0 job.ticket.0 job.scene run.1 (find_job old.jobs job.ticket.0) run.3
 
   -- one step is a run
-  one_step : (old new : Document S) (event : Event S) (outs : Outs S) → Step rules paints old event outs new → Segment rules paints old (event ∷ []) outs new
+  one_step : (old new : Document S) (event : Event S) (outs : Outs S) → Step rules cut old event outs new → Segment rules cut old (event ∷ []) outs new
   one_step old new event outs step = (new, outs, nothing, step, (refl, refl), sym (nothing_last outs))
 
   abbrev Kept : List ℕ → House S → Type 0
-  Kept out house = Holds rules paints out house
+  Kept out house = Holds rules cut out house
 
   -- from what was written
   wrote : (before out : List ℕ) (bytes : List ℕ) (old new : House S) → out ≡ bytes → new ≡ old → Kept (before ++ bytes) old → Kept (before ++ out) new
@@ -81,8 +81,8 @@ module _ {C B S : Type 0} (rules : Rules C B) (paints : S → Pixels) where
 
   -- a view joins
   join_goes : (before : List ℕ) (seats : Seats) (link : ℕ) (given : Rights) (d e : Document S) (outs : Outs S) (b : Bool)
-      → nat_lt (length d.views) 64 ≡ b → b ≡ true → view_of seats link ≡ None → Step rules paints d (Joined given) outs e
-      → IsHeld rules paints before seats (Some d) → IsHeld rules paints (before ++ records (sits seats link d.next_view) outs.frames) (sits seats link d.next_view) (Some e)
+      → nat_lt (length d.views) 64 ≡ b → b ≡ true → view_of seats link ≡ None → Step rules cut d (Joined given) outs e
+      → IsHeld rules cut before seats (Some d) → IsHeld rules cut (before ++ records (sits seats link d.next_view) outs.frames) (sits seats link d.next_view) (Some e)
   join_goes before seats link given d e outs b room is none step held =
       let joins : MachineJoins true rules d given outs e = subst (λ (x : Bool). MachineJoins x rules d given outs e) (room ∙ is) step in
       let now : Seats = sits seats link d.next_view in
@@ -93,116 +93,116 @@ module _ {C B S : Type 0} (rules : Rules C B) (paints : S → Pixels) where
       sits_seated (links ++ link ∷ []) seats.views link d.next_view none (more_seated links (link ∷ []) seats.views held.seated)
       (subst (λ (n : ℕ). slice_get (links ++ link ∷ []) n ≡ Some link) begun (slice_next links link)) in
       let count : length (links ++ link ∷ []) ≡ e.next_view = length-append links (link ∷ []) ∙ ap (λ (n : ℕ). n + 1) begun ∙ sym (ap Next joins.1) in
-      gave rules paints before seats now d e (Joined given ∷ []) outs (link ∷ []) held (one_step d e (Joined given) outs step) to seated count
+      gave rules cut before seats now d e (Joined given ∷ []) outs (link ∷ []) held (one_step d e (Joined given) outs step) to seated count
 
   -- a load
   joins_held : (before : List ℕ) (seats : Seats) (link : ℕ) (given : Rights) (d : Document S) (out : List ℕ) (new : House S) (b : Bool)
-      → nat_lt (length d.views) 64 ≡ b → view_of seats link ≡ None → IsHeld rules paints before seats (Some d) → JoinsWhere b rules paints seats link given d out new → Kept (before ++ out) new
+      → nat_lt (length d.views) 64 ≡ b → view_of seats link ≡ None → IsHeld rules cut before seats (Some d) → JoinsWhere b rules cut seats link given d out new → Kept (before ++ out) new
   joins_held before seats link given d out new true room none held joins =
       let now : Seats = sits seats link d.next_view in
       wrote before out (records now joins.1.frames) (record { seats = now; document = Some joins.0 }) new joins.4 joins.3
       (join_goes before seats link given d joins.0 joins.1 true room refl none joins.2 held)
   joins_held before seats link given d out new false room none held joins =
       wrote before out (tells link views_full) (record { seats = seats; document = Some d }) new joins.0 joins.1
-      (told rules paints before seats (Some d) link views_full (inr (inr refl)) held)
+      (told rules cut before seats (Some d) link views_full (inr (inr refl)) held)
 
   begins_held : (before : List ℕ) (seats : Seats) (link : ℕ) (file : List ℕ) (given : Rights) (out : List ℕ) (new : House S) (b : Bool)
-      → rules.accepts [] ≡ b → view_of seats link ≡ None → IsHeld rules paints before seats None → BeginsWhere b rules paints seats link file given out new → Kept (before ++ out) new
+      → rules.accepts [] ≡ b → view_of seats link ≡ None → IsHeld rules cut before seats None → BeginsWhere b rules cut seats link file given out new → Kept (before ++ out) new
   begins_held before seats link file given out new true accepted none held begins =
-      joins_held before seats link given (opening file []) out new true refl none (loaded rules paints before seats file accepted held) begins
+      joins_held before seats link given (opening file []) out new true refl none (loaded rules cut before seats file accepted held) begins
   begins_held before seats link file given out new false accepted none held begins =
       wrote before out (tells link bad_file) (record { seats = seats; document = None }) new begins.0 begins.1
-      (told rules paints before seats None link bad_file (inr (inl refl)) held)
+      (told rules cut before seats None link bad_file (inr (inl refl)) held)
 
   loads_held : (before : List ℕ) (seats : Seats) (document : Option (Document S)) (link : ℕ) (file : List ℕ) (given : Rights) (out : List ℕ) (new : House S)
-      → view_of seats link ≡ None → IsHeld rules paints before seats document → LoadsOne rules paints seats document link file given out new → Kept (before ++ out) new
+      → view_of seats link ≡ None → IsHeld rules cut before seats document → LoadsOne rules cut seats document link file given out new → Kept (before ++ out) new
   loads_held before seats None link file given out new none held loads = begins_held before seats link file given out new (rules.accepts []) refl none held loads
   loads_held before seats (Some d) link file given out new none held loads = joins_held before seats link given d out new (nat_lt (length d.views) 64) refl none held loads
 
   load_held : (before : List ℕ) (old : House S) (link : ℕ) (file : List ℕ) (given : Rights) (out : List ℕ) (new : House S) (b : Bool)
-      → is_waiting old.seats link ≡ b → Kept before old → LoadsWhere b rules paints old link file given out new → Kept (before ++ out) new
+      → is_waiting old.seats link ≡ b → Kept before old → LoadsWhere b rules cut old link file given out new → Kept (before ++ out) new
   load_held before old link file given out new true waits held loads = loads_held before old.seats old.document link file given out new (no_view old.seats link waits) held loads
-  load_held before old link file given out new false waits held loads = wrote before out [] old new loads.0 loads.1 (silent rules paints before old.seats old.document held)
+  load_held before old link file given out new false waits held loads = wrote before out [] old new loads.0 loads.1 (silent rules cut before old.seats old.document held)
 
   -- a message
   lobby_held : (before : List ℕ) (old : House S) (link : ℕ) (text out : List ℕ) (b : Bool) → out ≡ lobby_tells b link text → Kept before old → Kept (before ++ out) old
   lobby_held before old link text out true is held =
-      wrote before out (tells link (lobby_frame text)) old old is refl (told rules paints before old.seats old.document link (lobby_frame text) (inl (text, refl)) held)
-  lobby_held before old link text out false is held = wrote before out [] old old is refl (silent rules paints before old.seats old.document held)
+      wrote before out (tells link (lobby_frame text)) old old is refl (told rules cut before old.seats old.document link (lobby_frame text) (inl (text, refl)) held)
+  lobby_held before old link text out false is held = wrote before out [] old old is refl (silent rules cut before old.seats old.document held)
 
   says_held : (before : List ℕ) (old : House S) (link : ℕ) (text : List ℕ) (found : Option (Document S × ℕ)) (out : List ℕ) (new : House S)
-      → seated old link ≡ found → IsHoused rules old → Kept before old → SaysAs rules paints old link text found out new → Kept (before ++ out) new
+      → seated old link ≡ found → IsHoused rules old → Kept before old → SaysAs rules cut old link text found out new → Kept (before ++ out) new
   says_held before old link text None out new is housed held says =
       subst (Kept (before ++ out)) (sym says.1) (lobby_held before old link text out (is_waiting old.seats link) says.0 held)
   says_held before old link text (Some seat) out new is housed held says =
       let there : old.document ≡ Some seat.0 = (found_document old.document (view_of old.seats link) seat is).0 in
       let home : IsSeated rules old.seats seat.0 = housed_at rules old.seats old.document seat.0 there housed in
-      let step : Step rules paints seat.0 (Said seat.1 text) says.1 says.0 = says.2 in
+      let step : Step rules cut seat.0 (Said seat.1 text) says.1 says.0 = says.2 in
       let same : says.0.next_view ≡ seat.0.next_view = ap Next step.new_is ∙ next-took rules seat.0 seat.1 (effect rules seat.0 step.view text) in
-      let to : AllTo (HasLink old.seats.views) says.1.frames = says_to rules paints (HasLink old.seats.views) seat.0 says.0 seat.1 text says.1 step home.linked in
+      let to : AllTo (HasLink old.seats.views) says.1.frames = says_to rules cut (HasLink old.seats.views) seat.0 says.0 seat.1 text says.1 step home.linked in
       wrote before out (records old.seats says.1.frames) (record old { document = Some says.0 }) new says.4 says.3
-      (gave_on rules paints before old.seats seat.0 says.0 (Said seat.1 text ∷ []) says.1 (subst (IsHeld rules paints before old.seats) there held) (one_step seat.0 says.0 (Said seat.1 text) says.1 step) to same)
+      (gave_on rules cut before old.seats seat.0 says.0 (Said seat.1 text ∷ []) says.1 (subst (IsHeld rules cut before old.seats) there held) (one_step seat.0 says.0 (Said seat.1 text) says.1 step) to same)
 
   -- a link is gone
   leaves_held : (before : List ℕ) (old : House S) (link : ℕ) (found : Option (Document S × ℕ)) (out : List ℕ) (new : House S)
-      → seated old link ≡ found → Kept before old → LeavesAs rules paints old link found out new → Kept (before ++ out) new
+      → seated old link ≡ found → Kept before old → LeavesAs rules cut old link found out new → Kept (before ++ out) new
   leaves_held before old link None out new is held leaves =
       wrote before out [] (record old { seats = without old.seats link }) new leaves.0 leaves.1
-      (silent rules paints before (without old.seats link) old.document (reseated rules paints before old.seats (without old.seats link) old.document held (gone_seated held.links (is_at (nat_cmp link)) old.seats.views held.seated)))
+      (silent rules cut before (without old.seats link) old.document (reseated rules cut before old.seats (without old.seats link) old.document held (gone_seated held.links (is_at (nat_cmp link)) old.seats.views held.seated)))
   leaves_held before old link (Some seat) out new is held leaves =
       let there : old.document ≡ Some seat.0 = (found_document old.document (view_of old.seats link) seat is).0 in
-      let at : IsHeld rules paints before old.seats (Some seat.0) = subst (IsHeld rules paints before old.seats) there held in
-      let step : Step rules paints seat.0 (Left seat.1) nothing leaves.0 = leaves.1 in
-      let gone : IsHeld rules paints (before ++ []) old.seats (Some leaves.0) = gave_on rules paints before old.seats seat.0 leaves.0 (Left seat.1 ∷ []) nothing at (one_step seat.0 leaves.0 (Left seat.1) nothing step) tt (ap Next step.1) in
+      let at : IsHeld rules cut before old.seats (Some seat.0) = subst (IsHeld rules cut before old.seats) there held in
+      let step : Step rules cut seat.0 (Left seat.1) nothing leaves.0 = leaves.1 in
+      let gone : IsHeld rules cut (before ++ []) old.seats (Some leaves.0) = gave_on rules cut before old.seats seat.0 leaves.0 (Left seat.1 ∷ []) nothing at (one_step seat.0 leaves.0 (Left seat.1) nothing step) tt (ap Next step.1) in
       wrote before out [] (record { seats = without old.seats link; document = Some leaves.0 }) new leaves.2 leaves.3
-      (reseated rules paints (before ++ []) old.seats (without old.seats link) (Some leaves.0) gone (gone_seated gone.links (is_at (nat_cmp link)) old.seats.views gone.seated))
+      (reseated rules cut (before ++ []) old.seats (without old.seats link) (Some leaves.0) gone (gone_seated gone.links (is_at (nat_cmp link)) old.seats.views gone.seated))
 
   -- an event
-  takes_held : (before : List ℕ) (event : Waiting) (old : House S) (out : List ℕ) (new : House S) → IsHoused rules old → Kept before old → TakesOne rules paints event old out new → Kept (before ++ out) new
+  takes_held : (before : List ℕ) (event : Waiting) (old : House S) (out : List ℕ) (new : House S) → IsHoused rules old → Kept before old → TakesOne rules cut event old out new → Kept (before ++ out) new
   takes_held before (Opened link) old out new housed held takes =
       wrote before out [] (record old { seats = enters old.seats link }) new takes.0 takes.1
-      (silent rules paints before (enters old.seats link) old.document (reseated rules paints before old.seats (enters old.seats link) old.document held held.seated))
+      (silent rules cut before (enters old.seats link) old.document (reseated rules cut before old.seats (enters old.seats link) old.document held held.seated))
   takes_held before (Loads link file writes) old out new housed held takes = load_held before old link file (rights writes) out new (is_waiting old.seats link) refl held takes
   takes_held before (Says link text) old out new housed held takes = says_held before old link text (seated old link) out new refl housed held takes
   takes_held before (Gone link) old out new housed held takes = leaves_held before old link (seated old link) out new refl held takes
 
-  pub first_held : (before : List ℕ) (waiting : List Waiting) (old : House S) (out : List ℕ) (rest : List Waiting) (new : House S) → IsHoused rules old → Kept before old → TakesFirst rules paints waiting old out rest new → Kept (before ++ out) new
-  first_held before [] old out rest new housed held takes = wrote before out [] old new takes.1 takes.2 (silent rules paints before old.seats old.document held)
+  pub first_held : (before : List ℕ) (waiting : List Waiting) (old : House S) (out : List ℕ) (rest : List Waiting) (new : House S) → IsHoused rules old → Kept before old → TakesFirst rules cut waiting old out rest new → Kept (before ++ out) new
+  first_held before [] old out rest new housed held takes = wrote before out [] old new takes.1 takes.2 (silent rules cut before old.seats old.document held)
   first_held before (event ∷ events) old out rest new housed held takes = takes_held before event old out new housed held takes.1
 
   -- a turn that did a work, its jobs answered
-  works_held : (before : List ℕ) (seats : Seats) (d e : Document S) (frames : List (ViewId × Frame)) → IsSeated rules seats d → IsHeld rules paints before seats (Some d) → WorksAtOnce rules paints d frames e → IsHeld rules paints (before ++ records seats frames) seats (Some e)
+  works_held : (before : List ℕ) (seats : Seats) (d e : Document S) (frames : List (ViewId × Frame)) → IsSeated rules seats d → IsHeld rules cut before seats (Some d) → WorksAtOnce rules cut d frames e → IsHeld rules cut (before ++ records seats frames) seats (Some e)
   works_held before seats d e frames home held works =
       let outs : Outs S = joined works.first works.later in
-      let run : Segment rules paints d (Turned ∷ painted_all works.first.jobs) outs e = (works.mid, works.first, works.later, inl works.works, works.answered, refl) in
-      let ids : ids_of works.mid.views ≡ ids_of d.views = ids-works rules paints d works.mid works.first works.works in
-      let here : AllTo (HasLink seats.views) works.first.frames = works_to rules paints (HasLink seats.views) d works.mid works.first works.works home.linked in
+      let run : Segment rules cut d (Turned ∷ painted_all works.first.jobs) outs e = (works.mid, works.first, works.later, inl works.works, works.answered, refl) in
+      let ids : ids_of works.mid.views ≡ ids_of d.views = ids-works rules cut d works.mid works.first works.works in
+      let here : AllTo (HasLink seats.views) works.first.frames = works_to rules cut (HasLink seats.views) d works.mid works.first works.works home.linked in
       let rest : AllTo (HasLink seats.views) works.later.frames =
-      answers_to rules paints (HasLink seats.views) works.first.jobs works.mid e works.later works.answered (subst (AllByRecursion (HasLink seats.views)) (sym ids) home.linked) in
+      answers_to rules cut (HasLink seats.views) works.first.jobs works.mid e works.later works.answered (subst (AllByRecursion (HasLink seats.views)) (sym ids) home.linked) in
       let to : AllTo (HasLink seats.views) outs.frames = all_join (To (HasLink seats.views)) works.first.frames works.later.frames here rest in
       let same : e.next_view ≡ d.next_view = next-answers works.first.jobs works.mid e works.later works.answered ∙ next-works d works.mid works.first works.works in
-      subst (λ (x : List (ViewId × Frame)). IsHeld rules paints (before ++ records seats x) seats (Some e)) (sym works.frames_are)
-      (gave_on rules paints before seats d e (Turned ∷ painted_all works.first.jobs) outs held run to same)
+      subst (λ (x : List (ViewId × Frame)). IsHeld rules cut (before ++ records seats x) seats (Some e)) (sym works.frames_are)
+      (gave_on rules cut before seats d e (Turned ∷ painted_all works.first.jobs) outs held run to same)
 
   -- a turn of the document
-  pub turns_held : (before : List ℕ) (seats : Seats) (old : Option (Document S)) (out : List ℕ) (worked : Bool) (new : Option (Document S)) → IsHousedBy rules seats old → IsHeld rules paints before seats old → TurnsDocument rules paints seats old out worked new → IsHeld rules paints (before ++ out) seats new
+  pub turns_held : (before : List ℕ) (seats : Seats) (old : Option (Document S)) (out : List ℕ) (worked : Bool) (new : Option (Document S)) → IsHousedBy rules seats old → IsHeld rules cut before seats old → TurnsDocument rules cut seats old out worked new → IsHeld rules cut (before ++ out) seats new
   turns_held before seats None out worked new housed held turns =
       wrote before out [] (record { seats = seats; document = None }) (record { seats = seats; document = new }) turns.0 (ap (λ (d : Option (Document S)). record { seats = seats; document = d }) turns.2)
-      (silent rules paints before seats None held)
+      (silent rules cut before seats None held)
   turns_held before seats (Some d) out true new housed held turns =
       wrote before out (records seats turns.1) (record { seats = seats; document = Some turns.0 }) (record { seats = seats; document = new }) turns.3 (ap (λ (x : Option (Document S)). record { seats = seats; document = x }) turns.4)
       (works_held before seats d turns.0 turns.1 housed held turns.2)
   turns_held before seats (Some d) out false new housed held turns =
       wrote before out [] (record { seats = seats; document = Some d }) (record { seats = seats; document = new }) turns.0 (ap (λ (x : Option (Document S)). record { seats = seats; document = x }) turns.2)
-      (silent rules paints before seats (Some d) held)
+      (silent rules cut before seats (Some d) held)
 
   -- a poll turn
-  pub poll_held : (keeps : Keeps rules paints) (before : List ℕ) (waiting : List Waiting) (old : House S) (out : List ℕ) (worked : Bool) (rest : List Waiting) (new : House S)
-      → IsHoused rules old → Kept before old → PollTurn rules paints waiting old out worked rest new → Kept (before ++ out) new
+  pub poll_held : (keeps : Keeps rules cut) (before : List ℕ) (waiting : List Waiting) (old : House S) (out : List ℕ) (worked : Bool) (rest : List Waiting) (new : House S)
+      → IsHoused rules old → Kept before old → PollTurn rules cut waiting old out worked rest new → Kept (before ++ out) new
   poll_held keeps before waiting old out worked rest new housed held turn =
-      let home : IsHoused rules turn.mid = first_housed rules paints keeps waiting old turn.here rest turn.mid housed turn.takes in
+      let home : IsHoused rules turn.mid = first_housed rules cut keeps waiting old turn.here rest turn.mid housed turn.takes in
       let mid : Kept (before ++ turn.here) turn.mid = first_held before waiting old turn.here rest turn.mid housed held turn.takes in
-      let end : IsHeld rules paints ((before ++ turn.here) ++ turn.later) turn.mid.seats new.document = turns_held (before ++ turn.here) turn.mid.seats turn.mid.document turn.later turn.turned new.document home mid turn.turns in
+      let end : IsHeld rules cut ((before ++ turn.here) ++ turn.later) turn.mid.seats new.document = turns_held (before ++ turn.here) turn.mid.seats turn.mid.document turn.later turn.turned new.document home mid turn.turns in
       let bytes : (before ++ turn.here) ++ turn.later ≡ before ++ out = append_assoc before turn.here turn.later ∙ ap (λ (x : List ℕ). before ++ x) (sym turn.is) in
-      subst (λ (x : List ℕ). IsHeld rules paints x new.seats new.document) bytes
-      (subst (λ (x : Seats). IsHeld rules paints ((before ++ turn.here) ++ turn.later) x new.document) (sym turn.stays) end)
+      subst (λ (x : List ℕ). IsHeld rules cut x new.seats new.document) bytes
+      (subst (λ (x : Seats). IsHeld rules cut ((before ++ turn.here) ++ turn.later) x new.document) (sym turn.stays) end)

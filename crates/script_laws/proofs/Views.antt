@@ -15,7 +15,6 @@ use Rattle.document_machine.proofs.Runs.{nothing_last}
 use Rattle.kit_trait.specs.Rules.{Rules}
 use Rattle.kit_trait.specs.declared.jobs.PaintJob.{PaintJob}
 use Rattle.kit_trait.specs.declared.values.Damage.{Damage}
-use Rattle.kit_trait.specs.declared.values.Pixels.{Pixels}
 use Rattle.script_world.specs.House.{ids_of, painted_all}
 use Rattle.script_world.proofs.Ids.{ids-answers}
 use Rattle.tile_key.specs.Places.{Place}
@@ -96,7 +95,7 @@ module _ {C B S : Type 0} (rules : Rules C B) (d : Document S) (P : ℕ → Type
       all_join (To P) (flat_map (tile_for rules d number key) views) (tiles_for rules d number keys (map (offered rules d number key) views))
       (views_to number key views all) (tiles_to number keys (map (offered rules d number key) views) (all_offered number key views all))
 
-module _ {C B S : Type 0} (rules : Rules C B) (paints : S → Pixels) (P : ℕ → Type 0) where
+module _ {C B S : Type 0} (rules : Rules C B) (cut : C → Place → S) (P : ℕ → Type 0) where
   abbrev Frames : Outs S → Type 0
   Frames outs = AllTo P outs.frames
 
@@ -106,7 +105,7 @@ module _ {C B S : Type 0} (rules : Rules C B) (paints : S → Pixels) (P : ℕ �
       subst Frames (sym says.outs_are) (all_replied P id (effect rules old says.view text) (found_by P old.views id says.view all says.live))
 
   -- a work of a turn
-  pub works_to : (old new : Document S) (outs : Outs S) → Works rules paints old outs new → AllByRecursion P (ids_of old.views) → AllTo P outs.frames
+  pub works_to : (old new : Document S) (outs : Outs S) → Works rules cut old outs new → AllByRecursion P (ids_of old.views) → AllTo P outs.frames
   works_to old new outs works all =
       elim works [
         | inl applies ↦ subst Frames (sym applies.outs_are) (all_told P old.views _ all)
@@ -126,11 +125,11 @@ module _ {C B S : Type 0} (rules : Rules C B) (paints : S → Pixels) (P : ℕ �
       ]
 
   -- painted jobs, one after the other
-  pub answers_to : (jobs : List (PaintJob S)) (old new : Document S) (outs : Outs S) → Segment rules paints old (painted_all jobs) outs new → AllByRecursion P (ids_of old.views) → AllTo P outs.frames
+  pub answers_to : (jobs : List (PaintJob S)) (old new : Document S) (outs : Outs S) → Segment rules cut old (painted_all jobs) outs new → AllByRecursion P (ids_of old.views) → AllTo P outs.frames
   answers_to [] old new outs run all = subst Frames (sym run.0) tt
   answers_to (job ∷ jobs) old new outs run all =
-      let one : Segment rules paints old (painted_all (job ∷ [])) run.1 run.0 = (run.0, run.1, nothing, run.3, (refl, refl), sym (nothing_last run.1)) in
-      let ids : ids_of run.0.views ≡ ids_of old.views = ids-answers rules paints old run.0 (job ∷ []) run.1 one in
+      let one : Segment rules cut old (painted_all (job ∷ [])) run.1 run.0 = (run.0, run.1, nothing, run.3, (refl, refl), sym (nothing_last run.1)) in
+      let ids : ids_of run.0.views ≡ ids_of old.views = ids-answers rules cut old run.0 (job ∷ []) run.1 one in
       let here : AllTo P run.1.frames = paints_to old run.0 job.ticket.0 job.scene run.1 (find_job old.jobs job.ticket.0) run.3 all in
       let rest : AllTo P run.2.frames = answers_to jobs run.0 new run.2 run.4 (subst (AllByRecursion P) (sym ids) all) in
       subst Frames (sym run.5) (all_join (To P) run.1.frames run.2.frames here rest)

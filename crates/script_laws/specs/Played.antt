@@ -11,7 +11,7 @@ use Rattle.document_machine.specs.Run.{Segment}
 use Rattle.document_machine.specs.State.{Document, opening}
 use Rattle.document_machine.specs.declared.outs.Outs.{Outs}
 use Rattle.kit_trait.specs.Rules.{Rules}
-use Rattle.kit_trait.specs.declared.values.Pixels.{Pixels}
+use Rattle.tile_key.specs.Places.{Place}
 use Rattle.script_world.specs.Seats.{Seats, tells, lobby_frame, bad_file, views_full}
 
 -- one record of a transcript: the answer to a link in the lobby, or a frame that the document gave to a view, as it is
@@ -47,18 +47,18 @@ AreSeated links seats = AllByRecursion (λ seat. slice_get links seat.1 ≡ Some
 
 -- The frames are all that one run of the document machine gave out, in order: from a document that was loaded from no
 -- bytes to this one.
-pub record IsRun {C B S : Type 0} (rules : Rules C B) (paints : S → Pixels) (frames : List (ViewId × Frame)) (d : Document S) : Type 0 where
+pub record IsRun {C B S : Type 0} (rules : Rules C B) (cut : C → Place → S) (frames : List (ViewId × Frame)) (d : Document S) : Type 0 where
   pub file : List ℕ
   pub events : List (Event S)
   pub outs : Outs S
   pub accepted : rules.accepts [] ≡ true
-  pub follows : Segment rules paints (opening file []) events outs d
+  pub follows : Segment rules cut (opening file []) events outs d
   pub frames_are : frames ≡ outs.frames
 
 -- where there is no document, there are no frames of one
-abbrev pub IsRunTo : {C B S : Type 0} → Rules C B → (S → Pixels) → List (ViewId × Frame) → Option (Document S) → Type 0
-IsRunTo rules paints frames None = frames ≡ []
-IsRunTo rules paints frames (Some d) = IsRun rules paints frames d
+abbrev pub IsRunTo : {C B S : Type 0} → Rules C B → (C → Place → S) → List (ViewId × Frame) → Option (Document S) → Type 0
+IsRunTo rules cut frames None = frames ≡ []
+IsRunTo rules cut frames (Some d) = IsRun rules cut frames d
 
 -- how many views ever joined
 abbrev pub views_begun : {S : Type 0} → Option (Document S) → ℕ
@@ -68,14 +68,14 @@ views_begun (Some d) = d.next_view
 -- The bytes are the transcript of a world from its beginning on, to these seats and this document. They are records:
 -- answers in the lobby, and the frames that the document gave, each written to the link of its view. Those are, in order
 -- and without any other, the frames of one run of the document machine to the document as it is now.
-pub record IsPlayed {C B S : Type 0} (rules : Rules C B) (paints : S → Pixels) (out : List ℕ) (seats : Seats) (document : Option (Document S)) : Type 0 where
+pub record IsPlayed {C B S : Type 0} (rules : Rules C B) (cut : C → Place → S) (out : List ℕ) (seats : Seats) (document : Option (Document S)) : Type 0 where
   pub pieces : List Piece
   pub links : List ℕ
   pub written : out ≡ flat_map bytes_of pieces
   pub each : AllByRecursion (IsSent links) pieces
   pub seated : AreSeated links seats.views
   pub begun : length links ≡ views_begun document
-  pub run : IsRunTo rules paints (flat_map given_of pieces) document
+  pub run : IsRunTo rules cut (flat_map given_of pieces) document
 
 -- the frame is no tile
 abbrev pub IsNoTile : Frame → Type 0

@@ -4,7 +4,7 @@ use Rattle.std.specs.List.{flat_map, AllByRecursion}
 use Rattle.document_machine.specs.Quiet.{IsQuiet}
 use Rattle.document_machine.specs.State.{Document}
 use Rattle.kit_trait.specs.Rules.{Rules}
-use Rattle.kit_trait.specs.declared.values.Pixels.{Pixels}
+use Rattle.tile_key.specs.Places.{Place}
 use Rattle.script_lines.specs.Records.{IsFront, fault_text}
 use Rattle.script_world.specs.House.{House}
 use Rattle.script_world.specs.Seats.{Seats}
@@ -19,18 +19,18 @@ IsQuietNow rules (Some d) = IsQuiet rules d
 -- The bytes are the transcript of a world, and what it shows is right: the frames of the document are one run of its
 -- machine; each tile shows the document after a prefix of its accepted inputs; and where the document is quiet, the last
 -- tile that a view was sent of each key that it sees or asked for is the document painted from scratch.
-pub record IsTranscript {C B S : Type 0} (rules : Rules C B) (paints : S → Pixels) (out : List ℕ) (seats : Seats) (document : Option (Document S)) : Type 0 where
-  pub played : IsPlayed rules paints out seats document
+pub record IsTranscript {C B S : Type 0} (rules : Rules C B) (cut : C → Place → S) (out : List ℕ) (seats : Seats) (document : Option (Document S)) : Type 0 where
+  pub played : IsPlayed rules cut out seats document
   pub tiles : AllByRecursion (Shows rules document) played.pieces
   pub painted : IsQuietNow rules document → ArePainted rules document (flat_map given_of played.pieces)
 
 -- What stands behind a transcript: a front of what it goes on with, or of the text that names a refused line.
-abbrev pub IsTail : {C B S : Type 0} → Rules C B → (S → Pixels) → List ℕ → List ℕ → Type 0
-IsTail {C} {B} {S} rules paints written tail =
-    ((more : List ℕ) × (seats : Seats) × (document : Option (Document S)) × IsTranscript rules paints (written ++ more) seats document × IsFront tail more)
+abbrev pub IsTail : {C B S : Type 0} → Rules C B → (C → Place → S) → List ℕ → List ℕ → Type 0
+IsTail {C} {B} {S} rules cut written tail =
+    ((more : List ℕ) × (seats : Seats) × (document : Option (Document S)) × IsTranscript rules cut (written ++ more) seats document × IsFront tail more)
     ⊎ ((number : ℕ) × IsFront tail (fault_text number))
 
 -- What was written of the lines that acted is the transcript of the world in which the script stands behind them, and
 -- what was written behind it is such a tail.
-abbrev pub IsReplayed : {C B S : Type 0} → Rules C B → (S → Pixels) → List ℕ → List ℕ → House S → Type 0
-IsReplayed rules paints written tail house = IsTranscript rules paints written house.seats house.document × IsTail rules paints written tail
+abbrev pub IsReplayed : {C B S : Type 0} → Rules C B → (C → Place → S) → List ℕ → List ℕ → House S → Type 0
+IsReplayed rules cut written tail house = IsTranscript rules cut written house.seats house.document × IsTail rules cut written tail

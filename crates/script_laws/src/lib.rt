@@ -10,14 +10,15 @@ ghost use Rattle.cool_script.specs.Script.{Standing, first, Acting, UnderWay};
 ghost use Rattle.document_machine.specs.Quiet.{IsQuiet, AllRight};
 ghost use Rattle.document_machine.specs.State.{Document};
 ghost use Rattle.kit_trait.specs.Patch.{patch_rules};
-ghost use Rattle.kit_trait.specs.PatchSeen.{scene_picture as patch_picture};
+ghost use Rattle.kit_trait.specs.PatchSeen.{patch_cut};
 ghost use Rattle.script_laws.specs.LastTiles.{ArePainted};
 ghost use Rattle.script_laws.specs.Played.{given_of, IsPlayed, Shows};
 ghost use Rattle.script_laws.specs.Replayed.{IsReplayed};
 ghost use Rattle.script_run.specs.Transcript.{Runs};
+ghost use Rattle.script_run.specs.Uses.{SourceUse, SinkUse};
 ghost use Rattle.script_world.specs.Seats.{Seats};
 ghost use Rattle.script_world.specs.World.{IsAtRest};
-ghost use Rattle.sheet_kit.specs.Seen.{scene_picture as sheet_picture};
+ghost use Rattle.sheet_kit.specs.Seen.{sheet_cut};
 ghost use Rattle.sheet_kit.specs.SheetKind.{sheet_kind};
 
 use kit_trait::{Kit, PatchKit};
@@ -29,30 +30,30 @@ use sheet_kit::SheetKit;
 /// document that is there behind the lines (`lines`). So it is with what a line makes that is under way behind
 /// them (`under_way`), of which a front is written where the sink or memory stops the line.
 pub fn scripts_are_runs<K: Kit>()
-    ensures lines { (lines : List (List ℕ)) (out : List ℕ) (t : Standing K.Scene) → Runs (Acting K.rules K.Scene.paints) first lines out t → IsPlayed K.rules K.Scene.paints out t.world.house.seats t.world.house.document }
-    ensures under_way { (lines : List (List ℕ)) (line out more : List ℕ) (t : Standing K.Scene) → Runs (Acting K.rules K.Scene.paints) first lines out t → UnderWay K.rules K.Scene.paints t line more → (seats : Seats) × (document : Option (Document K.Scene)) × IsPlayed K.rules K.Scene.paints (out ++ more) seats document }
+    ensures lines { (lines : List (List ℕ)) (out : List ℕ) (t : Standing K.Scene) → Runs (Acting K.rules K.cut) first lines out t → IsPlayed K.rules K.cut out t.world.house.seats t.world.house.document }
+    ensures under_way { (lines : List (List ℕ)) (line out more : List ℕ) (t : Standing K.Scene) → Runs (Acting K.rules K.cut) first lines out t → UnderWay K.rules K.cut t line more → (seats : Seats) × (document : Option (Document K.Scene)) × IsPlayed K.rules K.cut (out ++ more) seats document }
 {}
 
 /// Each tile of such a transcript shows the document after as many of its accepted inputs as the tile's version
 /// says, point by point.
 pub fn script_tiles_show_prefixes<K: Kit>()
-    ensures { (out : List ℕ) (seats : Seats) (document : Option (Document K.Scene)) (played : IsPlayed K.rules K.Scene.paints out seats document) → AllByRecursion (Shows K.rules document) played.pieces }
+    ensures { (out : List ℕ) (seats : Seats) (document : Option (Document K.Scene)) (played : IsPlayed K.rules K.cut out seats document) → AllByRecursion (Shows K.rules document) played.pieces }
 {}
 
 /// Behind a line `settle` nothing waits, and the document, if there is one, is quiet, and all that its views see
 /// or asked for is right (`settled`). Behind any line, whenever the document is quiet, all that its views see or
 /// asked for is right (`quiet`).
 pub fn settled_scripts_are_right<K: Kit>()
-    ensures settled { (lines : List (List ℕ)) (out : List ℕ) (t : Standing K.Scene) → Runs (Acting K.rules K.Scene.paints) first (lines ++ codes "settle" ∷ []) out t → (t.world.waiting ≡ []) × IsAtRest K.rules t.world.house.document }
-    ensures quiet { (out : List ℕ) (seats : Seats) (d : Document K.Scene) → IsPlayed K.rules K.Scene.paints out seats (Some d) → IsQuiet K.rules d → AllRight K.rules d }
+    ensures settled { (lines : List (List ℕ)) (out : List ℕ) (t : Standing K.Scene) → Runs (Acting K.rules K.cut) first (lines ++ codes "settle" ∷ []) out t → (t.world.waiting ≡ []) × IsAtRest K.rules t.world.house.document }
+    ensures quiet { (out : List ℕ) (seats : Seats) (d : Document K.Scene) → IsPlayed K.rules K.cut out seats (Some d) → IsQuiet K.rules d → AllRight K.rules d }
 {}
 
 /// In a quiet document each key that a view sees or asked for was sent to the view, and the last tile of it in the
 /// transcript has the pixels of the document painted from scratch, after all accepted inputs (`quiet`). So it is
 /// behind a line `settle` (`settled`).
 pub fn last_tiles_are_right<K: Kit>()
-    ensures quiet { (out : List ℕ) (seats : Seats) (d : Document K.Scene) (played : IsPlayed K.rules K.Scene.paints out seats (Some d)) → IsQuiet K.rules d → ArePainted K.rules (Some d) (flat_map given_of played.pieces) }
-    ensures settled { (lines : List (List ℕ)) (out : List ℕ) (t : Standing K.Scene) → Runs (Acting K.rules K.Scene.paints) first (lines ++ codes "settle" ∷ []) out t → (played : IsPlayed K.rules K.Scene.paints out t.world.house.seats t.world.house.document) → ArePainted K.rules t.world.house.document (flat_map given_of played.pieces) }
+    ensures quiet { (out : List ℕ) (seats : Seats) (d : Document K.Scene) (played : IsPlayed K.rules K.cut out seats (Some d)) → IsQuiet K.rules d → ArePainted K.rules (Some d) (flat_map given_of played.pieces) }
+    ensures settled { (lines : List (List ℕ)) (out : List ℕ) (t : Standing K.Scene) → Runs (Acting K.rules K.cut) first (lines ++ codes "settle" ∷ []) out t → (played : IsPlayed K.rules K.cut out t.world.house.seats t.world.house.document) → ArePainted K.rules t.world.house.document (flat_map given_of played.pieces) }
 {}
 
 /// What `replay` writes of the lines that act is a transcript, and its tiles are right in all these senses. What
@@ -60,14 +61,14 @@ pub fn last_tiles_are_right<K: Kit>()
 /// or it is the text that names a refused line, or a front of that (`written`). Where `replay` ends with 0 nothing
 /// is written behind it (`done`).
 pub fn replays_are_right<K: Kit>()
-    ensures written { (source_then source_now sink_then sink_now : Option (List ℕ)) (reads reads_now writes writes_now code : ℕ) (plays : PlaysTo K.rules K.Scene.paints source_then source_now sink_then sink_now reads reads_now writes writes_now code) → IsReplayed K.rules K.Scene.paints plays.1.ended.written plays.1.ended.tail plays.1.ended.state.world.house }
-    ensures done { (source_then source_now sink_then sink_now : Option (List ℕ)) (reads reads_now writes writes_now : ℕ) (plays : PlaysTo K.rules K.Scene.paints source_then source_now sink_then sink_now reads reads_now writes writes_now 0) → plays.1.ended.tail ≡ [] }
+    ensures written { (source : SourceUse) (sink : SinkUse) (code : ℕ) (plays : PlaysTo K.rules K.cut source sink code) → IsReplayed K.rules K.cut plays.1.ended.written plays.1.ended.tail plays.1.ended.state.world.house }
+    ensures done { (source : SourceUse) (sink : SinkUse) (plays : PlaysTo K.rules K.cut source sink 0) → plays.1.ended.tail ≡ [] }
 {}
 
 /// The same of the documents that `replay patch` and `replay sheet` play.
 pub fn patches_and_sheets_are_right()
-    ensures patch { (source_then source_now sink_then sink_now : Option (List ℕ)) (reads reads_now writes writes_now code : ℕ) (plays : PlaysTo patch_rules patch_picture source_then source_now sink_then sink_now reads reads_now writes writes_now code) → IsReplayed patch_rules patch_picture plays.1.ended.written plays.1.ended.tail plays.1.ended.state.world.house }
-    ensures sheet { (source_then source_now sink_then sink_now : Option (List ℕ)) (reads reads_now writes writes_now code : ℕ) (plays : PlaysTo sheet_kind sheet_picture source_then source_now sink_then sink_now reads reads_now writes writes_now code) → IsReplayed sheet_kind sheet_picture plays.1.ended.written plays.1.ended.tail plays.1.ended.state.world.house }
+    ensures patch { (source : SourceUse) (sink : SinkUse) (code : ℕ) (plays : PlaysTo patch_rules patch_cut source sink code) → IsReplayed patch_rules patch_cut plays.1.ended.written plays.1.ended.tail plays.1.ended.state.world.house }
+    ensures sheet { (source : SourceUse) (sink : SinkUse) (code : ℕ) (plays : PlaysTo sheet_kind sheet_cut source sink code) → IsReplayed sheet_kind sheet_cut plays.1.ended.written plays.1.ended.tail plays.1.ended.state.world.house }
 {
     replays_are_right::<PatchKit>();
     replays_are_right::<SheetKit>();

@@ -1,7 +1,7 @@
 -- A file id is text, and which bytes are text.
-use Rattle.std.proofs.Common.{◌≡◌, ℕ, zero, suc, ◌<◌, ◌&&◌, if◌then◌else◌, List, [], ◌∷◌, length, get_or, Bool, true, false, Option, None, Some, refl, sym, ap, arith}
+use Rattle.std.proofs.Common.{◌≡◌, ℕ, zero, suc, ◌<◌, ◌&&◌, if◌then◌else◌, List, [], ◌∷◌, get_or, Bool, true, false, None, Some, refl, sym, ap, arith}
 use Rattle.std.specs.List.{list_all}
-use Rattle.std.specs.Str.{IsUtf8, IsAscii, is_utf8}
+use Rattle.std.specs.Str.{IsUtf8, is_utf8}
 use Rattle.std.proofs.lemmas.Str.{IsUtf8-from_ascii, IsUtf8-from_is_utf8}
 use Rattle.std.proofs.lemmas.Grind.{common_steps}
 use Rattle.cool_base.specs.Words.{is_file_character, is_file_id, file_id}

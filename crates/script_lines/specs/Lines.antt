@@ -26,7 +26,7 @@ Gave End line read = read ≡ []
 Gave TooLong line read = IsUnbroken read × (length read ≡ 70001)
 Gave Spent line read = IsLine read
 Gave Failed line read = IsLine read
-Gave Memory line read = IsUnbroken read
+Gave Memory line read = IsLine read
 
 -- the fact holds where the answer says that the source ended
 abbrev pub IfEnded : LineStep → Type 0 → Type 0

@@ -9,8 +9,6 @@ mod line;
 mod output;
 mod place;
 mod saying;
-#[cfg(test)]
-mod tests;
 
 pub use line::{LineStep, next_line};
 pub use output::{Stop, fault_text, record_of, write_whole};

@@ -1,18 +1,18 @@
 -- A script that has its end comes to it.
-use Rattle.std.proofs.Common.{◌≡◌, ◌≢◌, ◌∙◌, ℕ, ◌+◌, ◌<◌, ◌≤◌, ◌⊎◌, inl, inr, List, [], ◌∷◌, ◌++◌, length, length-append, refl, ap, sym, subst, append_assoc, arith, Option, None, Some}
+use Rattle.std.proofs.Common.{◌≡◌, ◌∙◌, ℕ, ◌+◌, ◌<◌, ◌≤◌, ◌⊎◌, inl, inr, List, [], ◌∷◌, ◌++◌, length, length-append, refl, ap, sym, subst, append_assoc, arith, Option, None, Some}
 use Rattle.std.specs.List.{AllByRecursion}
 use Rattle.std.proofs.lemmas.List.{append-nil}
-use Rattle.outside.specs.Causes.{Rose, HasCause}
-use Rattle.outside.specs.Streams.{IsAtEnd}
+use Rattle.outside.specs.Causes.{Rose}
+use Rattle.outside.specs.Streams.{Takes, IsAtEnd}
 use Rattle.script_lines.specs.Places.{Place}
-use Rattle.script_lines.specs.Grammar.{Verdict}
-use Rattle.script_lines.specs.Grammar.{Acts, Ends, Refused}
+use Rattle.script_lines.specs.Grammar.{Ends, Refused}
 use Rattle.script_lines.specs.Grammar.{verdict, followed, place_after}
 use Rattle.script_lines.specs.Lines.{IsUnbroken, IsLine, joined}
 use Rattle.script_run.specs.declared.status.Status.{Status}
 use Rattle.script_run.specs.declared.status.Status.TheVariants.{Done, WrongWords, FaultLine, ReadFault, WriteFault, Memory, NoEnd}
-use Rattle.script_run.specs.Transcript.{budget, Runs, Spells, Ended}
+use Rattle.script_run.specs.Transcript.{budget, Ended}
 use Rattle.script_run.specs.Outcome.{Outcome}
+use Rattle.script_run.specs.Uses.{SourceUse, SinkUse}
 use Rattle.script_run.specs.Complete.{HasEnd}
 use Rattle.script_run.proofs.Splits.{Compared, On, Back, compared, no_break, first_break, place_on, each_behind}
 use Rattle.script_run.proofs.OneStatus.{Follows, run_place, ends_stop, refused_stop}
@@ -130,31 +130,36 @@ no_other_end p bytes lines q y script each there is found =
           (compared script.lines lines script.last y script.each each (sym bare.0 ∙ is))
     ]
 
-behind_refused : {X : Type 0} (place : X → Place) (step : X → List ℕ → List ℕ → X → Type 0) (under : X → List ℕ → List ℕ → Type 0) (first : X) (a : Option (List ℕ)) (now : List ℕ) (c d : Option (List ℕ))
-    → (e : Ended place step under first a (Some now) c d FaultLine) → Behind (place e.state) (length (joined e.lines)) (e.rest ++ now)
-behind_refused place step under first a now c d e =
+-- nothing is left in a source that is at its end
+at_end : (left : Option (List ℕ)) (now : List ℕ) → left ≡ Some now → IsAtEnd left → now ≡ []
+at_end None now is ended = let h : None ≡ Some now = is in absurd (cc)
+at_end (Some rest) now is ended = let h : rest ≡ now = (cc) in sym h ∙ ended
+
+behind_refused : {X : Type 0} (place : X → Place) (step : X → List ℕ → List ℕ → X → Type 0) (under : X → List ℕ → List ℕ → Type 0) (first : X) (source : SourceUse) (sink : SinkUse) (now : List ℕ) → source.left_now ≡ Some now
+    → (e : Ended place step under first source sink FaultLine) → Behind (place e.state) (length (joined e.lines)) (e.rest ++ now)
+behind_refused place step under first source sink now left e =
     elim e.cause.0 [
       | inl refused ↦ elim refused.1.1 [
         | inl whole ↦ Wrong refused.0 now refused.1.0 refused.2 (ap (λ (x : List ℕ). x ++ now) whole ∙ append_assoc refused.0 (10 ∷ []) now)
         | inr last ↦
-            let same : e.rest ++ now ≡ refused.0 = ap (λ (x : List ℕ). e.rest ++ x) last.2.0 ∙ append-nil e.rest ∙ last.0 in
+            let same : e.rest ++ now ≡ refused.0 = ap (λ (x : List ℕ). e.rest ++ x) (at_end source.left_now now left last.2.0) ∙ append-nil e.rest ∙ last.0 in
             Bare (subst (λ (x : List ℕ). IsUnbroken x) (sym same) refused.1.0.unbroken)
             (λ ends some. let h : Refused ≡ Ends = sym refused.2 ∙ ap (λ (x : List ℕ). verdict (place e.state) x) (sym same) ∙ ends in (cc))
       ]
       | inr long ↦ Long e.rest now long.0 (λ m short fits. omega (arith, short, long.1)) refl
     ]
 
-behind_open : {X : Type 0} (place : X → Place) (step : X → List ℕ → List ℕ → X → Type 0) (under : X → List ℕ → List ℕ → Type 0) → Follows place step → (first : X) (a : Option (List ℕ)) (now : List ℕ) (c d : Option (List ℕ))
-    → (e : Ended place step under first a (Some now) c d NoEnd) → Behind (place e.state) (length (joined e.lines)) (e.rest ++ now)
-behind_open place step under follows first a now c d e =
+behind_open : {X : Type 0} (place : X → Place) (step : X → List ℕ → List ℕ → X → Type 0) (under : X → List ℕ → List ℕ → Type 0) → Follows place step → (first : X) (source : SourceUse) (sink : SinkUse) (now : List ℕ) → source.left_now ≡ Some now
+    → (e : Ended place step under first source sink NoEnd) → Behind (place e.state) (length (joined e.lines)) (e.rest ++ now)
+behind_open place step under follows first source sink now left e =
     elim e.cause [
       | inl none ↦
-          let same : e.rest ++ now ≡ [] = ap (λ (x : List ℕ). e.rest ++ x) none.2.0 ∙ append-nil e.rest ∙ none.0 in
+          let same : e.rest ++ now ≡ [] = ap (λ (x : List ℕ). e.rest ++ x) (at_end source.left_now now left none.2.0) ∙ append-nil e.rest ∙ none.0 in
           Bare (subst (λ (x : List ℕ). IsUnbroken x) (sym same) tt) (λ ends some. let h : length (e.rest ++ now) ≡ length {A = ℕ} [] = ap length same in omega (arith, h, some))
       | inr other ↦ elim other [
         | inl full ↦ Long e.rest now full.0.unbroken (λ m short fits. omega (arith, fits, full.2, length-append (joined e.lines) e.rest)) refl
         | inr acted ↦
-            let same : e.rest ++ now ≡ e.rest = ap (λ (x : List ℕ). e.rest ++ x) acted.4.0 ∙ append-nil e.rest in
+            let same : e.rest ++ now ≡ e.rest = ap (λ (x : List ℕ). e.rest ++ x) (at_end source.left_now now left acted.4.0) ∙ append-nil e.rest in
             Bare (subst (λ (x : List ℕ). IsUnbroken x) (sym same) acted.1.unbroken)
             (λ ends some.
             let stops : followed (verdict (place e.state) e.rest) (λ next. Some next) ≡ None = ends_stop (verdict (place e.state) e.rest) (ap (λ (x : List ℕ). verdict (place e.state) x) (sym same) ∙ ends) (λ next. Some next) in
@@ -163,31 +168,40 @@ behind_open place step under follows first a now c d e =
       ]
     ]
 
-told_bytes : (left now lines rest : List ℕ) → Some left ≡ Some ((lines ++ rest) ++ now) → left ≡ lines ++ (rest ++ now)
-told_bytes left now lines rest is = let h : left ≡ (lines ++ rest) ++ now = (cc) in h ∙ append_assoc lines rest now
+told_bytes : (old new : Option (List ℕ)) (left now lines rest : List ℕ) → old ≡ Some left → new ≡ Some now → Takes old (lines ++ rest) new → left ≡ lines ++ (rest ++ now)
+told_bytes old new left now lines rest told is took =
+    let here : Takes old (lines ++ rest) (Some now) = subst (λ (x : Option (List ℕ)). Takes old (lines ++ rest) x) is took in
+    let same : Some left ≡ Some ((lines ++ rest) ++ now) = sym told ∙ here in
+    let h : left ≡ (lines ++ rest) ++ now = (cc) in
+    h ∙ append_assoc lines rest now
 
 -- by the status, where the source tells what is left
-by_status : {X : Type 0} (place : X → Place) (step : X → List ℕ → List ℕ → X → Type 0) (under : X → List ℕ → List ℕ → Type 0) → Follows place step → (first : X) (left now : List ℕ) (c d : Option (List ℕ)) (reads reads_now writes writes_now : ℕ) (status : Status)
-    → HasEnd (place first) left → (Rose reads reads_now → ⊥) → (Rose writes writes_now → ⊥)
-    → Outcome place step under first (Some left) (Some now) c d reads reads_now writes writes_now status → (status ≡ Done) ⊎ (status ≡ Memory)
-by_status place step under follows first left now c d reads reads_now writes writes_now Done script read_well wrote_well o = inl refl
-by_status place step under follows first left now c d reads reads_now writes writes_now Memory script read_well wrote_well o = inr refl
-by_status place step under follows first left now c d reads reads_now writes writes_now WrongWords script read_well wrote_well o = absurd o.ended.cause
-by_status place step under follows first left now c d reads reads_now writes writes_now ReadFault script read_well wrote_well o = absurd (read_well (o.read.failed refl))
-by_status place step under follows first left now c d reads reads_now writes writes_now WriteFault script read_well wrote_well o = absurd (wrote_well (o.write.failed refl))
-by_status place step under follows first left now c d reads reads_now writes writes_now FaultLine script read_well wrote_well o =
+by_status : {X : Type 0} (place : X → Place) (step : X → List ℕ → List ℕ → X → Type 0) (under : X → List ℕ → List ℕ → Type 0) → Follows place step → (first : X) (source : SourceUse) (sink : SinkUse) (left now : List ℕ) (status : Status) → source.left ≡ Some left → source.left_now ≡ Some now
+    → HasEnd (place first) left → (Rose source.faults source.faults_now → ⊥) → (Rose sink.faults sink.faults_now → ⊥)
+    → Outcome place step under first source sink status → (status ≡ Done) ⊎ (status ≡ Memory)
+by_status place step under follows first source sink left now Done told is script read_well wrote_well o = inl refl
+by_status place step under follows first source sink left now Memory told is script read_well wrote_well o = inr refl
+by_status place step under follows first source sink left now WrongWords told is script read_well wrote_well o = absurd o.ended.cause
+by_status place step under follows first source sink left now ReadFault told is script read_well wrote_well o = absurd (read_well (o.read.failed refl))
+by_status place step under follows first source sink left now WriteFault told is script read_well wrote_well o = absurd (wrote_well (o.write.failed refl))
+by_status place step under follows first source sink left now FaultLine told is script read_well wrote_well o =
     absurd (no_other_end (place first) left o.ended.lines (place o.ended.state) (o.ended.rest ++ now) script o.ended.each
     (run_place place step follows first o.ended.lines o.ended.written o.ended.state o.ended.runs)
-    (told_bytes left now (joined o.ended.lines) o.ended.rest o.ended.taken) (behind_refused place step under first (Some left) now c d o.ended))
-by_status place step under follows first left now c d reads reads_now writes writes_now NoEnd script read_well wrote_well o =
+    (told_bytes source.left source.left_now left now (joined o.ended.lines) o.ended.rest told is o.ended.taken) (behind_refused place step under first source sink now is o.ended))
+by_status place step under follows first source sink left now NoEnd told is script read_well wrote_well o =
     absurd (no_other_end (place first) left o.ended.lines (place o.ended.state) (o.ended.rest ++ now) script o.ended.each
     (run_place place step follows first o.ended.lines o.ended.written o.ended.state o.ended.runs)
-    (told_bytes left now (joined o.ended.lines) o.ended.rest o.ended.taken) (behind_open place step under follows first (Some left) now c d o.ended))
+    (told_bytes source.left source.left_now left now (joined o.ended.lines) o.ended.rest told is o.ended.taken) (behind_open place step under follows first source sink now is o.ended))
 
-pub comes_to_its_end_law : {X : Type 0} (place : X → Place) (step : X → List ℕ → List ℕ → X → Type 0) (under : X → List ℕ → List ℕ → Type 0) → Follows place step → (first : X) (left : List ℕ) (source_now c d : Option (List ℕ)) (reads reads_now writes writes_now : ℕ) (status : Status)
-    → HasEnd (place first) left → (Rose reads reads_now → ⊥) → (Rose writes writes_now → ⊥)
-    → Outcome place step under first (Some left) source_now c d reads reads_now writes writes_now status → (status ≡ Done) ⊎ (status ≡ Memory)
-comes_to_its_end_law place step under follows first left None c d reads reads_now writes writes_now status script read_well wrote_well o =
-    let h : Some left ≡ None = o.ended.taken in absurd (cc)
-comes_to_its_end_law place step under follows first left (Some now) c d reads reads_now writes writes_now status script read_well wrote_well o =
-    by_status place step under follows first left now c d reads reads_now writes writes_now status script read_well wrote_well o
+-- a source that told what was left tells what is left now
+told_now : (old new : Option (List ℕ)) (left bytes : List ℕ) → old ≡ Some left → Takes old bytes new → (now : List ℕ) × (new ≡ Some now)
+told_now old None left bytes told took = let h : None ≡ Some left = sym took ∙ told in absurd (cc)
+told_now old (Some now) left bytes told took = (now, refl)
+
+pub comes_to_its_end_law : {X : Type 0} (place : X → Place) (step : X → List ℕ → List ℕ → X → Type 0) (under : X → List ℕ → List ℕ → Type 0) → Follows place step
+    → (first : X) (source : SourceUse) (sink : SinkUse) (left : List ℕ) (status : Status) → source.left ≡ Some left
+    → HasEnd (place first) left → (Rose source.faults source.faults_now → ⊥) → (Rose sink.faults sink.faults_now → ⊥)
+    → Outcome place step under first source sink status → (status ≡ Done) ⊎ (status ≡ Memory)
+comes_to_its_end_law place step under follows first source sink left status told script read_well wrote_well o =
+    let now = told_now source.left source.left_now left (joined o.ended.lines ++ o.ended.rest) told o.ended.taken in
+    by_status place step under follows first source sink left now.0 status told now.1 script read_well wrote_well o

@@ -3,3 +3,4 @@ pub mod Exits
 pub mod Splits
 pub mod OneStatus
 pub mod Ending
+pub mod OneTranscript

@@ -3,7 +3,7 @@ use Rattle.std.proofs.Common.{◌≡◌, ◌≢◌, ◌∙◌, ℕ, ◌<◌, ◌
 use Rattle.std.specs.List.{AllByRecursion}
 use Rattle.std.proofs.lemmas.List.{append_cancel_right}
 use Rattle.outside.specs.Causes.{Rose, HasCause}
-use Rattle.outside.specs.Streams.{IsAtEnd}
+use Rattle.outside.specs.Streams.{Takes, IsAtEnd}
 use Rattle.script_lines.specs.Places.{Place}
 use Rattle.script_lines.specs.Grammar.{Verdict}
 use Rattle.script_lines.specs.Grammar.{Acts, Ends, Refused}
@@ -13,6 +13,7 @@ use Rattle.script_run.specs.declared.status.Status.{Status}
 use Rattle.script_run.specs.declared.status.Status.TheVariants.{Done, WrongWords, FaultLine, ReadFault, WriteFault, Memory, NoEnd}
 use Rattle.script_run.specs.Transcript.{budget, Runs, Spells, Ended}
 use Rattle.script_run.specs.Outcome.{Outcome}
+use Rattle.script_run.specs.Uses.{SourceUse, SinkUse, IsTold, CountAlike}
 use Rattle.script_run.proofs.Splits.{same_open, same_whole, whole_and_open}
 
 -- a line that acts leads where the grammar says
@@ -112,25 +113,25 @@ line_form p bytes v P lines rest line q at_end each stands is judged known small
           is
     ]
 
-done_form : {X : Type 0} (place : X → Place) (step : X → List ℕ → List ℕ → X → Type 0) (under : X → List ℕ → List ℕ → Type 0) → Follows place step → (first : X) (a b c d : Option (List ℕ))
-    → (e : Ended place step under first a b c d Done) → Form (place first) (joined e.lines ++ e.rest) Ends (LastLine Ends (length (joined e.lines ++ e.rest)))
-done_form place step under follows first a b c d e =
+done_form : {X : Type 0} (place : X → Place) (step : X → List ℕ → List ℕ → X → Type 0) (under : X → List ℕ → List ℕ → Type 0) → Follows place step → (first : X) (source : SourceUse) (sink : SinkUse)
+    → (e : Ended place step under first source sink Done) → Form (place first) (joined e.lines ++ e.rest) Ends (LastLine Ends (length (joined e.lines ++ e.rest)))
+done_form place step under follows first source sink e =
     line_form (place first) (joined e.lines ++ e.rest) Ends (LastLine Ends (length (joined e.lines ++ e.rest))) e.lines e.rest e.cause.0 (place e.state)
-    (IsAtEnd b × (length (joined e.lines ++ e.rest) < budget)) e.each (run_place place step follows first e.lines e.written e.state e.runs) refl e.cause.2 (λ at h. h) (λ at. at.1) e.cause.1
+    (IsAtEnd source.left_now × (length (joined e.lines ++ e.rest) < budget)) e.each (run_place place step follows first e.lines e.written e.state e.runs) refl e.cause.2 (λ at h. h) (λ at. at.1) e.cause.1
 
-refused_form : {X : Type 0} (place : X → Place) (step : X → List ℕ → List ℕ → X → Type 0) (under : X → List ℕ → List ℕ → Type 0) → Follows place step → (first : X) (a b c d : Option (List ℕ))
-    → (e : Ended place step under first a b c d FaultLine) → Form (place first) (joined e.lines ++ e.rest) Refused (LastOrLong (length (joined e.lines ++ e.rest)))
-refused_form place step under follows first a b c d e =
+refused_form : {X : Type 0} (place : X → Place) (step : X → List ℕ → List ℕ → X → Type 0) (under : X → List ℕ → List ℕ → Type 0) → Follows place step → (first : X) (source : SourceUse) (sink : SinkUse)
+    → (e : Ended place step under first source sink FaultLine) → Form (place first) (joined e.lines ++ e.rest) Refused (LastOrLong (length (joined e.lines ++ e.rest)))
+refused_form place step under follows first source sink e =
     let stands : place_after (place first) e.lines ≡ Some (place e.state) = run_place place step follows first e.lines e.written e.state e.runs in
     elim e.cause.0 [
       | inl line ↦ line_form (place first) (joined e.lines ++ e.rest) Refused (LastOrLong (length (joined e.lines ++ e.rest))) e.lines e.rest line.0 (place e.state)
-          (IsAtEnd b × (length (joined e.lines ++ e.rest) < budget)) e.each stands refl line.2 (λ at h. inl h) (λ at. at.1) line.1
+          (IsAtEnd source.left_now × (length (joined e.lines ++ e.rest) < budget)) e.each stands refl line.2 (λ at h. inl h) (λ at. at.1) line.1
       | inr long ↦ Unclosed e.lines e.rest (place e.state) e.each long.0 stands (inr long.1) refl
     ]
 
-open_form : {X : Type 0} (place : X → Place) (step : X → List ℕ → List ℕ → X → Type 0) (under : X → List ℕ → List ℕ → Type 0) → Follows place step → (first : X) (a b c d : Option (List ℕ)) (v : Verdict)
-    → (e : Ended place step under first a b c d NoEnd) → Form (place first) (joined e.lines ++ e.rest) v (LeftOpen (length (joined e.lines ++ e.rest)))
-open_form place step under follows first a b c d v e =
+open_form : {X : Type 0} (place : X → Place) (step : X → List ℕ → List ℕ → X → Type 0) (under : X → List ℕ → List ℕ → Type 0) → Follows place step → (first : X) (source : SourceUse) (sink : SinkUse) (v : Verdict)
+    → (e : Ended place step under first source sink NoEnd) → Form (place first) (joined e.lines ++ e.rest) v (LeftOpen (length (joined e.lines ++ e.rest)))
+open_form place step under follows first source sink v e =
     let stands : place_after (place first) e.lines ≡ Some (place e.state) = run_place place step follows first e.lines e.written e.state e.runs in
     elim e.cause [
       | inl none ↦ Unclosed e.lines e.rest (place e.state) e.each (subst (λ (x : List ℕ). IsUnbroken x) (sym none.0) tt) stands (inl none.0) refl
@@ -141,37 +142,41 @@ open_form place step under follows first a b c d v e =
       ]
     ]
 
--- what two endings read of one told input
-same_bytes : (left now a b : List ℕ) → Some left ≡ Some (a ++ now) → Some left ≡ Some (b ++ now) → a ≡ b
-same_bytes left now a b one other = let h : a ++ now ≡ b ++ now = (cc) in append_cancel_right a b now h
+-- what two readings took of one told input
+pub same_bytes : (old now : Option (List ℕ)) (left a b : List ℕ) → old ≡ Some left → Takes old a now → Takes old b now → a ≡ b
+same_bytes old None left a b told one other = let h : None ≡ Some left = sym one ∙ told in absurd (cc)
+same_bytes old (Some now) left a b told one other =
+    let i : Some (a ++ now) ≡ Some (b ++ now) = sym one ∙ other in
+    let h : a ++ now ≡ b ++ now = (cc) in
+    append_cancel_right a b now h
 
 ends_differ : Ends ≡ Refused → ⊥
 ends_differ is = (cc)
 
-done_not_refused : {X : Type 0} (place : X → Place) (step : X → List ℕ → List ℕ → X → Type 0) (under : X → List ℕ → List ℕ → Type 0) → Follows place step → (first : X) (left now : List ℕ) (c d e f : Option (List ℕ))
-    → Ended place step under first (Some left) (Some now) c d Done → Ended place step under first (Some left) (Some now) e f FaultLine → ⊥
-done_not_refused place step under follows first left now c d e f one other =
-    let same : joined other.lines ++ other.rest ≡ joined one.lines ++ one.rest = same_bytes left now _ _ other.taken one.taken in
-    let form = subst (λ (x : List ℕ). Form (place first) x Refused (LastOrLong (length x))) same (refused_form place step under follows first (Some left) (Some now) e f other) in
+done_not_refused : {X : Type 0} (place : X → Place) (step : X → List ℕ → List ℕ → X → Type 0) (under : X → List ℕ → List ℕ → Type 0) → Follows place step → (first : X) (source : SourceUse) (sink also : SinkUse) → IsTold source
+    → Ended place step under first source sink Done → Ended place step under first source also FaultLine → ⊥
+done_not_refused place step under follows first source sink also told one other =
+    let same : joined other.lines ++ other.rest ≡ joined one.lines ++ one.rest = same_bytes source.left source.left_now told.0 _ _ told.1 other.taken one.taken in
+    let form = subst (λ (x : List ℕ). Form (place first) x Refused (LastOrLong (length x))) same (refused_form place step under follows first source also other) in
     not_both (place first) (joined one.lines ++ one.rest) Ends Refused _ _ ends_stop refused_stop ends_differ (done_and_refused (length (joined one.lines ++ one.rest)))
-    (done_form place step under follows first (Some left) (Some now) c d one) form
+    (done_form place step under follows first source sink one) form
 
-done_not_open : {X : Type 0} (place : X → Place) (step : X → List ℕ → List ℕ → X → Type 0) (under : X → List ℕ → List ℕ → Type 0) → Follows place step → (first : X) (left now : List ℕ) (c d e f : Option (List ℕ))
-    → Ended place step under first (Some left) (Some now) c d Done → Ended place step under first (Some left) (Some now) e f NoEnd → ⊥
-done_not_open place step under follows first left now c d e f one other =
-    let same : joined other.lines ++ other.rest ≡ joined one.lines ++ one.rest = same_bytes left now _ _ other.taken one.taken in
-    let form = subst (λ (x : List ℕ). Form (place first) x Refused (LeftOpen (length x))) same (open_form place step under follows first (Some left) (Some now) e f Refused other) in
+done_not_open : {X : Type 0} (place : X → Place) (step : X → List ℕ → List ℕ → X → Type 0) (under : X → List ℕ → List ℕ → Type 0) → Follows place step → (first : X) (source : SourceUse) (sink also : SinkUse) → IsTold source
+    → Ended place step under first source sink Done → Ended place step under first source also NoEnd → ⊥
+done_not_open place step under follows first source sink also told one other =
+    let same : joined other.lines ++ other.rest ≡ joined one.lines ++ one.rest = same_bytes source.left source.left_now told.0 _ _ told.1 other.taken one.taken in
+    let form = subst (λ (x : List ℕ). Form (place first) x Refused (LeftOpen (length x))) same (open_form place step under follows first source also Refused other) in
     not_both (place first) (joined one.lines ++ one.rest) Ends Refused _ _ ends_stop refused_stop ends_differ
     (λ q rest. open_and_last Ends (length (joined one.lines ++ one.rest)) q rest (λ f. refl))
-    (done_form place step under follows first (Some left) (Some now) c d one) form
+    (done_form place step under follows first source sink one) form
 
-refused_not_open : {X : Type 0} (place : X → Place) (step : X → List ℕ → List ℕ → X → Type 0) (under : X → List ℕ → List ℕ → Type 0) → Follows place step → (first : X) (left now : List ℕ) (c d e f : Option (List ℕ))
-    → Ended place step under first (Some left) (Some now) c d FaultLine → Ended place step under first (Some left) (Some now) e f NoEnd → ⊥
-refused_not_open place step under follows first left now c d e f one other =
-    let same : joined other.lines ++ other.rest ≡ joined one.lines ++ one.rest = same_bytes left now _ _ other.taken one.taken in
-    let form = subst (λ (x : List ℕ). Form (place first) x Ends (LeftOpen (length x))) same (open_form place step under follows first (Some left) (Some now) e f Ends other) in
+refused_not_open : {X : Type 0} (place : X → Place) (step : X → List ℕ → List ℕ → X → Type 0) (under : X → List ℕ → List ℕ → Type 0) → Follows place step → (first : X) (source : SourceUse) (sink also : SinkUse) → IsTold source
+    → Ended place step under first source sink FaultLine → Ended place step under first source also NoEnd → ⊥
+refused_not_open place step under follows first source sink also told one other =
+    let same : joined other.lines ++ other.rest ≡ joined one.lines ++ one.rest = same_bytes source.left source.left_now told.0 _ _ told.1 other.taken one.taken in
+    let form = subst (λ (x : List ℕ). Form (place first) x Ends (LeftOpen (length x))) same (open_form place step under follows first source also Ends other) in
     not_both (place first) (joined one.lines ++ one.rest) Refused Ends _ _ refused_stop ends_stop (λ is. ends_differ (sym is)) (open_and_refused (length (joined one.lines ++ one.rest)))
-    (refused_form place step under follows first (Some left) (Some now) c d one) form
+    (refused_form place step under follows first source sink one) form
 
 -- a count below its end rose, or stood still
 not_risen : (before now : ℕ) → before < 18446744073709551615 → Rose before now → now ≡ before → ⊥
@@ -185,34 +190,34 @@ write_shown : (before now : ℕ) (a b : Status) → before < 1844674407370955161
 write_shown before now a b below one other is not = not_risen before now below (one.failed is) (other.kept not)
 
 -- what no count shows: both read to an end of the script's own
-by_bytes : {X : Type 0} (place : X → Place) (step : X → List ℕ → List ℕ → X → Type 0) (under : X → List ℕ → List ℕ → Type 0) → Follows place step → (first : X) (left now : List ℕ) (c d e f : Option (List ℕ)) (a b : Status)
-    → Ended place step under first (Some left) (Some now) c d a → Ended place step under first (Some left) (Some now) e f b
+by_bytes : {X : Type 0} (place : X → Place) (step : X → List ℕ → List ℕ → X → Type 0) (under : X → List ℕ → List ℕ → Type 0) → Follows place step → (first : X) (source : SourceUse) (sink also : SinkUse) (a b : Status) → IsTold source
+    → Ended place step under first source sink a → Ended place step under first source also b
     → a ≢ Memory → b ≢ Memory → (a ≡ ReadFault → b ≡ ReadFault) → (b ≡ ReadFault → a ≡ ReadFault) → (a ≡ WriteFault → b ≡ WriteFault) → (b ≡ WriteFault → a ≡ WriteFault) → a ≡ b
-by_bytes place step under follows first left now c d e f WrongWords b one other na nb ra rb wa wb = absurd one.cause
-by_bytes place step under follows first left now c d e f Memory b one other na nb ra rb wa wb = absurd (na refl)
-by_bytes place step under follows first left now c d e f ReadFault b one other na nb ra rb wa wb = sym (ra refl)
-by_bytes place step under follows first left now c d e f WriteFault b one other na nb ra rb wa wb = sym (wa refl)
-by_bytes place step under follows first left now c d e f Done WrongWords one other na nb ra rb wa wb = absurd other.cause
-by_bytes place step under follows first left now c d e f Done Memory one other na nb ra rb wa wb = absurd (nb refl)
-by_bytes place step under follows first left now c d e f Done ReadFault one other na nb ra rb wa wb = rb refl
-by_bytes place step under follows first left now c d e f Done WriteFault one other na nb ra rb wa wb = wb refl
-by_bytes place step under follows first left now c d e f Done Done one other na nb ra rb wa wb = refl
-by_bytes place step under follows first left now c d e f Done FaultLine one other na nb ra rb wa wb = absurd (done_not_refused place step under follows first left now c d e f one other)
-by_bytes place step under follows first left now c d e f Done NoEnd one other na nb ra rb wa wb = absurd (done_not_open place step under follows first left now c d e f one other)
-by_bytes place step under follows first left now c d e f FaultLine WrongWords one other na nb ra rb wa wb = absurd other.cause
-by_bytes place step under follows first left now c d e f FaultLine Memory one other na nb ra rb wa wb = absurd (nb refl)
-by_bytes place step under follows first left now c d e f FaultLine ReadFault one other na nb ra rb wa wb = rb refl
-by_bytes place step under follows first left now c d e f FaultLine WriteFault one other na nb ra rb wa wb = wb refl
-by_bytes place step under follows first left now c d e f FaultLine Done one other na nb ra rb wa wb = absurd (done_not_refused place step under follows first left now e f c d other one)
-by_bytes place step under follows first left now c d e f FaultLine FaultLine one other na nb ra rb wa wb = refl
-by_bytes place step under follows first left now c d e f FaultLine NoEnd one other na nb ra rb wa wb = absurd (refused_not_open place step under follows first left now c d e f one other)
-by_bytes place step under follows first left now c d e f NoEnd WrongWords one other na nb ra rb wa wb = absurd other.cause
-by_bytes place step under follows first left now c d e f NoEnd Memory one other na nb ra rb wa wb = absurd (nb refl)
-by_bytes place step under follows first left now c d e f NoEnd ReadFault one other na nb ra rb wa wb = rb refl
-by_bytes place step under follows first left now c d e f NoEnd WriteFault one other na nb ra rb wa wb = wb refl
-by_bytes place step under follows first left now c d e f NoEnd Done one other na nb ra rb wa wb = absurd (done_not_open place step under follows first left now e f c d other one)
-by_bytes place step under follows first left now c d e f NoEnd FaultLine one other na nb ra rb wa wb = absurd (refused_not_open place step under follows first left now e f c d other one)
-by_bytes place step under follows first left now c d e f NoEnd NoEnd one other na nb ra rb wa wb = refl
+by_bytes place step under follows first source sink also WrongWords b told one other na nb ra rb wa wb = absurd one.cause
+by_bytes place step under follows first source sink also Memory b told one other na nb ra rb wa wb = absurd (na refl)
+by_bytes place step under follows first source sink also ReadFault b told one other na nb ra rb wa wb = sym (ra refl)
+by_bytes place step under follows first source sink also WriteFault b told one other na nb ra rb wa wb = sym (wa refl)
+by_bytes place step under follows first source sink also Done WrongWords told one other na nb ra rb wa wb = absurd other.cause
+by_bytes place step under follows first source sink also Done Memory told one other na nb ra rb wa wb = absurd (nb refl)
+by_bytes place step under follows first source sink also Done ReadFault told one other na nb ra rb wa wb = rb refl
+by_bytes place step under follows first source sink also Done WriteFault told one other na nb ra rb wa wb = wb refl
+by_bytes place step under follows first source sink also Done Done told one other na nb ra rb wa wb = refl
+by_bytes place step under follows first source sink also Done FaultLine told one other na nb ra rb wa wb = absurd (done_not_refused place step under follows first source sink also told one other)
+by_bytes place step under follows first source sink also Done NoEnd told one other na nb ra rb wa wb = absurd (done_not_open place step under follows first source sink also told one other)
+by_bytes place step under follows first source sink also FaultLine WrongWords told one other na nb ra rb wa wb = absurd other.cause
+by_bytes place step under follows first source sink also FaultLine Memory told one other na nb ra rb wa wb = absurd (nb refl)
+by_bytes place step under follows first source sink also FaultLine ReadFault told one other na nb ra rb wa wb = rb refl
+by_bytes place step under follows first source sink also FaultLine WriteFault told one other na nb ra rb wa wb = wb refl
+by_bytes place step under follows first source sink also FaultLine Done told one other na nb ra rb wa wb = absurd (done_not_refused place step under follows first source also sink told other one)
+by_bytes place step under follows first source sink also FaultLine FaultLine told one other na nb ra rb wa wb = refl
+by_bytes place step under follows first source sink also FaultLine NoEnd told one other na nb ra rb wa wb = absurd (refused_not_open place step under follows first source sink also told one other)
+by_bytes place step under follows first source sink also NoEnd WrongWords told one other na nb ra rb wa wb = absurd other.cause
+by_bytes place step under follows first source sink also NoEnd Memory told one other na nb ra rb wa wb = absurd (nb refl)
+by_bytes place step under follows first source sink also NoEnd ReadFault told one other na nb ra rb wa wb = rb refl
+by_bytes place step under follows first source sink also NoEnd WriteFault told one other na nb ra rb wa wb = wb refl
+by_bytes place step under follows first source sink also NoEnd Done told one other na nb ra rb wa wb = absurd (done_not_open place step under follows first source also sink told other one)
+by_bytes place step under follows first source sink also NoEnd FaultLine told one other na nb ra rb wa wb = absurd (refused_not_open place step under follows first source also sink told other one)
+by_bytes place step under follows first source sink also NoEnd NoEnd told one other na nb ra rb wa wb = refl
 
 -- whether the status is that one
 is_read : (s : Status) → (s ≡ ReadFault) ⊎ (s ≡ ReadFault → ⊥)
@@ -240,12 +245,13 @@ both_write : (before now : ℕ) (a b : Status) → before < 18446744073709551615
 both_write before now a b below one other is = elim (is_write b) [ inl it ↦ it | inr isnt ↦ absurd (write_shown before now a b below one other is isnt) ]
 
 pub one_status_law : {X : Type 0} (place : X → Place) (step : X → List ℕ → List ℕ → X → Type 0) (under : X → List ℕ → List ℕ → Type 0) → Follows place step
-    → (first : X) (left now : List ℕ) (c d e f : Option (List ℕ)) (reads reads_now writes writes_now : ℕ) (a b : Status)
-    → reads < 18446744073709551615 → writes < 18446744073709551615
-    → Outcome place step under first (Some left) (Some now) c d reads reads_now writes writes_now a
-    → Outcome place step under first (Some left) (Some now) e f reads reads_now writes writes_now b
+    → (first : X) (source : SourceUse) (sink other : SinkUse) (a b : Status)
+    → IsTold source → CountAlike sink other → source.faults < 18446744073709551615 → sink.faults < 18446744073709551615
+    → Outcome place step under first source sink a → Outcome place step under first source other b
     → a ≢ Memory → b ≢ Memory → a ≡ b
-one_status_law place step under follows first left now c d e f reads reads_now writes writes_now a b few little one other na nb =
-    by_bytes place step under follows first left now c d e f a b one.ended other.ended na nb
-    (both_read reads reads_now a b few one.read other.read) (both_read reads reads_now b a few other.read one.read)
-    (both_write writes writes_now a b little one.write other.write) (both_write writes writes_now b a little other.write one.write)
+one_status_law place step under follows first source sink other a b told alike few little one also na nb =
+    let same : HasCause sink.faults sink.faults_now (b ≡ WriteFault) =
+    subst (λ (n : ℕ). HasCause n sink.faults_now (b ≡ WriteFault)) alike.0 (subst (λ (n : ℕ). HasCause other.faults n (b ≡ WriteFault)) alike.1 also.write) in
+    by_bytes place step under follows first source sink other a b told one.ended also.ended na nb
+    (both_read source.faults source.faults_now a b few one.read also.read) (both_read source.faults source.faults_now b a few also.read one.read)
+    (both_write sink.faults sink.faults_now a b little one.write same) (both_write sink.faults sink.faults_now b a little same one.write)

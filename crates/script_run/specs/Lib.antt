@@ -1,4 +1,6 @@
 pub mod Play
+pub mod Uses
 pub mod Transcript
 pub mod Outcome
 pub mod Complete
+pub mod Determined

@@ -1,7 +1,7 @@
 -- The transcript of a script, and why it ends with a status. A script is played on states: `place` says
 -- where its grammar stands, `step` what a line that acts writes and leads to, `under` what a line that is
 -- under way has made so far.
-use Rattle.std.specs.Prelude.{ℕ, ◌≡◌, ◌+◌, ◌<◌, List, [], ◌∷◌, ◌++◌, length, Option, ◌⊎◌}
+use Rattle.std.specs.Prelude.{ℕ, ◌≡◌, ◌+◌, ◌<◌, ◌≤◌, List, [], ◌∷◌, ◌++◌, length, ◌⊎◌}
 use Rattle.std.specs.List.{AllByRecursion}
 use Rattle.outside.specs.Streams.{Takes, Adds, IsAtEnd}
 use Rattle.script_lines.specs.Places.{Place}
@@ -12,6 +12,7 @@ use Rattle.script_lines.specs.Records.{IsFront, fault_text}
 use Rattle.script_run.specs.declared.status.Status.{Status}
 use Rattle.script_run.specs.declared.status.Status.TheVariants.{Done, WrongWords, FaultLine, ReadFault, WriteFault, Memory, NoEnd}
 use Rattle.script_run.specs.Play.{IsCut}
+use Rattle.script_run.specs.Uses.{SourceUse, SinkUse}
 
 -- how many bytes of a script are read at most
 abbrev pub budget : ℕ
@@ -40,6 +41,10 @@ Writes place under at_end s number rest out =
     ((line : List ℕ) × Spells at_end line rest × under s line out)
     ⊎ (IsRefused at_end (place s) rest × (out ≡ fault_text number))
 
+-- The bytes stand within a line that is being read, or are the line under way and its newline.
+abbrev pub IsWithin : List ℕ → Type 0
+IsWithin rest = (IsUnbroken rest × (length rest ≤ 70001)) ⊎ ((line : List ℕ) × IsLine line × (rest ≡ line ++ 10 ∷ []))
+
 -- Why a script ends with a status. `rest` is what was read behind the lines that acted, `tail` what was
 -- written behind their records, `at_end` that the source ended, `full` that the budget is used up.
 abbrev pub Cause : {X : Type 0} → (X → Place) → (X → List ℕ → List ℕ → X → Type 0) → (X → List ℕ → List ℕ → Type 0)
@@ -54,25 +59,27 @@ Cause place step under FaultLine at_end full s number rest tail = IsRefused at_e
 Cause place step under ReadFault at_end full s number rest tail = IsLine rest × (tail ≡ [])
 -- the sink failed before all was written
 Cause place step under WriteFault at_end full s number rest tail = (out : List ℕ) × IsCut tail out × Writes place under at_end s number rest out
--- no memory: nothing was written behind the lines, or a front of what was made
+-- no memory: the source stands in or behind the line under way; nothing was written for it, or a front of what was made
 Cause place step under Memory at_end full s number rest tail =
-    (tail ≡ []) ⊎ ((out : List ℕ) × IsFront tail out × Writes place under at_end s number rest out)
+    (IsWithin rest × (tail ≡ [])) ⊎ ((out : List ℕ) × IsFront tail out × Writes place under at_end s number rest out)
 -- the source ended behind a newline; or the budget is used up; or the last line has no newline and acted
 Cause {X} place step under NoEnd at_end full s number rest tail =
     ((rest ≡ []) × (tail ≡ []) × at_end)
     ⊎ ((IsLine rest × (tail ≡ []) × full)
     ⊎ ((t : X) × IsLine rest × (0 < length rest) × step s rest tail t × at_end))
 
--- A script was read and played, and ended with this status.
-pub record Ended {X : Type 0} (place : X → Place) (step : X → List ℕ → List ℕ → X → Type 0) (under : X → List ℕ → List ℕ → Type 0) (first : X) (source_then source_now sink_then sink_now : Option (List ℕ)) (status : Status) : Type 0 where
+-- A script was read from a source, played and written to a sink, and ended with this status.
+pub record Ended {X : Type 0} (place : X → Place) (step : X → List ℕ → List ℕ → X → Type 0) (under : X → List ℕ → List ℕ → Type 0)
+    (first : X) (source : SourceUse) (sink : SinkUse) (status : Status) : Type 0 where
   pub lines : List (List ℕ)
   pub rest : List ℕ
   pub written : List ℕ
   pub tail : List ℕ
   pub state : X
   -- what was read is these lines and the rest, what was written is their records and the tail
-  pub taken : Takes source_then (joined lines ++ rest) source_now
-  pub added : Adds sink_then (written ++ tail) sink_now
+  pub taken : Takes source.left (joined lines ++ rest) source.left_now
+  pub added : Adds sink.written (written ++ tail) sink.written_now
   pub each : AllByRecursion IsLine lines
   pub runs : Runs step first lines written state
-  pub cause : Cause place step under status (IsAtEnd source_now × (length (joined lines ++ rest) < budget)) (length (joined lines ++ rest) ≡ budget) state (length lines + 1) rest tail
+  pub cause : Cause place step under status (IsAtEnd source.left_now × (length (joined lines ++ rest) < budget))
+      (length (joined lines ++ rest) ≡ budget) state (length lines + 1) rest tail

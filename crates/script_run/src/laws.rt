@@ -1,8 +1,9 @@
-//! Laws of scripts.
-ghost use Rattle.std.specs.Prelude.{◌≡◌, ◌≢◌, ◌<◌, ◌⊎◌, ℕ, List, Option, Some};
+//! Laws of scripts, for any player.
+ghost use Rattle.std.specs.Prelude.{◌≡◌, ◌≢◌, ◌<◌, ◌⊎◌, ℕ, List, Some};
 ghost use Rattle.outside.specs.Causes.{Rose};
 ghost use Rattle.script_run.specs.Complete.{HasEnd};
 ghost use Rattle.script_run.specs.Outcome.{Outcome};
+ghost use Rattle.script_run.specs.Uses.{SourceUse, SinkUse, IsTold, CountAlike};
 ghost use Rattle.script_run.specs.declared.status.Status.{Status};
 
 use crate::play::Play;
@@ -12,18 +13,30 @@ use crate::status::Status;
 /// lines that were read and what is left of them are unique, whatever the source's pieces were and
 /// whatever the sink tells.
 pub fn one_status<P: Play>()
-    ensures { (first : P.State) (left left_now : List ℕ) (sink sink_now other other_now : Option (List ℕ)) (reads reads_now writes writes_now : ℕ) (a b : Status)
-        → reads < 18446744073709551615 → writes < 18446744073709551615
-        → Outcome P.place P.step P.under first (Some left) (Some left_now) sink sink_now reads reads_now writes writes_now a
-        → Outcome P.place P.step P.under first (Some left) (Some left_now) other other_now reads reads_now writes writes_now b
+    ensures { (first : P.State) (source : SourceUse) (sink other : SinkUse) (a b : Status)
+        → IsTold source → CountAlike sink other → source.faults < 18446744073709551615 → sink.faults < 18446744073709551615
+        → Outcome P.place P.step P.under first source sink a → Outcome P.place P.step P.under first source other b
         → a ≢ Status.Memory → b ≢ Status.Memory → a ≡ b }
 {}
+
+/// A script has one transcript: two plays of one told source, from one good state on, that end with the
+/// same status, not for want of memory or a failed sink, leave the same in sinks that held the same. So
+/// nothing in what a script writes is left to a choice.
+pub fn one_transcript<P: Play>()
+    ensures { (first : P.State) (source also : SourceUse) (sink other : SinkUse) (status : Status)
+        → P.is_good first → IsTold source → also.left ≡ source.left → also.left_now ≡ source.left_now → other.written ≡ sink.written
+        → Outcome P.place P.step P.under first source sink status → Outcome P.place P.step P.under first also other status
+        → status ≢ Status.Memory → status ≢ Status.WriteFault → sink.written_now ≡ other.written_now }
+{
+    P::steps_once();
+}
 
 /// A told script whose lines all act up to a line `end` in time, over a source and a sink whose counts
 /// don't rise, is done, or there was no memory.
 pub fn comes_to_its_end<P: Play>()
-    ensures { (first : P.State) (left : List ℕ) (left_now sink sink_now : Option (List ℕ)) (reads reads_now writes writes_now : ℕ) (status : Status)
-        → HasEnd (P.place first) left → (Rose reads reads_now → ⊥) → (Rose writes writes_now → ⊥)
-        → Outcome P.place P.step P.under first (Some left) left_now sink sink_now reads reads_now writes writes_now status
+    ensures { (first : P.State) (source : SourceUse) (sink : SinkUse) (left : List ℕ) (status : Status)
+        → source.left ≡ Some left → HasEnd (P.place first) left
+        → (Rose source.faults source.faults_now → ⊥) → (Rose sink.faults sink.faults_now → ⊥)
+        → Outcome P.place P.step P.under first source sink status
         → (status ≡ Status.Done) ⊎ (status ≡ Status.Memory) }
 {}

@@ -2,7 +2,8 @@
 //!
 //! A `Play` takes one line after the other. `run` reads a script from a source, hands its lines to the
 //! player, and answers the one status that the bytes and the counts of faults allow. `one_status` is
-//! the law that there is only one, `comes_to_its_end` that a script with an end in time comes to it.
+//! the law that there is only one, `one_transcript` that there is only one transcript, and
+//! `comes_to_its_end` that a script with an end in time comes to it.
 #![tactic(auto)]
 
 mod laws;
@@ -10,7 +11,7 @@ mod play;
 mod program;
 mod status;
 
-pub use laws::{comes_to_its_end, one_status};
+pub use laws::{comes_to_its_end, one_status, one_transcript};
 pub use play::{Play, refuse};
 pub use program::run;
 pub use status::Status;

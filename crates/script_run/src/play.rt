@@ -3,6 +3,7 @@ ghost use Rattle.std.specs.Prelude.{◌≡◌, ℕ, List, Some};
 ghost use Rattle.outside.specs.Causes.{HasCause};
 ghost use Rattle.script_lines.specs.Places.{Place};
 ghost use Rattle.script_lines.specs.Grammar.{verdict, followed};
+ghost use Rattle.script_run.specs.Determined.{StepsOnce, StaysGood};
 ghost use Rattle.script_run.specs.Play.{Answers, Refuses};
 
 use crate::status::Status;
@@ -37,6 +38,14 @@ pub trait Play {
     ) -> Option<Status>
         ensures answers { Answers place step under result (state self.old) line.now number (state self.new) (T.written sink.old) (T.written sink.new) }
         ensures cause { HasCause (T.faults sink.old) (T.faults sink.new) (result ≡ Some Status.WriteFault) };
+
+    /// The states from which what a line writes is no choice.
+    ghost is_good: { State → Type 0 };
+
+    /// A law: from a good state a line that acts writes one thing and leads to one state, which is good.
+    fn steps_once()
+        ensures once { StepsOnce step is_good }
+        ensures stays { StaysGood step is_good };
 
     /// A line acts only where the grammar lets it, and the script then stands where the grammar says.
     ghost follows: { (s : State) (line out : List ℕ) (t : State) → step s line out t → followed (verdict (place s) line) (λ next. Some next) ≡ Some (place t) };

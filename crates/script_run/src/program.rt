@@ -3,6 +3,7 @@ ghost use Rattle.std.specs.Prelude.{◌≡◌, ◌+◌, ◌<◌};
 ghost use Rattle.outside.specs.Causes.{HasCause};
 ghost use Rattle.script_run.specs.Play.{Answers, answer_of};
 ghost use Rattle.script_run.specs.Transcript.{Ended};
+ghost use Rattle.script_run.specs.Uses.{source_use, sink_use};
 
 use crate::play::{Play, refuse};
 use crate::status::Status;
@@ -22,7 +23,9 @@ pub fn run<P: Play, S: Source, T: Sink>(
     source: &mut S,
     sink: &mut T,
 ) -> Status
-    ensures ended { Ended P.place P.step P.under (P.state player.old) (S.left source.old) (S.left source.new) (T.written sink.old) (T.written sink.new) result }
+    ensures ended { let of_source = source_use S.left S.faults source.old source.new in
+        let of_sink = sink_use T.written T.faults sink.old sink.new in
+        Ended P.place P.step P.under (P.state player.old) of_source of_sink result }
     ensures read { HasCause (S.faults source.old) (S.faults source.new) (result ≡ Status.ReadFault) }
     ensures write { HasCause (T.faults sink.old) (T.faults sink.new) (result ≡ Status.WriteFault) }
 {

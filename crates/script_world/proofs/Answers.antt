@@ -15,7 +15,7 @@ use Rattle.document_machine.specs.declared.outs.Turned.{Turned}
 use Rattle.document_machine.specs.declared.outs.Turned.TheVariants.{Worked, Idle}
 use Rattle.kit_trait.specs.Rules.{Rules}
 use Rattle.kit_trait.specs.declared.jobs.PaintJob.{PaintJob}
-use Rattle.kit_trait.specs.declared.values.Pixels.{Pixels}
+use Rattle.tile_key.specs.Places.{Place}
 use Rattle.script_world.specs.Answered.{AnswersAll}
 use Rattle.script_world.specs.House.{TurnsDocument}
 use Rattle.script_world.specs.Seats.{Seats, record_to, records}
@@ -29,30 +29,30 @@ no_items [] none = refl
 no_items (x ∷ xs) none = absurd (omega (arith, none))
 
 -- what the jobs that are left lead to is what all of them lead to, with the records so far in front
-abbrev pub LeadsTo : {C B S : Type 0} → Rules C B → (S → Pixels) → Seats → Option (Document S) → List (PaintJob S) → Option (Document S) → List (PaintJob S) → List ℕ → Type 0
-LeadsTo {C} {B} {S} rules paints seats old jobs now left bytes = (out : List ℕ) (new : Option (Document S))
-    → AnswersAll rules paints seats now left out new → AnswersAll rules paints seats old jobs (bytes ++ out) new
+abbrev pub LeadsTo : {C B S : Type 0} → Rules C B → (C → Place → S) → Seats → Option (Document S) → List (PaintJob S) → Option (Document S) → List (PaintJob S) → List ℕ → Type 0
+LeadsTo {C} {B} {S} rules cut seats old jobs now left bytes = (out : List ℕ) (new : Option (Document S))
+    → AnswersAll rules cut seats now left out new → AnswersAll rules cut seats old jobs (bytes ++ out) new
 
-pub leads_at_first : {C B S : Type 0} (rules : Rules C B) (paints : S → Pixels) (seats : Seats) (old : Option (Document S)) (jobs left : List (PaintJob S)) (bytes : List ℕ)
-    → left ≡ jobs → bytes ≡ [] → LeadsTo rules paints seats old jobs old left bytes
-leads_at_first {C} {B} {S} rules paints seats old jobs left bytes same none = λ out new answers.
-    subst (λ (b : List ℕ). AnswersAll rules paints seats old jobs (b ++ out) new) (sym none)
-    (subst (λ (js : List (PaintJob S)). AnswersAll rules paints seats old js out new) same answers)
+pub leads_at_first : {C B S : Type 0} (rules : Rules C B) (cut : C → Place → S) (seats : Seats) (old : Option (Document S)) (jobs left : List (PaintJob S)) (bytes : List ℕ)
+    → left ≡ jobs → bytes ≡ [] → LeadsTo rules cut seats old jobs old left bytes
+leads_at_first {C} {B} {S} rules cut seats old jobs left bytes same none = λ out new answers.
+    subst (λ (b : List ℕ). AnswersAll rules cut seats old jobs (b ++ out) new) (sym none)
+    (subst (λ (js : List (PaintJob S)). AnswersAll rules cut seats old js out new) same answers)
 
 -- no answer more
-pub answers_end : {C B S : Type 0} (rules : Rules C B) (paints : S → Pixels) (seats : Seats) (now : Option (Document S)) (jobs : List (PaintJob S)) → IsSome now → jobs ≡ [] → AnswersAll rules paints seats now jobs [] now
-answers_end rules paints seats None jobs there none = absurd (cc)
-answers_end {C} {B} {S} rules paints seats (Some d) jobs there none =
-    subst (λ (js : List (PaintJob S)). AnswersAll rules paints seats (Some d) js [] (Some d)) (sym none) (d, nothing, (refl, refl), refl, refl)
+pub answers_end : {C B S : Type 0} (rules : Rules C B) (cut : C → Place → S) (seats : Seats) (now : Option (Document S)) (jobs : List (PaintJob S)) → IsSome now → jobs ≡ [] → AnswersAll rules cut seats now jobs [] now
+answers_end rules cut seats None jobs there none = absurd (cc)
+answers_end {C} {B} {S} rules cut seats (Some d) jobs there none =
+    subst (λ (js : List (PaintJob S)). AnswersAll rules cut seats (Some d) js [] (Some d)) (sym none) (d, nothing, (refl, refl), refl, refl)
 
 -- one answer, and then the others
-pub answers_more : {C B S : Type 0} (rules : Rules C B) (paints : S → Pixels) (seats : Seats) (old mid new : Option (Document S)) (job : PaintJob S) (jobs : List (PaintJob S)) (ticket : ℕ) (scene : S) (outs : Outs S) (here out : List ℕ)
-    → ticket ≡ job.ticket.0 → scene ≡ job.scene → Goes rules paints old (Painted ticket scene) outs mid → here ≡ records seats outs.frames
-    → AnswersAll rules paints seats mid jobs out new → AnswersAll rules paints seats old (job ∷ jobs) (here ++ out) new
-answers_more rules paints seats None mid new job jobs ticket scene outs here out same shown goes is later = absurd goes
-answers_more rules paints seats (Some d) None new job jobs ticket scene outs here out same shown goes is later = absurd goes
-answers_more {C} {B} {S} rules paints seats (Some d) (Some e) new job jobs ticket scene outs here out same shown goes is later =
-    let step : Step rules paints d (Painted job.ticket.0 job.scene) outs e = subst (λ (s : S). Step rules paints d (Painted job.ticket.0 s) outs e) shown (subst (λ (n : ℕ). Step rules paints d (Painted n scene) outs e) same goes) in (
+pub answers_more : {C B S : Type 0} (rules : Rules C B) (cut : C → Place → S) (seats : Seats) (old mid new : Option (Document S)) (job : PaintJob S) (jobs : List (PaintJob S)) (ticket : ℕ) (scene : S) (outs : Outs S) (here out : List ℕ)
+    → ticket ≡ job.ticket.0 → scene ≡ job.scene → Goes rules cut old (Painted ticket scene) outs mid → here ≡ records seats outs.frames
+    → AnswersAll rules cut seats mid jobs out new → AnswersAll rules cut seats old (job ∷ jobs) (here ++ out) new
+answers_more rules cut seats None mid new job jobs ticket scene outs here out same shown goes is later = absurd goes
+answers_more rules cut seats (Some d) None new job jobs ticket scene outs here out same shown goes is later = absurd goes
+answers_more {C} {B} {S} rules cut seats (Some d) (Some e) new job jobs ticket scene outs here out same shown goes is later =
+    let step : Step rules cut d (Painted job.ticket.0 job.scene) outs e = subst (λ (s : S). Step rules cut d (Painted job.ticket.0 s) outs e) shown (subst (λ (n : ℕ). Step rules cut d (Painted n scene) outs e) same goes) in (
       later.0,
       joined outs later.1,
       (e, outs, later.1, step, later.2, refl),
@@ -61,39 +61,39 @@ answers_more {C} {B} {S} rules paints seats (Some d) (Some e) new job jobs ticke
     )
 
 -- one job less is left
-pub leads_further : {C B S : Type 0} (rules : Rules C B) (paints : S → Pixels) (seats : Seats) (old mid now : Option (Document S)) (jobs before left : List (PaintJob S)) (job : PaintJob S) (ticket : ℕ) (scene : S) (outs : Outs S) (bytes here more : List ℕ)
-    → LeadsTo rules paints seats old jobs mid before bytes → before ≡ job ∷ left → ticket ≡ job.ticket.0 → scene ≡ job.scene
-    → Goes rules paints mid (Painted ticket scene) outs now → here ≡ records seats outs.frames → more ≡ bytes ++ here
-    → LeadsTo rules paints seats old jobs now left more
-leads_further {C} {B} {S} rules paints seats old mid now jobs before left job ticket scene outs bytes here more leads is same shown goes wrote all = λ out new answers.
-    let later : AnswersAll rules paints seats mid (job ∷ left) (here ++ out) new = answers_more rules paints seats mid now new job left ticket scene outs here out same shown goes wrote answers in
-    let whole : AnswersAll rules paints seats old jobs (bytes ++ (here ++ out)) new = leads (here ++ out) new (subst (λ (js : List (PaintJob S)). AnswersAll rules paints seats mid js (here ++ out) new) (sym is) later) in
-    subst (λ (b : List ℕ). AnswersAll rules paints seats old jobs b new) (sym (append_assoc bytes here out) ∙ ap (λ (b : List ℕ). b ++ out) (sym all)) whole
+pub leads_further : {C B S : Type 0} (rules : Rules C B) (cut : C → Place → S) (seats : Seats) (old mid now : Option (Document S)) (jobs before left : List (PaintJob S)) (job : PaintJob S) (ticket : ℕ) (scene : S) (outs : Outs S) (bytes here more : List ℕ)
+    → LeadsTo rules cut seats old jobs mid before bytes → before ≡ job ∷ left → ticket ≡ job.ticket.0 → scene ≡ job.scene
+    → Goes rules cut mid (Painted ticket scene) outs now → here ≡ records seats outs.frames → more ≡ bytes ++ here
+    → LeadsTo rules cut seats old jobs now left more
+leads_further {C} {B} {S} rules cut seats old mid now jobs before left job ticket scene outs bytes here more leads is same shown goes wrote all = λ out new answers.
+    let later : AnswersAll rules cut seats mid (job ∷ left) (here ++ out) new = answers_more rules cut seats mid now new job left ticket scene outs here out same shown goes wrote answers in
+    let whole : AnswersAll rules cut seats old jobs (bytes ++ (here ++ out)) new = leads (here ++ out) new (subst (λ (js : List (PaintJob S)). AnswersAll rules cut seats mid js (here ++ out) new) (sym is) later) in
+    subst (λ (b : List ℕ). AnswersAll rules cut seats old jobs b new) (sym (append_assoc bytes here out) ∙ ap (λ (b : List ℕ). b ++ out) (sym all)) whole
 
 -- no job is left
-pub leads_to_end : {C B S : Type 0} (rules : Rules C B) (paints : S → Pixels) (seats : Seats) (old now : Option (Document S)) (jobs left : List (PaintJob S)) (bytes : List ℕ)
-    → LeadsTo rules paints seats old jobs now left bytes → IsSome now → length left ≡ 0 → AnswersAll rules paints seats old jobs bytes now
-leads_to_end rules paints seats old now jobs left bytes leads there none =
-    subst (λ (b : List ℕ). AnswersAll rules paints seats old jobs b now) (append-nil bytes) (leads [] now (answers_end rules paints seats now left there (no_items left none)))
+pub leads_to_end : {C B S : Type 0} (rules : Rules C B) (cut : C → Place → S) (seats : Seats) (old now : Option (Document S)) (jobs left : List (PaintJob S)) (bytes : List ℕ)
+    → LeadsTo rules cut seats old jobs now left bytes → IsSome now → length left ≡ 0 → AnswersAll rules cut seats old jobs bytes now
+leads_to_end rules cut seats old now jobs left bytes leads there none =
+    subst (λ (b : List ℕ). AnswersAll rules cut seats old jobs b now) (append-nil bytes) (leads [] now (answers_end rules cut seats now left there (no_items left none)))
 
-pub goes_there : {C B S : Type 0} (rules : Rules C B) (paints : S → Pixels) (old new : Option (Document S)) (event : Event S) (outs : Outs S) → Goes rules paints old event outs new → IsSome new
-goes_there rules paints None new event outs goes = absurd goes
-goes_there rules paints (Some d) None event outs goes = absurd goes
-goes_there rules paints (Some d) (Some e) event outs goes = refl
+pub goes_there : {C B S : Type 0} (rules : Rules C B) (cut : C → Place → S) (old new : Option (Document S)) (event : Event S) (outs : Outs S) → Goes rules cut old event outs new → IsSome new
+goes_there rules cut None new event outs goes = absurd goes
+goes_there rules cut (Some d) None event outs goes = absurd goes
+goes_there rules cut (Some d) (Some e) event outs goes = refl
 
-pub turn_there : {C B S : Type 0} (rules : Rules C B) (paints : S → Pixels) (old new : Option (Document S)) (turned : Turned S) → GoesTo rules paints old turned new → IsSome new
-turn_there rules paints None new turned goes = absurd goes
-turn_there rules paints (Some d) None turned goes = absurd goes
-turn_there rules paints (Some d) (Some e) turned goes = refl
+pub turn_there : {C B S : Type 0} (rules : Rules C B) (cut : C → Place → S) (old new : Option (Document S)) (turned : Turned S) → GoesTo rules cut old turned new → IsSome new
+turn_there rules cut None new turned goes = absurd goes
+turn_there rules cut (Some d) None turned goes = absurd goes
+turn_there rules cut (Some d) (Some e) turned goes = refl
 
 -- a turn that worked, with the answers to its jobs
-pub worked_by : {C B S : Type 0} (rules : Rules C B) (paints : S → Pixels) (seats : Seats) (old mid new : Option (Document S)) (outs : Outs S) (here later : List ℕ) (out : List ℕ)
-    → GoesTo rules paints old (Worked outs) mid → ForSome old (λ d. d.applied ≡ length d.journal → IsFirst rules none_kept d (Worked outs))
-    → here ≡ records seats outs.frames → AnswersAll rules paints seats mid outs.jobs later new → out ≡ here ++ later
-    → TurnsDocument rules paints seats old out true new
-worked_by rules paints seats None mid new outs here later out goes first is answers all = absurd goes
-worked_by rules paints seats (Some d) None new outs here later out goes first is answers all = absurd goes
-worked_by {C} {B} {S} rules paints seats (Some d) (Some e) new outs here later out goes first is answers all = (
+pub worked_by : {C B S : Type 0} (rules : Rules C B) (cut : C → Place → S) (seats : Seats) (old mid new : Option (Document S)) (outs : Outs S) (here later : List ℕ) (out : List ℕ)
+    → GoesTo rules cut old (Worked outs) mid → ForSome old (λ d. d.applied ≡ length d.journal → IsFirst rules none_kept d (Worked outs))
+    → here ≡ records seats outs.frames → AnswersAll rules cut seats mid outs.jobs later new → out ≡ here ++ later
+    → TurnsDocument rules cut seats old out true new
+worked_by rules cut seats None mid new outs here later out goes first is answers all = absurd goes
+worked_by rules cut seats (Some d) None new outs here later out goes first is answers all = absurd goes
+worked_by {C} {B} {S} rules cut seats (Some d) (Some e) new outs here later out goes first is answers all = (
   answers.0,
   outs.frames ++ answers.1.frames,
   record { mid = e; first = outs; later = answers.1; works = goes; in_order = first d refl; answered = answers.2; frames_are = refl },
@@ -102,7 +102,7 @@ worked_by {C} {B} {S} rules paints seats (Some d) (Some e) new outs here later o
 )
 
 -- a turn that did nothing
-pub rested_by : {C B S : Type 0} (rules : Rules C B) (paints : S → Pixels) (seats : Seats) (old new : Option (Document S)) (out : List ℕ) → GoesTo rules paints old Idle new → out ≡ [] → TurnsDocument rules paints seats old out false new
-rested_by rules paints seats None new out goes is = absurd goes
-rested_by rules paints seats (Some d) None out goes is = absurd goes
-rested_by rules paints seats (Some d) (Some e) out goes is = (is, goes.0, ap Some goes.1)
+pub rested_by : {C B S : Type 0} (rules : Rules C B) (cut : C → Place → S) (seats : Seats) (old new : Option (Document S)) (out : List ℕ) → GoesTo rules cut old Idle new → out ≡ [] → TurnsDocument rules cut seats old out false new
+rested_by rules cut seats None new out goes is = absurd goes
+rested_by rules cut seats (Some d) None out goes is = absurd goes
+rested_by rules cut seats (Some d) (Some e) out goes is = (is, goes.0, ap Some goes.1)

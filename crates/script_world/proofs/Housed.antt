@@ -16,7 +16,7 @@ use Rattle.document_machine.specs.Step.{Step, Works, JoinsWhere as MachineJoins}
 use Rattle.document_machine.specs.declared.outs.Outs.{Outs}
 use Rattle.document_machine.specs.declared.rights.Rights.{Rights}
 use Rattle.kit_trait.specs.Rules.{Rules}
-use Rattle.kit_trait.specs.declared.values.Pixels.{Pixels}
+use Rattle.tile_key.specs.Places.{Place}
 use Rattle.script_world.specs.House.{House, rights, JoinsWhere, BeginsWhere, LoadsOne, LoadsWhere, seated_at, seated, SaysAs, LeavesAs, TakesOne, TakesFirst, painted_all, WorksAtOnce, TurnsDocument, PollTurn, ids_of, IsSeated, IsHousedBy, IsHoused}
 use Rattle.script_world.specs.Seats.{Seats, view_of, is_waiting, enters, sits, without}
 use Rattle.script_world.specs.declared.event.Waiting.{Waiting}
@@ -25,8 +25,8 @@ use Rattle.script_world.proofs.Saying.{one_if}
 use Rattle.script_world.proofs.Ids.{HasLink, ids-took, jobs-took, ids-works, ids-answers, sits_others, sits_new, gone_others, gone_none, ids_without, ids_stay, ids_lack, all_by, all_more, all_on, ids-append}
 
 -- every step leaves a whole document whole
-abbrev pub Keeps : {C B S : Type 0} → Rules C B → (S → Pixels) → Type 0
-Keeps {C} {B} {S} rules paints = (old new : Document S) (event : Event S) (outs : Outs S) → Step rules paints old event outs new → IsWhole rules old → IsWhole rules new
+abbrev pub Keeps : {C B S : Type 0} → Rules C B → (C → Place → S) → Type 0
+Keeps {C} {B} {S} rules cut = (old new : Document S) (event : Event S) (outs : Outs S) → Step rules cut old event outs new → IsWhole rules old → IsWhole rules new
 
 -- no job is out
 pub none_out_of : {C B S : Type 0} (rules : Rules C B) (seats : Seats) (document : Option (Document S)) → IsHousedBy rules seats document → ForSome document (λ d. d.jobs ≡ [])
@@ -46,10 +46,10 @@ no_view : (seats : Seats) (link : ℕ) → is_waiting seats link ≡ true → vi
 no_view seats link waits = none_is (view_of seats link) (and_right (list_any (is_at (nat_cmp link)) seats.lobby) (is_none (view_of seats link)) waits)
 
 -- a view that joined
-joined : {C B S : Type 0} (rules : Rules C B) (paints : S → Pixels) (keeps : Keeps rules paints) (seats : Seats) (link : ℕ) (given : Rights) (d e : Document S) (outs : Outs S) (b : Bool)
-    → nat_lt (length d.views) 64 ≡ b → b ≡ true → view_of seats link ≡ None → IsSeated rules seats d → Step rules paints d (Joined given) outs e
+joined : {C B S : Type 0} (rules : Rules C B) (cut : C → Place → S) (keeps : Keeps rules cut) (seats : Seats) (link : ℕ) (given : Rights) (d e : Document S) (outs : Outs S) (b : Bool)
+    → nat_lt (length d.views) 64 ≡ b → b ≡ true → view_of seats link ≡ None → IsSeated rules seats d → Step rules cut d (Joined given) outs e
     → IsSeated rules (sits seats link d.next_view) e
-joined {C} {B} {S} rules paints keeps seats link given d e outs b room is none housed step =
+joined {C} {B} {S} rules cut keeps seats link given d e outs b room is none housed step =
     let joins : MachineJoins true rules d given outs e = subst (λ (x : Bool). MachineJoins x rules d given outs e) (room ∙ is) step in
     let views : e.views ≡ d.views ++ opening_view d.next_view given ∷ [] = ap (λ (x : Document S). x.views) joins.1 in
     let kept : AllByRecursion (HasLink (sits seats link d.next_view).views) (ids_of d.views) = all_on (HasLink seats.views) (HasLink (sits seats link d.next_view).views) (ids_of d.views) (λ id h. sits_others seats.views link d.next_view id none h) housed.linked in
@@ -60,29 +60,29 @@ joined {C} {B} {S} rules paints keeps seats link given d e outs b room is none h
       linked = subst (AllByRecursion (HasLink (sits seats link d.next_view).views)) (sym (ap ids_of views ∙ ids-append d.views (opening_view d.next_view given))) all;
     }
 
-joins_by : {C B S : Type 0} (rules : Rules C B) (paints : S → Pixels) (keeps : Keeps rules paints) (seats : Seats) (link : ℕ) (given : Rights) (d : Document S) (out : List ℕ) (new : House S) (b : Bool)
-    → nat_lt (length d.views) 64 ≡ b → view_of seats link ≡ None → IsSeated rules seats d → JoinsWhere b rules paints seats link given d out new → IsHoused rules new
-joins_by {C} {B} {S} rules paints keeps seats link given d out new true room none housed joins =
-    subst (IsHoused rules) (sym joins.3) (joined rules paints keeps seats link given d joins.0 joins.1 true room refl none housed joins.2)
-joins_by rules paints keeps seats link given d out new false room none housed joins = subst (IsHoused rules) (sym joins.1) housed
+joins_by : {C B S : Type 0} (rules : Rules C B) (cut : C → Place → S) (keeps : Keeps rules cut) (seats : Seats) (link : ℕ) (given : Rights) (d : Document S) (out : List ℕ) (new : House S) (b : Bool)
+    → nat_lt (length d.views) 64 ≡ b → view_of seats link ≡ None → IsSeated rules seats d → JoinsWhere b rules cut seats link given d out new → IsHoused rules new
+joins_by {C} {B} {S} rules cut keeps seats link given d out new true room none housed joins =
+    subst (IsHoused rules) (sym joins.3) (joined rules cut keeps seats link given d joins.0 joins.1 true room refl none housed joins.2)
+joins_by rules cut keeps seats link given d out new false room none housed joins = subst (IsHoused rules) (sym joins.1) housed
 
-begins_by : {C B S : Type 0} (rules : Rules C B) (paints : S → Pixels) (keeps : Keeps rules paints) (seats : Seats) (link : ℕ) (file : List ℕ) (given : Rights) (out : List ℕ) (new : House S) (b : Bool)
-    → rules.accepts [] ≡ b → view_of seats link ≡ None → BeginsWhere b rules paints seats link file given out new → IsHoused rules new
-begins_by {C} {B} {S} rules paints keeps seats link file given out new true accepted none begins =
-    joins_by rules paints keeps seats link given (opening file []) out new true refl none
+begins_by : {C B S : Type 0} (rules : Rules C B) (cut : C → Place → S) (keeps : Keeps rules cut) (seats : Seats) (link : ℕ) (file : List ℕ) (given : Rights) (out : List ℕ) (new : House S) (b : Bool)
+    → rules.accepts [] ≡ b → view_of seats link ≡ None → BeginsWhere b rules cut seats link file given out new → IsHoused rules new
+begins_by {C} {B} {S} rules cut keeps seats link file given out new true accepted none begins =
+    joins_by rules cut keeps seats link given (opening file []) out new true refl none
     (record { whole = opening_is_whole S rules file [] accepted; none_out = refl; linked = tt }) begins
-begins_by rules paints keeps seats link file given out new false accepted none begins = subst (IsHoused rules) (sym begins.1) tt
+begins_by rules cut keeps seats link file given out new false accepted none begins = subst (IsHoused rules) (sym begins.1) tt
 
-loads_by : {C B S : Type 0} (rules : Rules C B) (paints : S → Pixels) (keeps : Keeps rules paints) (seats : Seats) (document : Option (Document S)) (link : ℕ) (file : List ℕ) (given : Rights) (out : List ℕ) (new : House S)
-    → view_of seats link ≡ None → IsHousedBy rules seats document → LoadsOne rules paints seats document link file given out new → IsHoused rules new
-loads_by rules paints keeps seats None link file given out new none housed loads = begins_by rules paints keeps seats link file given out new (rules.accepts []) refl none loads
-loads_by rules paints keeps seats (Some d) link file given out new none housed loads = joins_by rules paints keeps seats link given d out new (nat_lt (length d.views) 64) refl none housed loads
+loads_by : {C B S : Type 0} (rules : Rules C B) (cut : C → Place → S) (keeps : Keeps rules cut) (seats : Seats) (document : Option (Document S)) (link : ℕ) (file : List ℕ) (given : Rights) (out : List ℕ) (new : House S)
+    → view_of seats link ≡ None → IsHousedBy rules seats document → LoadsOne rules cut seats document link file given out new → IsHoused rules new
+loads_by rules cut keeps seats None link file given out new none housed loads = begins_by rules cut keeps seats link file given out new (rules.accepts []) refl none loads
+loads_by rules cut keeps seats (Some d) link file given out new none housed loads = joins_by rules cut keeps seats link given d out new (nat_lt (length d.views) 64) refl none housed loads
 
-load_by : {C B S : Type 0} (rules : Rules C B) (paints : S → Pixels) (keeps : Keeps rules paints) (old : House S) (link : ℕ) (file : List ℕ) (given : Rights) (out : List ℕ) (new : House S) (b : Bool)
-    → is_waiting old.seats link ≡ b → IsHoused rules old → LoadsWhere b rules paints old link file given out new → IsHoused rules new
-load_by rules paints keeps old link file given out new true waits housed loads =
-    loads_by rules paints keeps old.seats old.document link file given out new (no_view old.seats link waits) housed loads
-load_by rules paints keeps old link file given out new false waits housed loads = subst (IsHoused rules) (sym loads.1) housed
+load_by : {C B S : Type 0} (rules : Rules C B) (cut : C → Place → S) (keeps : Keeps rules cut) (old : House S) (link : ℕ) (file : List ℕ) (given : Rights) (out : List ℕ) (new : House S) (b : Bool)
+    → is_waiting old.seats link ≡ b → IsHoused rules old → LoadsWhere b rules cut old link file given out new → IsHoused rules new
+load_by rules cut keeps old link file given out new true waits housed loads =
+    loads_by rules cut keeps old.seats old.document link file given out new (no_view old.seats link waits) housed loads
+load_by rules cut keeps old link file given out new false waits housed loads = subst (IsHoused rules) (sym loads.1) housed
 
 -- a seat that was found is the document's
 pub found_document : {S : Type 0} (document : Option (Document S)) (seat : Option ℕ) (found : Document S × ℕ) → seated_at document seat ≡ Some found → (document ≡ Some found.0) × (seat ≡ Some found.1)
@@ -98,12 +98,12 @@ pub housed_at : {C B S : Type 0} (rules : Rules C B) (seats : Seats) (document :
 housed_at {C} {B} {S} rules seats document d is housed = subst (IsHousedBy rules seats) is housed
 
 -- a message
-says_by : {C B S : Type 0} (rules : Rules C B) (paints : S → Pixels) (keeps : Keeps rules paints) (old : House S) (link : ℕ) (text : List ℕ) (found : Option (Document S × ℕ)) (out : List ℕ) (new : House S)
-    → seated old link ≡ found → IsHoused rules old → SaysAs rules paints old link text found out new → IsHoused rules new
-says_by rules paints keeps old link text None out new is housed says = subst (IsHoused rules) (sym says.1) housed
-says_by {C} {B} {S} rules paints keeps old link text (Some seat) out new is housed says =
+says_by : {C B S : Type 0} (rules : Rules C B) (cut : C → Place → S) (keeps : Keeps rules cut) (old : House S) (link : ℕ) (text : List ℕ) (found : Option (Document S × ℕ)) (out : List ℕ) (new : House S)
+    → seated old link ≡ found → IsHoused rules old → SaysAs rules cut old link text found out new → IsHoused rules new
+says_by rules cut keeps old link text None out new is housed says = subst (IsHoused rules) (sym says.1) housed
+says_by {C} {B} {S} rules cut keeps old link text (Some seat) out new is housed says =
     let there : IsSeated rules old.seats seat.0 = housed_at rules old.seats old.document seat.0 (found_document old.document (view_of old.seats link) seat is).0 housed in
-    let step : Step rules paints seat.0 (Said seat.1 text) says.1 says.0 = says.2 in
+    let step : Step rules cut seat.0 (Said seat.1 text) says.1 says.0 = says.2 in
     subst (IsHoused rules) (sym says.3) (record {
       whole = keeps seat.0 says.0 (Said seat.1 text) says.1 step there.whole;
       none_out = ap (λ (x : Document S). x.jobs) step.new_is ∙ jobs-took rules seat.0 seat.1 (effect rules seat.0 step.view text) ∙ there.none_out;
@@ -133,10 +133,10 @@ leaves_none rules seats (Some d) link lacks housed = record {
   linked = gone_by seats d link (view_of seats link) refl lacks housed.linked;
 }
 
-leaves_by : {C B S : Type 0} (rules : Rules C B) (paints : S → Pixels) (keeps : Keeps rules paints) (old : House S) (link : ℕ) (found : Option (Document S × ℕ)) (out : List ℕ) (new : House S)
-    → seated old link ≡ found → IsHoused rules old → LeavesAs rules paints old link found out new → IsHoused rules new
-leaves_by rules paints keeps old link None out new is housed leaves = subst (IsHoused rules) (sym leaves.1) (leaves_none rules old.seats old.document link (sym is) housed)
-leaves_by {C} {B} {S} rules paints keeps old link (Some seat) out new is housed leaves =
+leaves_by : {C B S : Type 0} (rules : Rules C B) (cut : C → Place → S) (keeps : Keeps rules cut) (old : House S) (link : ℕ) (found : Option (Document S × ℕ)) (out : List ℕ) (new : House S)
+    → seated old link ≡ found → IsHoused rules old → LeavesAs rules cut old link found out new → IsHoused rules new
+leaves_by rules cut keeps old link None out new is housed leaves = subst (IsHoused rules) (sym leaves.1) (leaves_none rules old.seats old.document link (sym is) housed)
+leaves_by {C} {B} {S} rules cut keeps old link (Some seat) out new is housed leaves =
     let at = found_document old.document (view_of old.seats link) seat is in
     let there : IsSeated rules old.seats seat.0 = housed_at rules old.seats old.document seat.0 at.0 housed in
     let new_is : leaves.0 ≡ record seat.0 { views = without_view seat.0.views seat.1 } = leaves.1.1 in
@@ -158,44 +158,44 @@ enters_by rules seats link None housed = tt
 enters_by rules seats link (Some d) housed = record { whole = housed.whole; none_out = housed.none_out; linked = housed.linked }
 
 -- an event
-pub takes_housed : {C B S : Type 0} (rules : Rules C B) (paints : S → Pixels) (keeps : Keeps rules paints) (event : Waiting) (old : House S) (out : List ℕ) (new : House S)
-    → IsHoused rules old → TakesOne rules paints event old out new → IsHoused rules new
-takes_housed rules paints keeps (Opened link) old out new housed takes = subst (IsHoused rules) (sym takes.1) (enters_by rules old.seats link old.document housed)
-takes_housed rules paints keeps (Loads link file writes) old out new housed takes = load_by rules paints keeps old link file (rights writes) out new (is_waiting old.seats link) refl housed takes
-takes_housed rules paints keeps (Says link text) old out new housed takes = says_by rules paints keeps old link text (seated old link) out new refl housed takes
-takes_housed rules paints keeps (Gone link) old out new housed takes = leaves_by rules paints keeps old link (seated old link) out new refl housed takes
+pub takes_housed : {C B S : Type 0} (rules : Rules C B) (cut : C → Place → S) (keeps : Keeps rules cut) (event : Waiting) (old : House S) (out : List ℕ) (new : House S)
+    → IsHoused rules old → TakesOne rules cut event old out new → IsHoused rules new
+takes_housed rules cut keeps (Opened link) old out new housed takes = subst (IsHoused rules) (sym takes.1) (enters_by rules old.seats link old.document housed)
+takes_housed rules cut keeps (Loads link file writes) old out new housed takes = load_by rules cut keeps old link file (rights writes) out new (is_waiting old.seats link) refl housed takes
+takes_housed rules cut keeps (Says link text) old out new housed takes = says_by rules cut keeps old link text (seated old link) out new refl housed takes
+takes_housed rules cut keeps (Gone link) old out new housed takes = leaves_by rules cut keeps old link (seated old link) out new refl housed takes
 
 -- a turn that did a work, its jobs answered
-works_seated : {C B S : Type 0} (rules : Rules C B) (paints : S → Pixels) (keeps : Keeps rules paints) (runs : (events : List (Event S)) (old new : Document S) (outs : Outs S) → Segment rules paints old events outs new → IsWhole rules old → IsWhole rules new)
-    (seats : Seats) (d e : Document S) (mid : Document S) (first later : Outs S) → Works rules paints d first mid → Segment rules paints mid (painted_all first.jobs) later e → IsSeated rules seats d → IsSeated rules seats e
-works_seated {C} {B} {S} rules paints keeps runs seats d e mid first later works answered housed = record {
+works_seated : {C B S : Type 0} (rules : Rules C B) (cut : C → Place → S) (keeps : Keeps rules cut) (runs : (events : List (Event S)) (old new : Document S) (outs : Outs S) → Segment rules cut old events outs new → IsWhole rules old → IsWhole rules new)
+    (seats : Seats) (d e : Document S) (mid : Document S) (first later : Outs S) → Works rules cut d first mid → Segment rules cut mid (painted_all first.jobs) later e → IsSeated rules seats d → IsSeated rules seats e
+works_seated {C} {B} {S} rules cut keeps runs seats d e mid first later works answered housed = record {
   whole = runs (painted_all first.jobs) mid e later answered (keeps d mid Turned first (inl works) housed.whole);
-  none_out = (at_once_lowers rules paints d mid e first later works housed.none_out housed.whole.kept answered).0;
-  linked = subst (AllByRecursion (HasLink seats.views)) (sym (ids-answers rules paints mid e first.jobs later answered ∙ ids-works rules paints d mid first works)) housed.linked;
+  none_out = (at_once_lowers rules cut d mid e first later works housed.none_out housed.whole.kept answered).0;
+  linked = subst (AllByRecursion (HasLink seats.views)) (sym (ids-answers rules cut mid e first.jobs later answered ∙ ids-works rules cut d mid first works)) housed.linked;
 }
 
-whole_runs : {C B S : Type 0} (rules : Rules C B) (paints : S → Pixels) (keeps : Keeps rules paints) (events : List (Event S)) (old new : Document S) (outs : Outs S) → Segment rules paints old events outs new → IsWhole rules old → IsWhole rules new
-whole_runs rules paints keeps [] old new outs run whole = subst (IsWhole rules) (sym run.1) whole
-whole_runs rules paints keeps (event ∷ events) old new outs run whole = whole_runs rules paints keeps events run.0 new run.2 run.4 (keeps old run.0 event run.1 run.3 whole)
+whole_runs : {C B S : Type 0} (rules : Rules C B) (cut : C → Place → S) (keeps : Keeps rules cut) (events : List (Event S)) (old new : Document S) (outs : Outs S) → Segment rules cut old events outs new → IsWhole rules old → IsWhole rules new
+whole_runs rules cut keeps [] old new outs run whole = subst (IsWhole rules) (sym run.1) whole
+whole_runs rules cut keeps (event ∷ events) old new outs run whole = whole_runs rules cut keeps events run.0 new run.2 run.4 (keeps old run.0 event run.1 run.3 whole)
 
 -- a turn of the document
-pub turns_housed : {C B S : Type 0} (rules : Rules C B) (paints : S → Pixels) (keeps : Keeps rules paints) (seats : Seats) (old : Option (Document S)) (out : List ℕ) (worked : Bool) (new : Option (Document S))
-    → IsHousedBy rules seats old → TurnsDocument rules paints seats old out worked new → IsHousedBy rules seats new
-turns_housed rules paints keeps seats None out worked new housed turns = subst (IsHousedBy rules seats) (sym turns.2) tt
-turns_housed {C} {B} {S} rules paints keeps seats (Some d) out true new housed turns =
-    let works : WorksAtOnce rules paints d turns.1 turns.0 = turns.2 in
-    subst (IsHousedBy rules seats) (sym turns.4) (works_seated rules paints keeps (whole_runs rules paints keeps) seats d turns.0 works.mid works.first works.later works.works works.answered housed)
-turns_housed rules paints keeps seats (Some d) out false new housed turns = subst (IsHousedBy rules seats) (sym turns.2) housed
+pub turns_housed : {C B S : Type 0} (rules : Rules C B) (cut : C → Place → S) (keeps : Keeps rules cut) (seats : Seats) (old : Option (Document S)) (out : List ℕ) (worked : Bool) (new : Option (Document S))
+    → IsHousedBy rules seats old → TurnsDocument rules cut seats old out worked new → IsHousedBy rules seats new
+turns_housed rules cut keeps seats None out worked new housed turns = subst (IsHousedBy rules seats) (sym turns.2) tt
+turns_housed {C} {B} {S} rules cut keeps seats (Some d) out true new housed turns =
+    let works : WorksAtOnce rules cut d turns.1 turns.0 = turns.2 in
+    subst (IsHousedBy rules seats) (sym turns.4) (works_seated rules cut keeps (whole_runs rules cut keeps) seats d turns.0 works.mid works.first works.later works.works works.answered housed)
+turns_housed rules cut keeps seats (Some d) out false new housed turns = subst (IsHousedBy rules seats) (sym turns.2) housed
 
-pub first_housed : {C B S : Type 0} (rules : Rules C B) (paints : S → Pixels) (keeps : Keeps rules paints) (waiting : List Waiting) (old : House S) (out : List ℕ) (rest : List Waiting) (new : House S)
-    → IsHoused rules old → TakesFirst rules paints waiting old out rest new → IsHoused rules new
-first_housed rules paints keeps [] old out rest new housed takes = subst (IsHoused rules) (sym takes.2) housed
-first_housed rules paints keeps (event ∷ events) old out rest new housed takes = takes_housed rules paints keeps event old out new housed takes.1
+pub first_housed : {C B S : Type 0} (rules : Rules C B) (cut : C → Place → S) (keeps : Keeps rules cut) (waiting : List Waiting) (old : House S) (out : List ℕ) (rest : List Waiting) (new : House S)
+    → IsHoused rules old → TakesFirst rules cut waiting old out rest new → IsHoused rules new
+first_housed rules cut keeps [] old out rest new housed takes = subst (IsHoused rules) (sym takes.2) housed
+first_housed rules cut keeps (event ∷ events) old out rest new housed takes = takes_housed rules cut keeps event old out new housed takes.1
 
 -- a poll turn
-pub poll_housed : {C B S : Type 0} (rules : Rules C B) (paints : S → Pixels) (keeps : Keeps rules paints) (waiting : List Waiting) (old : House S) (out : List ℕ) (worked : Bool) (rest : List Waiting) (new : House S)
-    → IsHoused rules old → PollTurn rules paints waiting old out worked rest new → IsHoused rules new
-poll_housed rules paints keeps waiting old out worked rest new housed turn =
-    let mid = first_housed rules paints keeps waiting old turn.here rest turn.mid housed turn.takes in
+pub poll_housed : {C B S : Type 0} (rules : Rules C B) (cut : C → Place → S) (keeps : Keeps rules cut) (waiting : List Waiting) (old : House S) (out : List ℕ) (worked : Bool) (rest : List Waiting) (new : House S)
+    → IsHoused rules old → PollTurn rules cut waiting old out worked rest new → IsHoused rules new
+poll_housed rules cut keeps waiting old out worked rest new housed turn =
+    let mid = first_housed rules cut keeps waiting old turn.here rest turn.mid housed turn.takes in
     subst (λ (seats : Seats). IsHousedBy rules seats new.document) (sym turn.stays)
-    (turns_housed rules paints keeps turn.mid.seats turn.mid.document turn.later turn.turned new.document mid turn.turns)
+    (turns_housed rules cut keeps turn.mid.seats turn.mid.document turn.later turn.turned new.document mid turn.turns)

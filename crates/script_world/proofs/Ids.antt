@@ -16,7 +16,6 @@ use Rattle.document_machine.specs.Step.{Works, Paints, offered, views_offered}
 use Rattle.document_machine.specs.declared.outs.Outs.{Outs}
 use Rattle.kit_trait.specs.Rules.{Rules}
 use Rattle.kit_trait.specs.declared.jobs.PaintJob.{PaintJob}
-use Rattle.kit_trait.specs.declared.values.Pixels.{Pixels}
 use Rattle.tile_key.specs.Places.{Place}
 use Rattle.script_world.specs.House.{ids_of, painted_all}
 use Rattle.script_world.specs.Seats.{link_in}
@@ -56,8 +55,8 @@ jobs-took rules d id (Acknowledges wids) = refl
 jobs-took rules d id Passes = refl
 
 -- a work of a turn
-pub ids-works : {C B S : Type 0} (rules : Rules C B) (paints : S → Pixels) (old new : Document S) (outs : Outs S) → Works rules paints old outs new → ids_of new.views ≡ ids_of old.views
-ids-works {C} {B} {S} rules paints old new outs works =
+pub ids-works : {C B S : Type 0} (rules : Rules C B) (cut : C → Place → S) (old new : Document S) (outs : Outs S) → Works rules cut old outs new → ids_of new.views ≡ ids_of old.views
+ids-works {C} {B} {S} rules cut old new outs works =
     elim works [
       | inl applies ↦ ap (λ (d : Document S). ids_of d.views) applies.new_is
       | inr other ↦ elim other [
@@ -92,10 +91,10 @@ ids-paints {C} {B} {S} rules old new ticket scene outs (Some job) paints =
       | inr taken ↦ ap (λ (d : Document S). ids_of d.views) taken.2 ∙ ids-offered rules old job.number job.keys old.views
     ]
 
-pub ids-answers : {C B S : Type 0} (rules : Rules C B) (paints : S → Pixels) (old new : Document S) (jobs : List (PaintJob S)) (outs : Outs S) → Segment rules paints old (painted_all jobs) outs new → ids_of new.views ≡ ids_of old.views
-ids-answers {C} {B} {S} rules paints old new [] outs run = ap (λ (d : Document S). ids_of d.views) run.1
-ids-answers rules paints old new (job ∷ jobs) outs run =
-    ids-answers rules paints run.0 new jobs run.2 run.4 ∙ ids-paints rules old run.0 job.ticket.0 job.scene run.1 (find_job old.jobs job.ticket.0) run.3
+pub ids-answers : {C B S : Type 0} (rules : Rules C B) (cut : C → Place → S) (old new : Document S) (jobs : List (PaintJob S)) (outs : Outs S) → Segment rules cut old (painted_all jobs) outs new → ids_of new.views ≡ ids_of old.views
+ids-answers {C} {B} {S} rules cut old new [] outs run = ap (λ (d : Document S). ids_of d.views) run.1
+ids-answers rules cut old new (job ∷ jobs) outs run =
+    ids-answers rules cut run.0 new jobs run.2 run.4 ∙ ids-paints rules old run.0 job.ticket.0 job.scene run.1 (find_job old.jobs job.ticket.0) run.3
 
 -- whether a view has a link
 abbrev pub HasLink : List (ℕ × ℕ) → ℕ → Type 0

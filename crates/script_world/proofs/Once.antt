@@ -21,7 +21,6 @@ use Rattle.document_machine.specs.declared.rights.Rights.{Rights}
 use Rattle.kit_trait.specs.Rules.{Rules, doc}
 use Rattle.kit_trait.specs.declared.jobs.PaintJob.{PaintJob}
 use Rattle.kit_trait.specs.declared.values.Input.{Input}
-use Rattle.kit_trait.specs.declared.values.Pixels.{Pixels}
 use Rattle.tile_key.specs.Places.{Place}
 use Rattle.script_world.specs.House.{House, rights, JoinsWhere, BeginsWhere, LoadsOne, LoadsWhere, seated, SaysAs, LeavesAs, TakesOne, TakesFirst, painted_all, WorksAtOnce, TurnsDocument, PollTurn, wids_of, acknowledges, acknowledgements_by, acknowledgements, IsHousedBy, IsHoused}
 use Rattle.script_world.specs.Seats.{Seats, is_waiting, sits, without, records}
@@ -30,7 +29,7 @@ use Rattle.script_world.specs.declared.event.Waiting.{Waiting}
 use Rattle.script_world.specs.declared.event.Waiting.TheVariants.{Opened, Loads, Says, Gone}
 use Rattle.script_world.proofs.Housed.{Keeps, first_housed, poll_housed}
 
-module _ {C B S : Type 0} (rules : Rules C B) (paints : S → Pixels) where
+module _ {C B S : Type 0} (rules : Rules C B) (cut : C → Place → S) where
   -- what a turn that serves a key leads to, once its job is painted and answered
   abbrev tiles_now : Document S → Place → List (ViewId × Frame)
   tiles_now old key = tiles_for rules old old.applied (key ∷ []) old.views
@@ -55,7 +54,7 @@ module _ {C B S : Type 0} (rules : Rules C B) (paints : S → Pixels) where
   cut_now old job = record old { jobs = old.jobs ++ job ∷ []; next_ticket = old.next_ticket + 1 }
 
   -- a job that is cut and answered at once: its tiles are offered, and it is gone
-  answered_at_once : (old new : Document S) (job : Job S) (outs : Outs S) → old.jobs ≡ [] → Step rules paints (cut_now old job) (Painted job.ticket job.scene) outs new
+  answered_at_once : (old new : Document S) (job : Job S) (outs : Outs S) → old.jobs ≡ [] → Step rules cut (cut_now old job) (Painted job.ticket job.scene) outs new
       → (outs ≡ frames_only (tiles_for rules old job.number job.keys old.views))
       × (new ≡ record old { views = views_offered rules old job.number job.keys old.views; jobs = []; next_ticket = old.next_ticket + 1 })
   answered_at_once old new job outs none step =
@@ -73,15 +72,15 @@ module _ {C B S : Type 0} (rules : Rules C B) (paints : S → Pixels) where
         )
       ]
 
-  cut_at_once : (old mid new : Document S) (outs later : Outs S) (key : Place) → old.jobs ≡ [] → Cuts rules paints old outs mid → map (λ job. job.group) outs.jobs ≡ (key ∷ []) ∷ []
-      → Segment rules paints mid (painted_all outs.jobs) later new
+  cut_at_once : (old mid new : Document S) (outs later : Outs S) (key : Place) → old.jobs ≡ [] → Cuts rules cut old outs mid → map (λ job. job.group) outs.jobs ≡ (key ∷ []) ∷ []
+      → Segment rules cut mid (painted_all outs.jobs) later new
       → (outs.frames ++ later.frames ≡ tiles_now old key) × (new ≡ served old key)
   cut_at_once old mid new outs later key none cuts groups answered =
       let job : Job S = cuts.job in
       let group : job.keys ∷ [] ≡ (key ∷ []) ∷ [] = sym (ap (λ (o : Outs S). map (λ (j : PaintJob S). j.group) o.jobs) cuts.outs_are) ∙ groups in
       let keys : job.keys ≡ key ∷ [] = cc in
-      let run : Segment rules paints mid (Painted job.ticket job.scene ∷ []) later new = subst (λ (o : Outs S). Segment rules paints mid (painted_all o.jobs) later new) cuts.outs_are answered in
-      let step : Step rules paints (cut_now old job) (Painted job.ticket job.scene) run.1 run.0 = subst (λ (d : Document S). Step rules paints d (Painted job.ticket job.scene) run.1 run.0) cuts.new_is run.3 in
+      let run : Segment rules cut mid (Painted job.ticket job.scene ∷ []) later new = subst (λ (o : Outs S). Segment rules cut mid (painted_all o.jobs) later new) cuts.outs_are answered in
+      let step : Step rules cut (cut_now old job) (Painted job.ticket job.scene) run.1 run.0 = subst (λ (d : Document S). Step rules cut d (Painted job.ticket job.scene) run.1 run.0) cuts.new_is run.3 in
       let done = answered_at_once old run.0 job run.1 none step in
       let first : outs.frames ≡ [] = ap (λ (o : Outs S). o.frames) cuts.outs_are in
       let more : later.frames ≡ run.1.frames ++ run.2.frames = ap (λ (o : Outs S). o.frames) run.5 in
@@ -98,11 +97,11 @@ module _ {C B S : Type 0} (rules : Rules C B) (paints : S → Pixels) where
   no_group key [] none groups = let odd : [] ≡ (key ∷ []) ∷ [] = groups in absurd (cc)
   no_group key (job ∷ jobs) none groups = absurd (cc)
 
-  one_work : (old new : Document S) (frames : List (ViewId × Frame)) → old.jobs ≡ [] → WorksAtOnce rules paints old frames new → IsApplied old frames new ⊎ IsServed old frames new
+  one_work : (old new : Document S) (frames : List (ViewId × Frame)) → old.jobs ≡ [] → WorksAtOnce rules cut old frames new → IsApplied old frames new ⊎ IsServed old frames new
   one_work old new frames none work =
       elim (work.works) [
         | inl applies ↦
-            let run = subst (λ (o : Outs S). Segment rules paints work.mid (painted_all o.jobs) work.later new) applies.outs_are work.answered in
+            let run = subst (λ (o : Outs S). Segment rules cut work.mid (painted_all o.jobs) work.later new) applies.outs_are work.answered in
             let first : work.first.frames ≡ hurt_now old applies.input = ap (λ (o : Outs S). o.frames) applies.outs_are in
             let rest : work.later.frames ≡ [] = ap (λ (o : Outs S). o.frames) run.0 in
             inl (
@@ -125,7 +124,7 @@ module _ {C B S : Type 0} (rules : Rules C B) (paints : S → Pixels) where
   not_behind : (old : Document S) (input : Input) → slice_get old.journal old.applied ≡ Some input → old.applied ≡ length old.journal → ⊥
   not_behind old input behind level = let less : old.applied < length old.journal = some_input old.journal old.applied input behind in omega (arith, less, level)
 
-  works_once : (old new other : Document S) (frames others : List (ViewId × Frame)) → old.jobs ≡ [] → WorksAtOnce rules paints old frames new → WorksAtOnce rules paints old others other → (frames ≡ others) × (new ≡ other)
+  works_once : (old new other : Document S) (frames others : List (ViewId × Frame)) → old.jobs ≡ [] → WorksAtOnce rules cut old frames new → WorksAtOnce rules cut old others other → (frames ≡ others) × (new ≡ other)
   works_once old new other frames others none work too =
       elim (one_work old new frames none work) [
         | inl a ↦ elim (one_work old other others none too) [
@@ -149,7 +148,7 @@ module _ {C B S : Type 0} (rules : Rules C B) (paints : S → Pixels) where
   something pair none = absurd (cc)
 
   -- a turn that does a work isn't one with nothing to do
-  work_or_rest : (old new : Document S) (frames : List (ViewId × Frame)) → old.jobs ≡ [] → WorksAtOnce rules paints old frames new → Rests rules old → ⊥
+  work_or_rest : (old new : Document S) (frames : List (ViewId × Frame)) → old.jobs ≡ [] → WorksAtOnce rules cut old frames new → Rests rules old → ⊥
   work_or_rest old new frames none work rests =
       elim (one_work old new frames none work) [
         | inl a ↦ not_behind old a.0 a.1 rests.level
@@ -158,7 +157,7 @@ module _ {C B S : Type 0} (rules : Rules C B) (paints : S → Pixels) where
 
   -- a turn of the document
   document_once : (seats : Seats) (old : Option (Document S)) (out others : List ℕ) (worked too : Bool) (new other : Option (Document S))
-      → IsHousedBy rules seats old → TurnsDocument rules paints seats old out worked new → TurnsDocument rules paints seats old others too other
+      → IsHousedBy rules seats old → TurnsDocument rules cut seats old out worked new → TurnsDocument rules cut seats old others too other
       → (out ≡ others) × (worked ≡ too) × (new ≡ other)
   document_once seats None out others worked too new other housed a b = (a.0 ∙ sym b.0, a.1 ∙ sym b.1, a.2 ∙ sym b.2)
   document_once seats (Some d) out others true true new other housed a b =
@@ -174,7 +173,7 @@ module _ {C B S : Type 0} (rules : Rules C B) (paints : S → Pixels) where
   machine_joins_once false old new other given outs others a b = (a.0 ∙ sym b.0, a.1 ∙ sym b.1)
 
   joins_once : (b : Bool) (seats : Seats) (link : ℕ) (given : Rights) (old : Document S) (out others : List ℕ) (new other : House S)
-      → JoinsWhere b rules paints seats link given old out new → JoinsWhere b rules paints seats link given old others other → (out ≡ others) × (new ≡ other)
+      → JoinsWhere b rules cut seats link given old out new → JoinsWhere b rules cut seats link given old others other → (out ≡ others) × (new ≡ other)
   joins_once true seats link given old out others new other a b =
       let same = machine_joins_once (nat_lt (length old.views) 64) old a.0 b.0 given a.1 b.1 a.2 b.2 in (
         a.4 ∙ ap (λ (o : Outs S). records (sits seats link old.next_view) o.frames) same.0 ∙ sym b.4,
@@ -183,17 +182,17 @@ module _ {C B S : Type 0} (rules : Rules C B) (paints : S → Pixels) where
   joins_once false seats link given old out others new other a b = (a.0 ∙ sym b.0, a.1 ∙ sym b.1)
 
   begins_once : (b : Bool) (seats : Seats) (link : ℕ) (file : List ℕ) (given : Rights) (out others : List ℕ) (new other : House S)
-      → BeginsWhere b rules paints seats link file given out new → BeginsWhere b rules paints seats link file given others other → (out ≡ others) × (new ≡ other)
+      → BeginsWhere b rules cut seats link file given out new → BeginsWhere b rules cut seats link file given others other → (out ≡ others) × (new ≡ other)
   begins_once true seats link file given out others new other a b = joins_once true seats link given (opening file []) out others new other a b
   begins_once false seats link file given out others new other a b = (a.0 ∙ sym b.0, a.1 ∙ sym b.1)
 
   loads_once : (document : Option (Document S)) (seats : Seats) (link : ℕ) (file : List ℕ) (given : Rights) (out others : List ℕ) (new other : House S)
-      → LoadsOne rules paints seats document link file given out new → LoadsOne rules paints seats document link file given others other → (out ≡ others) × (new ≡ other)
+      → LoadsOne rules cut seats document link file given out new → LoadsOne rules cut seats document link file given others other → (out ≡ others) × (new ≡ other)
   loads_once None seats link file given out others new other a b = begins_once (rules.accepts []) seats link file given out others new other a b
   loads_once (Some d) seats link file given out others new other a b = joins_once (nat_lt (length d.views) 64) seats link given d out others new other a b
 
   load_once : (b : Bool) (old : House S) (link : ℕ) (file : List ℕ) (given : Rights) (out others : List ℕ) (new other : House S)
-      → LoadsWhere b rules paints old link file given out new → LoadsWhere b rules paints old link file given others other → (out ≡ others) × (new ≡ other)
+      → LoadsWhere b rules cut old link file given out new → LoadsWhere b rules cut old link file given others other → (out ≡ others) × (new ≡ other)
   load_once true old link file given out others new other a b = loads_once old.document old.seats link file given out others new other a b
   load_once false old link file given out others new other a b = (a.0 ∙ sym b.0, a.1 ∙ sym b.1)
 
@@ -206,7 +205,7 @@ module _ {C B S : Type 0} (rules : Rules C B) (paints : S → Pixels) where
       )
 
   says_once : (old : House S) (link : ℕ) (text : List ℕ) (found : Option (Document S × ℕ)) (out others : List ℕ) (new other : House S)
-      → SaysAs rules paints old link text found out new → SaysAs rules paints old link text found others other → (out ≡ others) × (new ≡ other)
+      → SaysAs rules cut old link text found out new → SaysAs rules cut old link text found others other → (out ≡ others) × (new ≡ other)
   says_once old link text None out others new other a b = (a.0 ∙ sym b.0, a.1 ∙ sym b.1)
   says_once old link text (Some seat) out others new other a b =
       let same = machine_says_once seat.0 a.0 b.0 seat.1 text a.1 b.1 a.2 b.2 in (
@@ -215,21 +214,21 @@ module _ {C B S : Type 0} (rules : Rules C B) (paints : S → Pixels) where
       )
 
   leaves_once : (old : House S) (link : ℕ) (found : Option (Document S × ℕ)) (out others : List ℕ) (new other : House S)
-      → LeavesAs rules paints old link found out new → LeavesAs rules paints old link found others other → (out ≡ others) × (new ≡ other)
+      → LeavesAs rules cut old link found out new → LeavesAs rules cut old link found others other → (out ≡ others) × (new ≡ other)
   leaves_once old link None out others new other a b = (a.0 ∙ sym b.0, a.1 ∙ sym b.1)
   leaves_once old link (Some seat) out others new other a b =
       let same : a.0 ≡ b.0 = a.1.1 ∙ sym b.1.1 in
       (a.2 ∙ sym b.2, a.3 ∙ ap (λ (d : Document S). record { seats = without old.seats link; document = Some d }) same ∙ sym b.3)
 
   takes_once : (event : Waiting) (old : House S) (out others : List ℕ) (new other : House S)
-      → TakesOne rules paints event old out new → TakesOne rules paints event old others other → (out ≡ others) × (new ≡ other)
+      → TakesOne rules cut event old out new → TakesOne rules cut event old others other → (out ≡ others) × (new ≡ other)
   takes_once (Opened link) old out others new other a b = (a.0 ∙ sym b.0, a.1 ∙ sym b.1)
   takes_once (Loads link file writes) old out others new other a b = load_once (is_waiting old.seats link) old link file (rights writes) out others new other a b
   takes_once (Says link text) old out others new other a b = says_once old link text (seated old link) out others new other a b
   takes_once (Gone link) old out others new other a b = leaves_once old link (seated old link) out others new other a b
 
   first_once : (waiting : List Waiting) (old : House S) (out others : List ℕ) (rest more : List Waiting) (new other : House S)
-      → TakesFirst rules paints waiting old out rest new → TakesFirst rules paints waiting old others more other → (out ≡ others) × (rest ≡ more) × (new ≡ other)
+      → TakesFirst rules cut waiting old out rest new → TakesFirst rules cut waiting old others more other → (out ≡ others) × (rest ≡ more) × (new ≡ other)
   first_once [] old out others rest more new other a b = (a.1 ∙ sym b.1, a.0 ∙ sym b.0, a.2 ∙ sym b.2)
   first_once (event ∷ events) old out others rest more new other a b =
       let same = takes_once event old out others new other a.1 b.1 in
@@ -240,13 +239,13 @@ module _ {C B S : Type 0} (rules : Rules C B) (paints : S → Pixels) where
       ap (λ (s : Seats). record { seats = s; document = a.document }) seats ∙ ap (λ (d : Option (Document S)). record { seats = b.seats; document = d }) document
 
   -- a poll turn
-  poll_once : (keeps : Keeps rules paints) (waiting : List Waiting) (old : House S) (out others : List ℕ) (worked too : Bool) (rest more : List Waiting) (new other : House S)
-      → IsHoused rules old → PollTurn rules paints waiting old out worked rest new → PollTurn rules paints waiting old others too more other
+  poll_once : (keeps : Keeps rules cut) (waiting : List Waiting) (old : House S) (out others : List ℕ) (worked too : Bool) (rest more : List Waiting) (new other : House S)
+      → IsHoused rules old → PollTurn rules cut waiting old out worked rest new → PollTurn rules cut waiting old others too more other
       → (out ≡ others) × (worked ≡ too) × (rest ≡ more) × (new ≡ other)
   poll_once keeps waiting old out others worked too rest more new other housed a b =
       let first = first_once waiting old a.here b.here rest more a.mid b.mid a.takes b.takes in
-      let mid : IsHoused rules b.mid = first_housed rules paints keeps waiting old b.here more b.mid housed b.takes in
-      let turn : TurnsDocument rules paints b.mid.seats b.mid.document a.later a.turned new.document = subst (λ (h : House S). TurnsDocument rules paints h.seats h.document a.later a.turned new.document) first.2 a.turns in
+      let mid : IsHoused rules b.mid = first_housed rules cut keeps waiting old b.here more b.mid housed b.takes in
+      let turn : TurnsDocument rules cut b.mid.seats b.mid.document a.later a.turned new.document = subst (λ (h : House S). TurnsDocument rules cut h.seats h.document a.later a.turned new.document) first.2 a.turns in
       let same = document_once b.mid.seats b.mid.document a.later b.later a.turned b.turned new.document other.document mid turn b.turns in
       let seats : new.seats ≡ other.seats = a.stays ∙ ap (λ (h : House S). h.seats) first.2 ∙ sym b.stays in (
         a.is ∙ ap (λ (o : List ℕ). o ++ a.later) first.0 ∙ ap (λ (o : List ℕ). b.here ++ o) same.0 ∙ sym b.is,
@@ -257,16 +256,16 @@ module _ {C B S : Type 0} (rules : Rules C B) (paints : S → Pixels) where
 
   -- where nothing waits and the document rests, no poll turn works
   no_work : (seats : Seats) (document : Option (Document S)) (out : List ℕ) (worked : Bool) (new : Option (Document S))
-      → IsHousedBy rules seats document → RestsNow rules document → TurnsDocument rules paints seats document out worked new → worked ≡ true → ⊥
+      → IsHousedBy rules seats document → RestsNow rules document → TurnsDocument rules cut seats document out worked new → worked ≡ true → ⊥
   no_work seats None out worked new housed rests turn works = let odd : false ≡ true = sym turn.1 ∙ works in absurd (cc)
   no_work seats (Some d) out true new housed rests turn works = work_or_rest d turn.0 turn.1 housed.none_out turn.2 rests
   no_work seats (Some d) out false new housed rests turn works = absurd (cc)
 
   still : (waiting : List Waiting) (old : House S) (out : List ℕ) (rest : List Waiting) (new : House S)
-      → IsHoused rules old → waiting ≡ [] → RestsNow rules old.document → PollTurn rules paints waiting old out true rest new → ⊥
+      → IsHoused rules old → waiting ≡ [] → RestsNow rules old.document → PollTurn rules cut waiting old out true rest new → ⊥
   still [] old out rest new housed none rests turn =
       no_work old.seats old.document turn.later turn.turned new.document housed rests
-      (subst (λ (h : House S). TurnsDocument rules paints h.seats h.document turn.later turn.turned new.document) turn.takes.2 turn.turns) (sym turn.worked_is)
+      (subst (λ (h : House S). TurnsDocument rules cut h.seats h.document turn.later turn.turned new.document) turn.takes.2 turn.turns) (sym turn.worked_is)
   still (event ∷ events) old out rest new housed none rests turn = absurd (cc)
 
   -- where every window is empty nobody has something to acknowledge
@@ -296,8 +295,8 @@ module _ {C B S : Type 0} (rules : Rules C B) (paints : S → Pixels) where
   same_seen s t waiting house =
       ap (λ (w : List Waiting). record { waiting = w; house = s.house }) waiting ∙ ap (λ (h : House S). record { waiting = t.waiting; house = h }) house
 
-  move_once : (keeps : Keeps rules paints) (move too : Move) (s t u : Seen S) (out others : List ℕ)
-      → IsHoused rules s.house → Moves rules paints move s out t → Moves rules paints too s others u → (out ≡ others) × (t ≡ u)
+  move_once : (keeps : Keeps rules cut) (move too : Move) (s t u : Seen S) (out others : List ℕ)
+      → IsHoused rules s.house → Moves rules cut move s out t → Moves rules cut too s others u → (out ≡ others) × (t ≡ u)
   move_once keeps Turn Turn s t u out others housed a b =
       let same = poll_once keeps s.waiting s.house out others true true t.waiting u.waiting t.house u.house housed a b in
       (same.0, same_seen t u same.2 same.3)
@@ -305,24 +304,24 @@ module _ {C B S : Type 0} (rules : Rules C B) (paints : S → Pixels) where
   move_once keeps Acknowledge Turn s t u out others housed a b = absurd (still s.waiting s.house others u.waiting u.house housed a.0.0 a.0.1 b)
   move_once keeps Acknowledge Acknowledge s t u out others housed a b = (a.2 ∙ sym b.2, a.3 ∙ sym b.3)
 
-  move_housed : (keeps : Keeps rules paints) (move : Move) (s t : Seen S) (out : List ℕ) → IsHoused rules s.house → Moves rules paints move s out t → IsHoused rules t.house
-  move_housed keeps Turn s t out housed a = poll_housed rules paints keeps s.waiting s.house out true t.waiting t.house housed a
+  move_housed : (keeps : Keeps rules cut) (move : Move) (s t : Seen S) (out : List ℕ) → IsHoused rules s.house → Moves rules cut move s out t → IsHoused rules t.house
+  move_housed keeps Turn s t out housed a = poll_housed rules cut keeps s.waiting s.house out true t.waiting t.house housed a
   move_housed keeps Acknowledge s t out housed a = subst (λ (x : Seen S). IsHoused rules x.house) (sym a.3) housed
 
-  pub chain_housed : (keeps : Keeps rules paints) (moves : List Move) (s t : Seen S) (out : List ℕ) → IsHoused rules s.house → Chain (Moves rules paints) moves s out t → IsHoused rules t.house
+  pub chain_housed : (keeps : Keeps rules cut) (moves : List Move) (s t : Seen S) (out : List ℕ) → IsHoused rules s.house → Chain (Moves rules cut) moves s out t → IsHoused rules t.house
   chain_housed keeps [] s t out housed a = subst (λ (x : Seen S). IsHoused rules x.house) (sym a.1) housed
   chain_housed keeps (move ∷ moves) s t out housed a = chain_housed keeps moves a.0 t a.2 (move_housed keeps move s a.0 a.1 housed a.3) a.4
 
   -- a house at rest makes no move
-  no_move : (move : Move) (s t : Seen S) (out : List ℕ) → IsHoused rules s.house → s.waiting ≡ [] → IsAtRest rules s.house.document → Moves rules paints move s out t → ⊥
+  no_move : (move : Move) (s t : Seen S) (out : List ℕ) → IsHoused rules s.house → s.waiting ≡ [] → IsAtRest rules s.house.document → Moves rules cut move s out t → ⊥
   no_move Turn s t out housed none rest a = still s.waiting s.house out t.waiting t.house housed none (rest_is_idle s.house.document rest) a
   no_move Acknowledge s t out housed none rest a =
       let silent : length (acknowledgements s.house) ≡ length {A = Waiting} [] = ap length (rest_is_silent s.house.document s.house.seats.views rest) in
       omega (arith, a.1, silent)
 
   -- moves up to where all is at rest
-  chain_once : (keeps : Keeps rules paints) (moves too : List Move) (s t u : Seen S) (out others : List ℕ)
-      → IsHoused rules s.house → Chain (Moves rules paints) moves s out t → Chain (Moves rules paints) too s others u
+  chain_once : (keeps : Keeps rules cut) (moves too : List Move) (s t u : Seen S) (out others : List ℕ)
+      → IsHoused rules s.house → Chain (Moves rules cut) moves s out t → Chain (Moves rules cut) too s others u
       → t.waiting ≡ [] → IsAtRest rules t.house.document → u.waiting ≡ [] → IsAtRest rules u.house.document → (out ≡ others) × (t ≡ u)
   chain_once keeps [] [] s t u out others housed a b none rest still_none still_rest = (a.0 ∙ sym b.0, a.1 ∙ sym b.1)
   chain_once keeps [] (move ∷ moves) s t u out others housed a b none rest still_none still_rest =
@@ -331,7 +330,7 @@ module _ {C B S : Type 0} (rules : Rules C B) (paints : S → Pixels) where
       absurd (no_move move s a.0 a.1 housed (subst (λ (x : Seen S). x.waiting ≡ []) b.1 still_none) (subst (λ (x : Seen S). IsAtRest rules x.house.document) b.1 still_rest) a.3)
   chain_once keeps (move ∷ moves) (other ∷ too) s t u out others housed a b none rest still_none still_rest =
       let one = move_once keeps move other s a.0 b.0 a.1 b.1 housed a.3 b.3 in
-      let later : Chain (Moves rules paints) too a.0 b.2 u = subst (λ (x : Seen S). Chain (Moves rules paints) too x b.2 u) (sym one.1) b.4 in
+      let later : Chain (Moves rules cut) too a.0 b.2 u = subst (λ (x : Seen S). Chain (Moves rules cut) too x b.2 u) (sym one.1) b.4 in
       let same = chain_once keeps moves too a.0 t u a.2 b.2 (move_housed keeps move s a.0 a.1 housed a.3) a.4 later none rest still_none still_rest in
       (a.5 ∙ ap (λ (o : List ℕ). o ++ a.2) one.0 ∙ ap (λ (o : List ℕ). b.1 ++ o) same.0 ∙ sym b.5, same.1)
 
@@ -353,31 +352,31 @@ module _ {C B S : Type 0} (rules : Rules C B) (paints : S → Pixels) where
 
   -- no turn is left to make
   none_left : (made n count : ℕ) (s t next u : Seen S) (out : List ℕ)
-      → IsHoused rules s.house → t ≡ s → Reaches (made + 0) count t → Reaches (made + suc n) count u → Moves rules paints Turn s out next → ⊥
+      → IsHoused rules s.house → t ≡ s → Reaches (made + 0) count t → Reaches (made + suc n) count u → Moves rules cut Turn s out next → ⊥
   none_left made n count s t next u out housed same (inl is) further turn = too_many made n count u (omega (arith, is)) further
   none_left made n count s t next u out housed same (inr idle) further turn =
       let here : IsIdle rules s = subst (IsIdle rules) same idle.1 in
       still s.waiting s.house out next.waiting next.house housed here.0 here.1 turn
 
-  turns_once : (keeps : Keeps rules paints) (made n m count : ℕ) (s t u : Seen S) (out others : List ℕ)
-      → IsHoused rules s.house → Chain (Moves rules paints) (turns n) s out t → Chain (Moves rules paints) (turns m) s others u
+  turns_once : (keeps : Keeps rules cut) (made n m count : ℕ) (s t u : Seen S) (out others : List ℕ)
+      → IsHoused rules s.house → Chain (Moves rules cut) (turns n) s out t → Chain (Moves rules cut) (turns m) s others u
       → Reaches (made + n) count t → Reaches (made + m) count u → (out ≡ others) × (t ≡ u)
   turns_once keeps made zero zero count s t u out others housed a b all every = (a.0 ∙ sym b.0, a.1 ∙ sym b.1)
   turns_once keeps made zero (suc m) count s t u out others housed a b all every = absurd (none_left made m count s t b.0 u b.1 housed a.1 all every b.3)
   turns_once keeps made (suc n) zero count s t u out others housed a b all every = absurd (none_left made n count s u a.0 t a.1 housed b.1 every all a.3)
   turns_once keeps made (suc n) (suc m) count s t u out others housed a b all every =
       let one = move_once keeps Turn Turn s a.0 b.0 a.1 b.1 housed a.3 b.3 in
-      let later : Chain (Moves rules paints) (turns m) a.0 b.2 u = subst (λ (x : Seen S). Chain (Moves rules paints) (turns m) x b.2 u) (sym one.1) b.4 in
+      let later : Chain (Moves rules cut) (turns m) a.0 b.2 u = subst (λ (x : Seen S). Chain (Moves rules cut) (turns m) x b.2 u) (sym one.1) b.4 in
       let same = turns_once keeps (suc made) n m count a.0 t u a.2 b.2 (move_housed keeps Turn s a.0 a.1 housed a.3) a.4 later (one_further made n count t all) (one_further made m count u every) in
       (a.5 ∙ ap (λ (o : List ℕ). o ++ a.2) one.0 ∙ ap (λ (o : List ℕ). b.1 ++ o) same.0 ∙ sym b.5, same.1)
 
   -- what the lines `turn` and `settle` write, and the world behind them
-  pub turned_once : (keeps : Keeps rules paints) (count : ℕ) (s t u : Seen S) (out others : List ℕ)
-      → IsHoused rules s.house → Turned rules paints count s out t → Turned rules paints count s others u → (out ≡ others) × (t ≡ u)
+  pub turned_once : (keeps : Keeps rules cut) (count : ℕ) (s t u : Seen S) (out others : List ℕ)
+      → IsHoused rules s.house → Turned rules cut count s out t → Turned rules cut count s others u → (out ≡ others) × (t ≡ u)
   turned_once keeps count s t u out others housed a b =
       turns_once keeps 0 a.made b.made count s t u out others housed a.follows b.follows (from_none a.made count t a.all) (from_none b.made count u b.all)
 
-  pub settled_once : (keeps : Keeps rules paints) (s t u : Seen S) (out others : List ℕ)
-      → IsHoused rules s.house → Settled rules paints s out t → Settled rules paints s others u → (out ≡ others) × (t ≡ u)
+  pub settled_once : (keeps : Keeps rules cut) (s t u : Seen S) (out others : List ℕ)
+      → IsHoused rules s.house → Settled rules cut s out t → Settled rules cut s others u → (out ≡ others) × (t ≡ u)
   settled_once keeps s t u out others housed a b =
       chain_once keeps a.moves b.moves s t u out others housed a.follows b.follows a.none_waits a.rests b.none_waits b.rests

@@ -23,7 +23,7 @@ use Rattle.document_machine.specs.Quiet.{IsQuiet, AllRight}
 use Rattle.document_machine.specs.Rank.{left_to_do}
 use Rattle.document_machine.specs.State.{View, Document, Sent, find_view}
 use Rattle.kit_trait.specs.Rules.{Rules}
-use Rattle.kit_trait.specs.declared.values.Pixels.{Pixels}
+use Rattle.tile_key.specs.Places.{Place}
 use Rattle.script_world.specs.House.{House, seated, seated_at, SaysAs, TakesOne, wids_of, window_in, acknowledges, acknowledgements_by, acknowledgements, ids_of, IsSeated, IsHousedBy, IsHoused}
 use Rattle.script_world.specs.Moved.{Came, TurnWritten, AllAcknowledge, AreSmall, left_of}
 use Rattle.script_world.specs.Seats.{Seats, view_of, link_in}
@@ -155,16 +155,16 @@ seated_is {S} d id view live =
     ap f (ap is_some live)
 
 -- the first acknowledgement leaves less to do
-first_less : {C B S : Type 0} (rules : Rules C B) (paints : S → Pixels) (old : House S) (document : Option (Document S)) (event : Waiting) (out : List ℕ) (new : House S)
-    → old.document ≡ document → IsHousedBy rules old.seats document → IsFirst document old.seats.views event → TakesOne rules paints event old out new → left_of rules new.document < left_of rules document
-first_less rules paints old None event out new is housed first takes = let odd : [] ≡ first.wid ∷ first.wids = first.window in absurd (cc)
-first_less {C} {B} {S} rules paints old (Some d) event out new is housed first takes =
+first_less : {C B S : Type 0} (rules : Rules C B) (cut : C → Place → S) (old : House S) (document : Option (Document S)) (event : Waiting) (out : List ℕ) (new : House S)
+    → old.document ≡ document → IsHousedBy rules old.seats document → IsFirst document old.seats.views event → TakesOne rules cut event old out new → left_of rules new.document < left_of rules document
+first_less rules cut old None event out new is housed first takes = let odd : [] ≡ first.wid ∷ first.wids = first.window in absurd (cc)
+first_less {C} {B} {S} rules cut old (Some d) event out new is housed first takes =
     let tiles = has_tiles d first.id (find_view d.views first.id) first.wid first.wids refl first.window in
     let text : List ℕ = written (TileProcessed (first.wid ∷ first.wids)) in
-    let says : SaysAs rules paints old first.link text (seated old first.link) out new = subst (λ (e : Waiting). TakesOne rules paints e old out new) first.is takes in
+    let says : SaysAs rules cut old first.link text (seated old first.link) out new = subst (λ (e : Waiting). TakesOne rules cut e old out new) first.is takes in
     let found : seated old first.link ≡ Some (d, first.id) =
     ap (λ (o : Option (Document S)). seated_at o (view_of old.seats first.link)) is ∙ ap (λ (v : Option ℕ). seated_at (Some d) v) first.at ∙ seated_is d first.id tiles.view tiles.live in
-    let said : SaysAs rules paints old first.link text (Some (d, first.id)) out new = subst (λ (f : Option (Document S × ℕ)). SaysAs rules paints old first.link text f out new) found says in
+    let said : SaysAs rules cut old first.link text (Some (d, first.id)) out new = subst (λ (f : Option (Document S × ℕ)). SaysAs rules cut old first.link text f out new) found says in
     let some : tiles.view.window ≢ [] = some_window tiles.view first.wid first.wids tiles.window in
     let read : reading text ≡ Ok (TileProcessed (numbers tiles.view)) =
     window_read rules d first.id (find_view d.views first.id) first.wid first.wids housed.whole.kept.each refl first.window first.small
@@ -175,16 +175,16 @@ first_less {C} {B} {S} rules paints old (Some d) event out new is housed first t
     omega (arith, less, new_is)
 
 -- the poll turn that takes it leaves less to do, and then acknowledgements wait
-pub first_turn : {C B S : Type 0} (rules : Rules C B) (paints : S → Pixels) (keeps : Keeps rules paints) (waiting : List Waiting) (old : House S) (worked : Bool) (rest : List Waiting) (new : House S) (b c : Option (List ℕ))
+pub first_turn : {C B S : Type 0} (rules : Rules C B) (cut : C → Place → S) (keeps : Keeps rules cut) (waiting : List Waiting) (old : House S) (worked : Bool) (rest : List Waiting) (new : House S) (b c : Option (List ℕ))
     → IsHoused rules old → waiting ≡ acknowledgements old → 0 < length waiting → AreSmall old.document old.seats.views → IsStrictlySortedBy nat_cmp (map (λ (e : ℕ × ℕ). e.0) old.seats.views)
-    → TurnWritten rules paints waiting old worked rest new b c → AllAcknowledge rest × (left_of rules new.document < left_of rules old.document)
-first_turn rules paints keeps [] old worked rest new b c housed are some small sorted written = absurd (omega (arith, some))
-first_turn {C} {B} {S} rules paints keeps (event ∷ events) old worked rest new b c housed are some small sorted written =
+    → TurnWritten rules cut waiting old worked rest new b c → AllAcknowledge rest × (left_of rules new.document < left_of rules old.document)
+first_turn rules cut keeps [] old worked rest new b c housed are some small sorted written = absurd (omega (arith, some))
+first_turn {C} {B} {S} rules cut keeps (event ∷ events) old worked rest new b c housed are some small sorted written =
     let turn = written.done in
-    let mid : IsHoused rules turn.mid = first_housed rules paints keeps (event ∷ events) old turn.here rest turn.mid housed turn.takes in
+    let mid : IsHoused rules turn.mid = first_housed rules cut keeps (event ∷ events) old turn.here rest turn.mid housed turn.takes in
     let first : IsFirst old.document old.seats.views event = first_of_all old.document old.seats.views event events small sorted (sym are) in
-    let less : left_of rules turn.mid.document < left_of rules old.document = first_less rules paints old old.document event turn.here turn.mid refl housed first turn.takes.1 in
-    let later = document_left rules paints turn.mid.seats turn.mid.document turn.later turn.turned new.document mid turn.turns in
+    let less : left_of rules turn.mid.document < left_of rules old.document = first_less rules cut old old.document event turn.here turn.mid refl housed first turn.takes.1 in
+    let later = document_left rules cut turn.mid.seats turn.mid.document turn.later turn.turned new.document mid turn.turns in
     let acks : AllAcknowledge (event ∷ events) = subst AllAcknowledge (sym are) (all_acks rules old.document old.seats old.seats.views housed small) in
     (subst AllAcknowledge (sym turn.takes.0) acks.1, omega (arith, less, later))
 
@@ -245,13 +245,13 @@ at_rest rules seats (Some d) right housed rests none =
     (quiet, right d quiet housed)
 
 -- the pass that found acknowledgements: turns up to the last that works, then they wait
-pub acks_came : {C B S : Type 0} (rules : Rules C B) (paints : S → Pixels) (start : Seen S) (still : House S) (waiting : List Waiting) (a b c : Option (List ℕ)) (was : House S)
-    → Came (Moves rules paints) start (record { waiting = []; house = was }) a b → Came (Moves rules paints) (record { waiting = []; house = was }) (record { waiting = []; house = still }) b c
+pub acks_came : {C B S : Type 0} (rules : Rules C B) (cut : C → Place → S) (start : Seen S) (still : House S) (waiting : List Waiting) (a b c : Option (List ℕ)) (was : House S)
+    → Came (Moves rules cut) start (record { waiting = []; house = was }) a b → Came (Moves rules cut) (record { waiting = []; house = was }) (record { waiting = []; house = still }) b c
     → RestsNow rules still.document → waiting ≡ acknowledgements still → 0 < length waiting
-    → Came (Moves rules paints) start (record { waiting = waiting; house = still }) a c
-acks_came {C} {B} {S} rules paints start still waiting a b c was first works rests are some =
+    → Came (Moves rules cut) start (record { waiting = waiting; house = still }) a c
+acks_came {C} {B} {S} rules cut start still waiting a b c was first works rests are some =
     let s : Seen S = record { waiting = []; house = still } in
     let t : Seen S = record { waiting = waiting; house = still } in
-    came_joined (Moves rules paints) start s t a c c (came_joined (Moves rules paints) start (record { waiting = []; house = was }) s a b c first works)
-    (came_one (Moves rules paints) Acknowledge s [] t c c
+    came_joined (Moves rules cut) start s t a c c (came_joined (Moves rules cut) start (record { waiting = []; house = was }) s a b c first works)
+    (came_one (Moves rules cut) Acknowledge s [] t c c
     ((refl, rests), subst (λ (w : List Waiting). 0 < length w) are some, refl, ap (λ (w : List Waiting). record { waiting = w; house = still }) are) (adds_nothing c))

@@ -6,7 +6,7 @@ use Rattle.document_machine.specs.State.{View, Document, find_view}
 use Rattle.document_machine.specs.Step.{Goes}
 use Rattle.document_machine.specs.declared.outs.Outs.{Outs}
 use Rattle.kit_trait.specs.Rules.{Rules}
-use Rattle.kit_trait.specs.declared.values.Pixels.{Pixels}
+use Rattle.tile_key.specs.Places.{Place}
 use Rattle.script_world.specs.House.{House, seated_at, SaysAs}
 use Rattle.script_world.specs.Seats.{Seats, records}
 
@@ -43,13 +43,13 @@ live_by {S} (Some d) seat view found =
     λ e is. let same : d ≡ e = cc in subst (λ (x : Document S). IsSome (find_view x.views view)) same here
 
 -- a message of a view
-pub said_by : {C B S : Type 0} (rules : Rules C B) (paints : S → Pixels) (seats : Seats) (link : ℕ) (text : List ℕ) (old new : Option (Document S)) (seat : Option ℕ) (view : ℕ) (outs : Outs S) (out : List ℕ)
-    → Some view ≡ option_map (λ (s : Document S × ℕ). s.1) (seated_at old seat) → Goes rules paints old (Said view text) outs new → out ≡ records seats outs.frames
-    → SaysAs rules paints (record { seats = seats; document = old }) link text (seated_at old seat) out (record { seats = seats; document = new })
-said_by rules paints seats link text None new seat view outs out found goes is = absurd goes
-said_by rules paints seats link text (Some d) None seat view outs out found goes is = absurd goes
-said_by {C} {B} {S} rules paints seats link text (Some d) (Some e) seat view outs out found goes is =
-    subst (λ (s : Option (Document S × ℕ)). SaysAs rules paints (record { seats = seats; document = Some d }) link text s out (record { seats = seats; document = Some e }))
+pub said_by : {C B S : Type 0} (rules : Rules C B) (cut : C → Place → S) (seats : Seats) (link : ℕ) (text : List ℕ) (old new : Option (Document S)) (seat : Option ℕ) (view : ℕ) (outs : Outs S) (out : List ℕ)
+    → Some view ≡ option_map (λ (s : Document S × ℕ). s.1) (seated_at old seat) → Goes rules cut old (Said view text) outs new → out ≡ records seats outs.frames
+    → SaysAs rules cut (record { seats = seats; document = old }) link text (seated_at old seat) out (record { seats = seats; document = new })
+said_by rules cut seats link text None new seat view outs out found goes is = absurd goes
+said_by rules cut seats link text (Some d) None seat view outs out found goes is = absurd goes
+said_by {C} {B} {S} rules cut seats link text (Some d) (Some e) seat view outs out found goes is =
+    subst (λ (s : Option (Document S × ℕ)). SaysAs rules cut (record { seats = seats; document = Some d }) link text s out (record { seats = seats; document = Some e }))
     (sym (found_at d seat view (sym found)).0) (e, outs, goes, refl, is)
 
 none_found : {S : Type 0} (found : Option (Document S × ℕ)) → None ≡ option_map (λ (s : Document S × ℕ). s.1) found → found ≡ None
@@ -57,7 +57,7 @@ none_found None e = refl
 none_found (Some s) e = absurd (cc)
 
 -- a message of a link that is no view
-pub unsaid_by : {C B S : Type 0} (rules : Rules C B) (paints : S → Pixels) (house : House S) (link : ℕ) (text : List ℕ) (found : Option (Document S × ℕ)) (out : List ℕ)
-    → None ≡ option_map (λ (s : Document S × ℕ). s.1) found → SaysAs rules paints house link text None out house → SaysAs rules paints house link text found out house
-unsaid_by {C} {B} {S} rules paints house link text found out lacks says =
-    subst (λ (s : Option (Document S × ℕ)). SaysAs rules paints house link text s out house) (sym (none_found found lacks)) says
+pub unsaid_by : {C B S : Type 0} (rules : Rules C B) (cut : C → Place → S) (house : House S) (link : ℕ) (text : List ℕ) (found : Option (Document S × ℕ)) (out : List ℕ)
+    → None ≡ option_map (λ (s : Document S × ℕ). s.1) found → SaysAs rules cut house link text None out house → SaysAs rules cut house link text found out house
+unsaid_by {C} {B} {S} rules cut house link text found out lacks says =
+    subst (λ (s : Option (Document S × ℕ)). SaysAs rules cut house link text s out house) (sym (none_found found lacks)) says

@@ -11,7 +11,7 @@ use Rattle.document_machine.specs.Message.{Acknowledges, took}
 use Rattle.document_machine.specs.Rank.{left_to_do}
 use Rattle.document_machine.specs.State.{Document}
 use Rattle.kit_trait.specs.Rules.{Rules}
-use Rattle.kit_trait.specs.declared.values.Pixels.{Pixels}
+use Rattle.tile_key.specs.Places.{Place}
 use Rattle.script_lines.specs.Records.{AddsPart}
 use Rattle.script_lines.specs.declared.output.Stop.{Stop}
 use Rattle.script_lines.specs.declared.output.Stop.TheVariants.{Sink}
@@ -30,10 +30,10 @@ some_wait : (event : Waiting) (rest : List Waiting) → nat_lt 0 (length (event 
 some_wait event rest = grind arith
 
 -- an event and a turn behind it, as a poll turn
-pub event_turn_by : {C B S : Type 0} (rules : Rules C B) (paints : S → Pixels) (event : Waiting) (old mid new : House S) (here later out : List ℕ) (turned worked : Bool)
-    → TakesOne rules paints event old here mid → TurnsDocument rules paints mid.seats mid.document later turned new.document → new.seats ≡ mid.seats → out ≡ here ++ later → worked ≡ true
-    → (rest : List Waiting) → PollTurn rules paints (event ∷ rest) old out worked rest new
-event_turn_by rules paints event old mid new here later out turned worked takes goes stays is works = λ rest. record {
+pub event_turn_by : {C B S : Type 0} (rules : Rules C B) (cut : C → Place → S) (event : Waiting) (old mid new : House S) (here later out : List ℕ) (turned worked : Bool)
+    → TakesOne rules cut event old here mid → TurnsDocument rules cut mid.seats mid.document later turned new.document → new.seats ≡ mid.seats → out ≡ here ++ later → worked ≡ true
+    → (rest : List Waiting) → PollTurn rules cut (event ∷ rest) old out worked rest new
+event_turn_by rules cut event old mid new here later out turned worked takes goes stays is works = λ rest. record {
   mid = mid;
   here = here;
   later = later;
@@ -46,11 +46,11 @@ event_turn_by rules paints event old mid new here later out turned worked takes 
 }
 
 -- a turn where no event waits
-pub bare_turn_by : {C B S : Type 0} (rules : Rules C B) (paints : S → Pixels) (waiting rest : List Waiting) (old new : House S) (out : List ℕ) (worked : Bool)
-    → waiting ≡ [] → rest ≡ [] → new.seats ≡ old.seats → TurnsDocument rules paints old.seats old.document out worked new.document
-    → PollTurn rules paints waiting old out worked rest new
-bare_turn_by {C} {B} {S} rules paints waiting rest old new out worked none still stays goes =
-    subst (λ (w : List Waiting). PollTurn rules paints w old out worked rest new) (sym none) (record {
+pub bare_turn_by : {C B S : Type 0} (rules : Rules C B) (cut : C → Place → S) (waiting rest : List Waiting) (old new : House S) (out : List ℕ) (worked : Bool)
+    → waiting ≡ [] → rest ≡ [] → new.seats ≡ old.seats → TurnsDocument rules cut old.seats old.document out worked new.document
+    → PollTurn rules cut waiting old out worked rest new
+bare_turn_by {C} {B} {S} rules cut waiting rest old new out worked none still stays goes =
+    subst (λ (w : List Waiting). PollTurn rules cut w old out worked rest new) (sym none) (record {
       mid = old;
       here = [];
       later = out;
@@ -113,70 +113,70 @@ nothing_cut a b part =
     let size : length {A = ℕ} [] ≡ length (part.part ++ part.behind) = ap length part.is in
     omega (arith, size, part.more, length-append part.part part.behind)
 
-no_turn_made : {C B S : Type 0} (rules : Rules C B) (paints : S → Pixels) (seats : Seats) (document : Option (Document S)) (out : List ℕ) (turned : Bool) (new : Option (Document S)) → TurnsDocument rules paints seats document out turned new → turned ≡ false → out ≡ []
-no_turn_made rules paints seats None out turned new goes lacks = goes.0
-no_turn_made rules paints seats (Some d) out true new goes lacks = absurd (cc)
-no_turn_made rules paints seats (Some d) out false new goes lacks = goes.0
+no_turn_made : {C B S : Type 0} (rules : Rules C B) (cut : C → Place → S) (seats : Seats) (document : Option (Document S)) (out : List ℕ) (turned : Bool) (new : Option (Document S)) → TurnsDocument rules cut seats document out turned new → turned ≡ false → out ≡ []
+no_turn_made rules cut seats None out turned new goes lacks = goes.0
+no_turn_made rules cut seats (Some d) out true new goes lacks = absurd (cc)
+no_turn_made rules cut seats (Some d) out false new goes lacks = goes.0
 
-idle_out : {C B S : Type 0} (rules : Rules C B) (paints : S → Pixels) (waiting : List Waiting) (old : House S) (out : List ℕ) (rest : List Waiting) (new : House S) → PollTurn rules paints waiting old out false rest new → out ≡ []
-idle_out rules paints [] old out rest new turn =
+idle_out : {C B S : Type 0} (rules : Rules C B) (cut : C → Place → S) (waiting : List Waiting) (old : House S) (out : List ℕ) (rest : List Waiting) (new : House S) → PollTurn rules cut waiting old out false rest new → out ≡ []
+idle_out rules cut [] old out rest new turn =
     let lacks : turn.turned ≡ false = sym turn.worked_is in
-    turn.is ∙ ap (λ (o : List ℕ). o ++ turn.later) turn.takes.1 ∙ no_turn_made rules paints turn.mid.seats turn.mid.document turn.later turn.turned new.document turn.turns lacks
-idle_out rules paints (event ∷ events) old out rest new turn =
+    turn.is ∙ ap (λ (o : List ℕ). o ++ turn.later) turn.takes.1 ∙ no_turn_made rules cut turn.mid.seats turn.mid.document turn.later turn.turned new.document turn.turns lacks
+idle_out rules cut (event ∷ events) old out rest new turn =
     let odd : false ≡ true = turn.worked_is ∙ ap (λ (b : Bool). b || turn.turned) (some_wait event events) in absurd (cc)
 
 -- the sink failed while a turn's records were written
-pub turn_cut : {C B S : Type 0} (rules : Rules C B) (paints : S → Pixels) (waiting : List Waiting) (old : House S) (out : List ℕ) (worked : Bool) (rest : List Waiting) (new : House S) (shown : List ℕ) (a b : Option (List ℕ)) (stop : Stop)
-    → PollTurn rules paints waiting old out worked rest new → shown ≡ out → stop ≡ Sink → AddsPart a shown b
-    → Stopped stop (MadeFrom (Moves rules paints) (record { waiting = waiting; house = old })) a b
-turn_cut rules paints waiting old out true rest new shown a b stop turn same is part =
-    stopped_writing (Moves rules paints) Turn (record { waiting = waiting; house = old }) out (record { waiting = rest; house = new }) a b stop
+pub turn_cut : {C B S : Type 0} (rules : Rules C B) (cut : C → Place → S) (waiting : List Waiting) (old : House S) (out : List ℕ) (worked : Bool) (rest : List Waiting) (new : House S) (shown : List ℕ) (a b : Option (List ℕ)) (stop : Stop)
+    → PollTurn rules cut waiting old out worked rest new → shown ≡ out → stop ≡ Sink → AddsPart a shown b
+    → Stopped stop (MadeFrom (Moves rules cut) (record { waiting = waiting; house = old })) a b
+turn_cut rules cut waiting old out true rest new shown a b stop turn same is part =
+    stopped_writing (Moves rules cut) Turn (record { waiting = waiting; house = old }) out (record { waiting = rest; house = new }) a b stop
     turn is (subst (λ (o : List ℕ). AddsPart a o b) same part)
-turn_cut rules paints waiting old out false rest new shown a b stop turn same is part =
-    absurd (nothing_cut a b (subst (λ (o : List ℕ). AddsPart a o b) (same ∙ idle_out rules paints waiting old out rest new turn) part))
+turn_cut rules cut waiting old out false rest new shown a b stop turn same is part =
+    absurd (nothing_cut a b (subst (λ (o : List ℕ). AddsPart a o b) (same ∙ idle_out rules cut waiting old out rest new turn) part))
 
 -- a turn that worked is one move; where it did nothing, all is as it was
-first_same : {C B S : Type 0} (rules : Rules C B) (paints : S → Pixels) (seats : Seats) (document : Option (Document S)) (out : List ℕ) (new : Option (Document S)) (turned : Bool) → TurnsDocument rules paints seats document out turned new → turned ≡ false → new ≡ document
-first_same rules paints seats None out new turned goes lacks = goes.2
-first_same rules paints seats (Some d) out new true goes lacks = absurd (cc)
-first_same rules paints seats (Some d) out new false goes lacks = goes.2
+first_same : {C B S : Type 0} (rules : Rules C B) (cut : C → Place → S) (seats : Seats) (document : Option (Document S)) (out : List ℕ) (new : Option (Document S)) (turned : Bool) → TurnsDocument rules cut seats document out turned new → turned ≡ false → new ≡ document
+first_same rules cut seats None out new turned goes lacks = goes.2
+first_same rules cut seats (Some d) out new true goes lacks = absurd (cc)
+first_same rules cut seats (Some d) out new false goes lacks = goes.2
 
 same_house : {S : Type 0} (a b : House S) → a.seats ≡ b.seats → a.document ≡ b.document → a ≡ b
 same_house {S} a b seats document =
     ap (λ (s : Seats). record { seats = s; document = a.document }) seats ∙ ap (λ (d : Option (Document S)). record { seats = b.seats; document = d }) document
 
-idle_same : {C B S : Type 0} (rules : Rules C B) (paints : S → Pixels) (waiting : List Waiting) (old : House S) (out : List ℕ) (rest : List Waiting) (new : House S) → PollTurn rules paints waiting old out false rest new → (rest ≡ waiting) × (waiting ≡ []) × (new ≡ old)
-idle_same {C} {B} {S} rules paints [] old out rest new turn =
+idle_same : {C B S : Type 0} (rules : Rules C B) (cut : C → Place → S) (waiting : List Waiting) (old : House S) (out : List ℕ) (rest : List Waiting) (new : House S) → PollTurn rules cut waiting old out false rest new → (rest ≡ waiting) × (waiting ≡ []) × (new ≡ old)
+idle_same {C} {B} {S} rules cut [] old out rest new turn =
     let lacks : turn.turned ≡ false = sym turn.worked_is in
-    let document : new.document ≡ turn.mid.document = first_same rules paints turn.mid.seats turn.mid.document turn.later new.document turn.turned turn.turns lacks in
+    let document : new.document ≡ turn.mid.document = first_same rules cut turn.mid.seats turn.mid.document turn.later new.document turn.turned turn.turns lacks in
     let same : new ≡ turn.mid = same_house new turn.mid turn.stays document in
     (turn.takes.0, refl, same ∙ turn.takes.2)
-idle_same rules paints (event ∷ events) old out rest new turn =
+idle_same rules cut (event ∷ events) old out rest new turn =
     let odd : false ≡ true = turn.worked_is ∙ ap (λ (b : Bool). b || turn.turned) (some_wait event events) in absurd (cc)
 
-rests_by : {C B S : Type 0} (rules : Rules C B) (paints : S → Pixels) (seats : Seats) (document : Option (Document S)) (out : List ℕ) (new : Option (Document S)) (turned : Bool) → TurnsDocument rules paints seats document out turned new → turned ≡ false → RestsNow rules new
-rests_by rules paints seats None out new turned goes lacks = subst (RestsNow rules) (sym goes.2) tt
-rests_by rules paints seats (Some d) out new true goes lacks = absurd (cc)
-rests_by rules paints seats (Some d) out new false goes lacks = subst (RestsNow rules) (sym goes.2) goes.1
+rests_by : {C B S : Type 0} (rules : Rules C B) (cut : C → Place → S) (seats : Seats) (document : Option (Document S)) (out : List ℕ) (new : Option (Document S)) (turned : Bool) → TurnsDocument rules cut seats document out turned new → turned ≡ false → RestsNow rules new
+rests_by rules cut seats None out new turned goes lacks = subst (RestsNow rules) (sym goes.2) tt
+rests_by rules cut seats (Some d) out new true goes lacks = absurd (cc)
+rests_by rules cut seats (Some d) out new false goes lacks = subst (RestsNow rules) (sym goes.2) goes.1
 
 -- where a poll turn did nothing, the next would do nothing either
-pub idle_rests : {C B S : Type 0} (rules : Rules C B) (paints : S → Pixels) (waiting : List Waiting) (old : House S) (worked : Bool) (rest : List Waiting) (new : House S) (b c : Option (List ℕ))
-    → TurnWritten rules paints waiting old worked rest new b c → worked ≡ false → (rest ≡ []) × RestsNow rules new.document
-idle_rests rules paints waiting old true rest new b c written lacks = absurd (cc)
-idle_rests rules paints [] old false rest new b c written lacks =
+pub idle_rests : {C B S : Type 0} (rules : Rules C B) (cut : C → Place → S) (waiting : List Waiting) (old : House S) (worked : Bool) (rest : List Waiting) (new : House S) (b c : Option (List ℕ))
+    → TurnWritten rules cut waiting old worked rest new b c → worked ≡ false → (rest ≡ []) × RestsNow rules new.document
+idle_rests rules cut waiting old true rest new b c written lacks = absurd (cc)
+idle_rests rules cut [] old false rest new b c written lacks =
     let turn = written.done in
-    (turn.takes.0, rests_by rules paints turn.mid.seats turn.mid.document turn.later new.document turn.turned turn.turns (sym turn.worked_is))
-idle_rests rules paints (event ∷ events) old false rest new b c written lacks =
+    (turn.takes.0, rests_by rules cut turn.mid.seats turn.mid.document turn.later new.document turn.turned turn.turns (sym turn.worked_is))
+idle_rests rules cut (event ∷ events) old false rest new b c written lacks =
     let turn = written.done in
     let odd : false ≡ true = turn.worked_is ∙ ap (λ (b : Bool). b || turn.turned) (some_wait event events) in absurd (cc)
 
-pub turn_came : {C B S : Type 0} (rules : Rules C B) (paints : S → Pixels) (waiting : List Waiting) (old : House S) (worked : Bool) (rest : List Waiting) (new : House S) (b c : Option (List ℕ))
-    → TurnWritten rules paints waiting old worked rest new b c → Came (Moves rules paints) (record { waiting = waiting; house = old }) (record { waiting = rest; house = new }) b c
-turn_came rules paints waiting old true rest new b c written =
-    came_one (Moves rules paints) Turn (record { waiting = waiting; house = old }) written.out (record { waiting = rest; house = new }) b c written.done written.added
-turn_came {C} {B} {S} rules paints waiting old false rest new b c written =
-    let same = idle_same rules paints waiting old written.out rest new written.done in
-    let none : written.out ≡ [] = idle_out rules paints waiting old written.out rest new written.done in
+pub turn_came : {C B S : Type 0} (rules : Rules C B) (cut : C → Place → S) (waiting : List Waiting) (old : House S) (worked : Bool) (rest : List Waiting) (new : House S) (b c : Option (List ℕ))
+    → TurnWritten rules cut waiting old worked rest new b c → Came (Moves rules cut) (record { waiting = waiting; house = old }) (record { waiting = rest; house = new }) b c
+turn_came rules cut waiting old true rest new b c written =
+    came_one (Moves rules cut) Turn (record { waiting = waiting; house = old }) written.out (record { waiting = rest; house = new }) b c written.done written.added
+turn_came {C} {B} {S} rules cut waiting old false rest new b c written =
+    let same = idle_same rules cut waiting old written.out rest new written.done in
+    let none : written.out ≡ [] = idle_out rules cut waiting old written.out rest new written.done in
     record {
       moves = [];
       out = written.out;
@@ -185,51 +185,51 @@ turn_came {C} {B} {S} rules paints waiting old false rest new b c written =
     }
 
 -- one turn more
-pub turn_more : {C B S : Type 0} (rules : Rules C B) (paints : S → Pixels) (start : Seen S) (waiting : List Waiting) (old : House S) (worked : Bool) (rest : List Waiting) (new : House S) (a b c : Option (List ℕ))
-    → Came (Moves rules paints) start (record { waiting = waiting; house = old }) a b → TurnWritten rules paints waiting old worked rest new b c
-    → Came (Moves rules paints) start (record { waiting = rest; house = new }) a c
-turn_more rules paints start waiting old worked rest new a b c first written =
-    came_joined (Moves rules paints) start (record { waiting = waiting; house = old }) (record { waiting = rest; house = new }) a b c first (turn_came rules paints waiting old worked rest new b c written)
+pub turn_more : {C B S : Type 0} (rules : Rules C B) (cut : C → Place → S) (start : Seen S) (waiting : List Waiting) (old : House S) (worked : Bool) (rest : List Waiting) (new : House S) (a b c : Option (List ℕ))
+    → Came (Moves rules cut) start (record { waiting = waiting; house = old }) a b → TurnWritten rules cut waiting old worked rest new b c
+    → Came (Moves rules cut) start (record { waiting = rest; house = new }) a c
+turn_more rules cut start waiting old worked rest new a b c first written =
+    came_joined (Moves rules cut) start (record { waiting = waiting; house = old }) (record { waiting = rest; house = new }) a b c first (turn_came rules cut waiting old worked rest new b c written)
 
 -- fewer events wait
-pub turn_fewer : {C B S : Type 0} (rules : Rules C B) (paints : S → Pixels) (waiting : List Waiting) (old : House S) (worked : Bool) (rest : List Waiting) (new : House S) (b c : Option (List ℕ))
-    → TurnWritten rules paints waiting old worked rest new b c → 0 < length waiting → length rest < length waiting
-turn_fewer rules paints [] old worked rest new b c written some = absurd (omega (arith, some))
-turn_fewer rules paints (event ∷ events) old worked rest new b c written some = let same : length rest ≡ length events = ap length written.done.takes.0 in omega (arith, same)
+pub turn_fewer : {C B S : Type 0} (rules : Rules C B) (cut : C → Place → S) (waiting : List Waiting) (old : House S) (worked : Bool) (rest : List Waiting) (new : House S) (b c : Option (List ℕ))
+    → TurnWritten rules cut waiting old worked rest new b c → 0 < length waiting → length rest < length waiting
+turn_fewer rules cut [] old worked rest new b c written some = absurd (omega (arith, some))
+turn_fewer rules cut (event ∷ events) old worked rest new b c written some = let same : length rest ≡ length events = ap length written.done.takes.0 in omega (arith, same)
 
 -- what a turn of the document leaves to do
-pub document_left : {C B S : Type 0} (rules : Rules C B) (paints : S → Pixels) (seats : Seats) (old : Option (Document S)) (out : List ℕ) (worked : Bool) (new : Option (Document S))
-    → IsHousedBy rules seats old → TurnsDocument rules paints seats old out worked new → left_of rules new + cond worked 1 0 ≤ left_of rules old
-document_left rules paints seats None out worked new housed goes =
+pub document_left : {C B S : Type 0} (rules : Rules C B) (cut : C → Place → S) (seats : Seats) (old : Option (Document S)) (out : List ℕ) (worked : Bool) (new : Option (Document S))
+    → IsHousedBy rules seats old → TurnsDocument rules cut seats old out worked new → left_of rules new + cond worked 1 0 ≤ left_of rules old
+document_left rules cut seats None out worked new housed goes =
     let same : left_of rules new ≡ 0 = ap (left_of rules) goes.2 in
     let none : ◌≡◌ {A = ℕ} (cond worked 1 0) 0 = ap (λ (b : Bool). cond {A = ℕ} b 1 0) goes.1 in
     omega (arith, same, none)
-document_left {C} {B} {S} rules paints seats (Some d) out true new housed goes =
+document_left {C} {B} {S} rules cut seats (Some d) out true new housed goes =
     let now : Document S = goes.0 in
-    let works : WorksAtOnce rules paints d goes.1 now = goes.2 in
-    let less : left_to_do rules now < left_to_do rules d = (at_once_lowers rules paints d works.mid now works.first works.later works.works housed.none_out housed.whole.kept works.answered).1 in
+    let works : WorksAtOnce rules cut d goes.1 now = goes.2 in
+    let less : left_to_do rules now < left_to_do rules d = (at_once_lowers rules cut d works.mid now works.first works.later works.works housed.none_out housed.whole.kept works.answered).1 in
     let same : left_of rules new ≡ left_to_do rules now = ap (left_of rules) goes.4 in
     omega (arith, less, same)
-document_left rules paints seats (Some d) out false new housed goes = let same : left_of rules new ≡ left_to_do rules d = ap (left_of rules) goes.2 in omega (arith, same)
+document_left rules cut seats (Some d) out false new housed goes = let same : left_of rules new ≡ left_to_do rules d = ap (left_of rules) goes.2 in omega (arith, same)
 
 -- where no event waits, a poll turn that works leaves less to do
-pub bare_left : {C B S : Type 0} (rules : Rules C B) (paints : S → Pixels) (waiting : List Waiting) (old : House S) (worked : Bool) (rest : List Waiting) (new : House S) (b c : Option (List ℕ))
-    → waiting ≡ [] → IsHoused rules old → TurnWritten rules paints waiting old worked rest new b c → (rest ≡ []) × (left_of rules new.document + cond worked 1 0 ≤ left_of rules old.document)
-bare_left {C} {B} {S} rules paints [] old worked rest new b c none housed written =
+pub bare_left : {C B S : Type 0} (rules : Rules C B) (cut : C → Place → S) (waiting : List Waiting) (old : House S) (worked : Bool) (rest : List Waiting) (new : House S) (b c : Option (List ℕ))
+    → waiting ≡ [] → IsHoused rules old → TurnWritten rules cut waiting old worked rest new b c → (rest ≡ []) × (left_of rules new.document + cond worked 1 0 ≤ left_of rules old.document)
+bare_left {C} {B} {S} rules cut [] old worked rest new b c none housed written =
     let turn = written.done in
     let mid : IsHoused rules turn.mid = subst (IsHoused rules) (sym turn.takes.2) housed in
-    let less : left_of rules new.document + cond turn.turned 1 0 ≤ left_of rules turn.mid.document = document_left rules paints turn.mid.seats turn.mid.document turn.later turn.turned new.document mid turn.turns in
+    let less : left_of rules new.document + cond turn.turned 1 0 ≤ left_of rules turn.mid.document = document_left rules cut turn.mid.seats turn.mid.document turn.later turn.turned new.document mid turn.turns in
     let was : left_of rules turn.mid.document ≡ left_of rules old.document = ap (λ (h : House S). left_of rules h.document) turn.takes.2 in
     let same : ◌≡◌ {A = ℕ} (cond worked 1 0) (cond turn.turned 1 0) = ap (λ (b : Bool). cond {A = ℕ} b 1 0) turn.worked_is in
     (turn.takes.0, omega (arith, less, was, same))
-bare_left rules paints (event ∷ events) old worked rest new b c none housed written = absurd (cc)
+bare_left rules cut (event ∷ events) old worked rest new b c none housed written = absurd (cc)
 
 -- an acknowledgement never leaves more to do
-said_left : {C B S : Type 0} (rules : Rules C B) (paints : S → Pixels) (old : House S) (link : ℕ) (text : List ℕ) (found : Option (Document S × ℕ)) (out : List ℕ) (new : House S) (wids : List ℕ)
-    → seated old link ≡ found → reading text ≡ Ok (TileProcessed wids) → SaysAs rules paints old link text found out new → left_of rules new.document ≤ left_of rules old.document
-said_left {C} {B} {S} rules paints old link text None out new wids is read says =
+said_left : {C B S : Type 0} (rules : Rules C B) (cut : C → Place → S) (old : House S) (link : ℕ) (text : List ℕ) (found : Option (Document S × ℕ)) (out : List ℕ) (new : House S) (wids : List ℕ)
+    → seated old link ≡ found → reading text ≡ Ok (TileProcessed wids) → SaysAs rules cut old link text found out new → left_of rules new.document ≤ left_of rules old.document
+said_left {C} {B} {S} rules cut old link text None out new wids is read says =
     let same : left_of rules new.document ≡ left_of rules old.document = ap (λ (h : House S). left_of rules h.document) says.1 in omega (arith, same)
-said_left {C} {B} {S} rules paints old link text (Some seat) out new wids is read says =
+said_left {C} {B} {S} rules cut old link text (Some seat) out new wids is read says =
     let d : Document S = seat.0 in
     let acknowledged = said_acknowledges rules d seat.1 wids text says.1 says.0 read says.2 in
     let less : left_to_do rules (took rules d seat.1 (Acknowledges wids)) ≤ left_to_do rules d = acknowledging_adds_nothing rules d seat.1 wids in
@@ -238,23 +238,23 @@ said_left {C} {B} {S} rules paints old link text (Some seat) out new wids is rea
     let was : left_of rules old.document ≡ left_to_do rules d = ap (left_of rules) (found_document old.document _ seat is).0 in
     omega (arith, less, now, new_is, was)
 
-event_left : {C B S : Type 0} (rules : Rules C B) (paints : S → Pixels) (event : Waiting) (old : House S) (out : List ℕ) (new : House S)
-    → IsAcknowledgement event → TakesOne rules paints event old out new → left_of rules new.document ≤ left_of rules old.document
-event_left rules paints (Opened link) old out new acks takes = absurd acks
-event_left rules paints (Loads link file writes) old out new acks takes = absurd acks
-event_left rules paints (Gone link) old out new acks takes = absurd acks
-event_left rules paints (Says link text) old out new acks takes = said_left rules paints old link text (seated old link) out new acks.0 refl acks.1 takes
+event_left : {C B S : Type 0} (rules : Rules C B) (cut : C → Place → S) (event : Waiting) (old : House S) (out : List ℕ) (new : House S)
+    → IsAcknowledgement event → TakesOne rules cut event old out new → left_of rules new.document ≤ left_of rules old.document
+event_left rules cut (Opened link) old out new acks takes = absurd acks
+event_left rules cut (Loads link file writes) old out new acks takes = absurd acks
+event_left rules cut (Gone link) old out new acks takes = absurd acks
+event_left rules cut (Says link text) old out new acks takes = said_left rules cut old link text (seated old link) out new acks.0 refl acks.1 takes
 
-pub acks_left : {C B S : Type 0} (rules : Rules C B) (paints : S → Pixels) (keeps : Keeps rules paints) (waiting : List Waiting) (old : House S) (worked : Bool) (rest : List Waiting) (new : House S) (b c : Option (List ℕ))
-    → IsHoused rules old → AllAcknowledge waiting → TurnWritten rules paints waiting old worked rest new b c → AllAcknowledge rest × (left_of rules new.document ≤ left_of rules old.document)
-acks_left rules paints keeps [] old worked rest new b c housed acks written =
-    let less = bare_left rules paints [] old worked rest new b c refl housed written in
+pub acks_left : {C B S : Type 0} (rules : Rules C B) (cut : C → Place → S) (keeps : Keeps rules cut) (waiting : List Waiting) (old : House S) (worked : Bool) (rest : List Waiting) (new : House S) (b c : Option (List ℕ))
+    → IsHoused rules old → AllAcknowledge waiting → TurnWritten rules cut waiting old worked rest new b c → AllAcknowledge rest × (left_of rules new.document ≤ left_of rules old.document)
+acks_left rules cut keeps [] old worked rest new b c housed acks written =
+    let less = bare_left rules cut [] old worked rest new b c refl housed written in
     (subst AllAcknowledge (sym less.0) tt, omega (arith, less.1))
-acks_left rules paints keeps (event ∷ events) old worked rest new b c housed acks written =
+acks_left rules cut keeps (event ∷ events) old worked rest new b c housed acks written =
     let turn = written.done in
-    let mid : IsHoused rules turn.mid = first_housed rules paints keeps (event ∷ events) old turn.here rest turn.mid housed turn.takes in
-    let first : left_of rules turn.mid.document ≤ left_of rules old.document = event_left rules paints event old turn.here turn.mid acks.0 turn.takes.1 in
-    let later = document_left rules paints turn.mid.seats turn.mid.document turn.later turn.turned new.document mid turn.turns in
+    let mid : IsHoused rules turn.mid = first_housed rules cut keeps (event ∷ events) old turn.here rest turn.mid housed turn.takes in
+    let first : left_of rules turn.mid.document ≤ left_of rules old.document = event_left rules cut event old turn.here turn.mid acks.0 turn.takes.1 in
+    let later = document_left rules cut turn.mid.seats turn.mid.document turn.later turn.turned new.document mid turn.turns in
     (subst AllAcknowledge (sym turn.takes.0) acks.1, omega (arith, first, later))
 
 append-nil-moves : (ms : List Move) → ms ++ [] ≡ ms
@@ -262,54 +262,54 @@ append-nil-moves [] = refl
 append-nil-moves (m ∷ ms) = ap (λ (xs : List Move). m ∷ xs) (append-nil-moves ms)
 
 -- the same where no event waits
-pub bare_more : {C B S : Type 0} (rules : Rules C B) (paints : S → Pixels) (start : Seen S) (waiting : List Waiting) (old : House S) (worked : Bool) (rest : List Waiting) (new : House S) (a b c : Option (List ℕ))
-    → waiting ≡ [] → rest ≡ [] → Came (Moves rules paints) start (record { waiting = []; house = old }) a b → TurnWritten rules paints waiting old worked rest new b c
-    → Came (Moves rules paints) start (record { waiting = []; house = new }) a c
-bare_more {C} {B} {S} rules paints start waiting old worked rest new a b c none still first written =
-    subst (λ (w : List Waiting). Came (Moves rules paints) start (record { waiting = w; house = new }) a c) still
-    (turn_more rules paints start waiting old worked rest new a b c (subst (λ (w : List Waiting). Came (Moves rules paints) start (record { waiting = w; house = old }) a b) (sym none) first) written)
+pub bare_more : {C B S : Type 0} (rules : Rules C B) (cut : C → Place → S) (start : Seen S) (waiting : List Waiting) (old : House S) (worked : Bool) (rest : List Waiting) (new : House S) (a b c : Option (List ℕ))
+    → waiting ≡ [] → rest ≡ [] → Came (Moves rules cut) start (record { waiting = []; house = old }) a b → TurnWritten rules cut waiting old worked rest new b c
+    → Came (Moves rules cut) start (record { waiting = []; house = new }) a c
+bare_more {C} {B} {S} rules cut start waiting old worked rest new a b c none still first written =
+    subst (λ (w : List Waiting). Came (Moves rules cut) start (record { waiting = w; house = new }) a c) still
+    (turn_more rules cut start waiting old worked rest new a b c (subst (λ (w : List Waiting). Came (Moves rules cut) start (record { waiting = w; house = old }) a b) (sym none) first) written)
 
-pub bare_stopped : {C B S : Type 0} (rules : Rules C B) (paints : S → Pixels) (start : Seen S) (waiting : List Waiting) (old : House S) (a b c : Option (List ℕ)) (stop : Stop)
-    → waiting ≡ [] → Came (Moves rules paints) start (record { waiting = []; house = old }) a b → Stopped stop (MadeFrom (Moves rules paints) (record { waiting = waiting; house = old })) b c
-    → Stopped stop (MadeFrom (Moves rules paints) start) a c
-bare_stopped {C} {B} {S} rules paints start waiting old a b c stop none first later =
-    stopped_later (Moves rules paints) start (record { waiting = waiting; house = old }) a b c stop
-    (subst (λ (w : List Waiting). Came (Moves rules paints) start (record { waiting = w; house = old }) a b) (sym none) first) later
+pub bare_stopped : {C B S : Type 0} (rules : Rules C B) (cut : C → Place → S) (start : Seen S) (waiting : List Waiting) (old : House S) (a b c : Option (List ℕ)) (stop : Stop)
+    → waiting ≡ [] → Came (Moves rules cut) start (record { waiting = []; house = old }) a b → Stopped stop (MadeFrom (Moves rules cut) (record { waiting = waiting; house = old })) b c
+    → Stopped stop (MadeFrom (Moves rules cut) start) a c
+bare_stopped {C} {B} {S} rules cut start waiting old a b c stop none first later =
+    stopped_later (Moves rules cut) start (record { waiting = waiting; house = old }) a b c stop
+    (subst (λ (w : List Waiting). Came (Moves rules cut) start (record { waiting = w; house = old }) a b) (sym none) first) later
 
 -- so many turns and one more
 turns_more : (n : ℕ) → turns (suc n) ≡ turns n ++ Turn ∷ []
 turns_more zero = refl
 turns_more (suc n) = ap (λ (ms : List Move). Turn ∷ ms) (turns_more n)
 
-pub made_none : {C B S : Type 0} (rules : Rules C B) (paints : S → Pixels) (s : Seen S) (a : Option (List ℕ)) → MadeTurns rules paints 0 s s a a
-made_none rules paints s a = record { out = []; chain = (refl, refl); added = adds_nothing a }
+pub made_none : {C B S : Type 0} (rules : Rules C B) (cut : C → Place → S) (s : Seen S) (a : Option (List ℕ)) → MadeTurns rules cut 0 s s a a
+made_none rules cut s a = record { out = []; chain = (refl, refl); added = adds_nothing a }
 
-pub made_more : {C B S : Type 0} (rules : Rules C B) (paints : S → Pixels) (made : ℕ) (start : Seen S) (waiting : List Waiting) (old : House S) (worked : Bool) (rest : List Waiting) (new : House S) (a b c : Option (List ℕ))
-    → worked ≡ true → MadeTurns rules paints made start (record { waiting = waiting; house = old }) a b → TurnWritten rules paints waiting old worked rest new b c
-    → MadeTurns rules paints (suc made) start (record { waiting = rest; house = new }) a c
-made_more rules paints made start waiting old false rest new a b c works first written = absurd (cc)
-made_more {C} {B} {S} rules paints made start waiting old true rest new a b c works first written =
+pub made_more : {C B S : Type 0} (rules : Rules C B) (cut : C → Place → S) (made : ℕ) (start : Seen S) (waiting : List Waiting) (old : House S) (worked : Bool) (rest : List Waiting) (new : House S) (a b c : Option (List ℕ))
+    → worked ≡ true → MadeTurns rules cut made start (record { waiting = waiting; house = old }) a b → TurnWritten rules cut waiting old worked rest new b c
+    → MadeTurns rules cut (suc made) start (record { waiting = rest; house = new }) a c
+made_more rules cut made start waiting old false rest new a b c works first written = absurd (cc)
+made_more {C} {B} {S} rules cut made start waiting old true rest new a b c works first written =
     let t : Seen S = record { waiting = rest; house = new } in
     let s : Seen S = record { waiting = waiting; house = old } in
     record {
       out = first.out ++ written.out;
-      chain = subst (λ (ms : List Move). Chain (Moves rules paints) ms start (first.out ++ written.out) t) (sym (turns_more made))
-          (chain_joined (Moves rules paints) start (turns made) first.out s (Turn ∷ []) written.out t first.chain (chain_one (Moves rules paints) Turn s written.out t written.done));
+      chain = subst (λ (ms : List Move). Chain (Moves rules cut) ms start (first.out ++ written.out) t) (sym (turns_more made))
+          (chain_joined (Moves rules cut) start (turns made) first.out s (Turn ∷ []) written.out t first.chain (chain_one (Moves rules cut) Turn s written.out t written.done));
       added = adds_more a b c first.out written.out first.added written.added;
     }
 
 -- all turns are made
-pub made_all : {C B S : Type 0} (rules : Rules C B) (paints : S → Pixels) (made count : ℕ) (s t : Seen S) (a b : Option (List ℕ)) → made ≡ count → MadeTurns rules paints made s t a b → TurnedTo rules paints count s t a b
-made_all rules paints made count s t a b is turned = record { out = turned.out; done = record { made = made; follows = turned.chain; all = inl is }; added = turned.added }
+pub made_all : {C B S : Type 0} (rules : Rules C B) (cut : C → Place → S) (made count : ℕ) (s t : Seen S) (a b : Option (List ℕ)) → made ≡ count → MadeTurns rules cut made s t a b → TurnedTo rules cut count s t a b
+made_all rules cut made count s t a b is turned = record { out = turned.out; done = record { made = made; follows = turned.chain; all = inl is }; added = turned.added }
 
 -- a turn did nothing
-pub made_some : {C B S : Type 0} (rules : Rules C B) (paints : S → Pixels) (made count : ℕ) (start : Seen S) (waiting : List Waiting) (old : House S) (worked : Bool) (rest : List Waiting) (new : House S) (a b c : Option (List ℕ))
-    → made < count → worked ≡ false → MadeTurns rules paints made start (record { waiting = waiting; house = old }) a b → TurnWritten rules paints waiting old worked rest new b c
-    → TurnedTo rules paints count start (record { waiting = rest; house = new }) a c
-made_some rules paints made count start waiting old true rest new a b c below idle first written = absurd (cc)
-made_some {C} {B} {S} rules paints made count start waiting old false rest new a b c below idle first written =
-    let same = idle_same rules paints waiting old written.out rest new written.done in
-    let none : written.out ≡ [] = idle_out rules paints waiting old written.out rest new written.done in
+pub made_some : {C B S : Type 0} (rules : Rules C B) (cut : C → Place → S) (made count : ℕ) (start : Seen S) (waiting : List Waiting) (old : House S) (worked : Bool) (rest : List Waiting) (new : House S) (a b c : Option (List ℕ))
+    → made < count → worked ≡ false → MadeTurns rules cut made start (record { waiting = waiting; house = old }) a b → TurnWritten rules cut waiting old worked rest new b c
+    → TurnedTo rules cut count start (record { waiting = rest; house = new }) a c
+made_some rules cut made count start waiting old true rest new a b c below idle first written = absurd (cc)
+made_some {C} {B} {S} rules cut made count start waiting old false rest new a b c below idle first written =
+    let same = idle_same rules cut waiting old written.out rest new written.done in
+    let none : written.out ≡ [] = idle_out rules cut waiting old written.out rest new written.done in
     let t : Seen S = record { waiting = rest; house = new } in
     let s : Seen S = record { waiting = waiting; house = old } in
     let t_is : t ≡ s = ap (λ (w : List Waiting). record { waiting = w; house = new }) same.0 ∙ ap (λ (h : House S). record { waiting = waiting; house = h }) same.2 in
@@ -317,38 +317,38 @@ made_some {C} {B} {S} rules paints made count start waiting old false rest new a
       out = first.out ++ written.out;
       done = record {
         made = made;
-        follows = subst (λ (ms : List Move). Chain (Moves rules paints) ms start (first.out ++ written.out) t) (append-nil-moves (turns made))
-            (chain_joined (Moves rules paints) start (turns made) first.out s [] written.out t first.chain (none, t_is));
-        all = inr (below, idle_rests rules paints waiting old false rest new b c written refl);
+        follows = subst (λ (ms : List Move). Chain (Moves rules cut) ms start (first.out ++ written.out) t) (append-nil-moves (turns made))
+            (chain_joined (Moves rules cut) start (turns made) first.out s [] written.out t first.chain (none, t_is));
+        all = inr (below, idle_rests rules cut waiting old false rest new b c written refl);
       };
       added = adds_more a b c first.out written.out first.added written.added;
     }
 
-pub made_stopped : {C B S : Type 0} (rules : Rules C B) (paints : S → Pixels) (made : ℕ) (start s : Seen S) (a b c : Option (List ℕ)) (stop : Stop)
-    → MadeTurns rules paints made start s a b → Stopped stop (MadeFrom (Moves rules paints) s) b c → Stopped stop (MadeFrom (Moves rules paints) start) a c
-made_stopped rules paints made start s a b c stop turned later =
-    stopped_later (Moves rules paints) start s a b c stop (record { moves = turns made; out = turned.out; chain = turned.chain; added = turned.added }) later
+pub made_stopped : {C B S : Type 0} (rules : Rules C B) (cut : C → Place → S) (made : ℕ) (start s : Seen S) (a b c : Option (List ℕ)) (stop : Stop)
+    → MadeTurns rules cut made start s a b → Stopped stop (MadeFrom (Moves rules cut) s) b c → Stopped stop (MadeFrom (Moves rules cut) start) a c
+made_stopped rules cut made start s a b c stop turned later =
+    stopped_later (Moves rules cut) start s a b c stop (record { moves = turns made; out = turned.out; chain = turned.chain; added = turned.added }) later
 
-pub made_further : {C B S : Type 0} (rules : Rules C B) (paints : S → Pixels) (made : ℕ) (start : Seen S) (waiting : List Waiting) (old : House S) (worked : Bool) (rest : List Waiting) (new : House S) (a b c : Option (List ℕ))
-    → worked ≡ true → MadeTurns rules paints made start (record { waiting = waiting; house = old }) a b → TurnWritten rules paints waiting old worked rest new b c
-    → MadeTurns rules paints (made + 1) start (record { waiting = rest; house = new }) a c
-made_further {C} {B} {S} rules paints made start waiting old worked rest new a b c works first written =
+pub made_further : {C B S : Type 0} (rules : Rules C B) (cut : C → Place → S) (made : ℕ) (start : Seen S) (waiting : List Waiting) (old : House S) (worked : Bool) (rest : List Waiting) (new : House S) (a b c : Option (List ℕ))
+    → worked ≡ true → MadeTurns rules cut made start (record { waiting = waiting; house = old }) a b → TurnWritten rules cut waiting old worked rest new b c
+    → MadeTurns rules cut (made + 1) start (record { waiting = rest; house = new }) a c
+made_further {C} {B} {S} rules cut made start waiting old worked rest new a b c works first written =
     let one : suc made ≡ made + 1 = omega arith in
-    subst (λ (n : ℕ). MadeTurns rules paints n start (record { waiting = rest; house = new }) a c) one (made_more rules paints made start waiting old worked rest new a b c works first written)
+    subst (λ (n : ℕ). MadeTurns rules cut n start (record { waiting = rest; house = new }) a c) one (made_more rules cut made start waiting old worked rest new a b c works first written)
 
 -- one turn more of acknowledgements
-pub acks_more : {C B S : Type 0} (rules : Rules C B) (paints : S → Pixels) (keeps : Keeps rules paints) (all waiting : List Waiting) (start : ℕ) (old : House S) (worked : Bool) (rest : List Waiting) (new : House S) (b c : Option (List ℕ))
-    → IsHoused rules old → (AllAcknowledge all → AllAcknowledge waiting × (left_of rules old.document ≤ start)) → TurnWritten rules paints waiting old worked rest new b c
+pub acks_more : {C B S : Type 0} (rules : Rules C B) (cut : C → Place → S) (keeps : Keeps rules cut) (all waiting : List Waiting) (start : ℕ) (old : House S) (worked : Bool) (rest : List Waiting) (new : House S) (b c : Option (List ℕ))
+    → IsHoused rules old → (AllAcknowledge all → AllAcknowledge waiting × (left_of rules old.document ≤ start)) → TurnWritten rules cut waiting old worked rest new b c
     → AllAcknowledge all → AllAcknowledge rest × (left_of rules new.document ≤ start)
-acks_more rules paints keeps all waiting start old worked rest new b c housed so_far written acks =
+acks_more rules cut keeps all waiting start old worked rest new b c housed so_far written acks =
     let was = so_far acks in
-    let now = acks_left rules paints keeps waiting old worked rest new b c housed was.0 written in
+    let now = acks_left rules cut keeps waiting old worked rest new b c housed was.0 written in
     (now.0, omega (arith, was.1, now.1))
 
 -- some moves, as what was begun
-pub begun_of : {C B S : Type 0} (rules : Rules C B) (paints : S → Pixels) (s : Seen S) (a b : Option (List ℕ)) (stop : Stop)
-    → Stopped stop (MadeFrom (Moves rules paints) s) a b → Stopped stop (Begun rules paints s) a b
-begun_of rules paints s a b stop x = record {
+pub begun_of : {C B S : Type 0} (rules : Rules C B) (cut : C → Place → S) (s : Seen S) (a b : Option (List ℕ)) (stop : Stop)
+    → Stopped stop (MadeFrom (Moves rules cut) s) a b → Stopped stop (Begun rules cut s) a b
+begun_of rules cut s a b stop x = record {
   made = x.made;
   part = x.part;
   is_made = record { moves = x.is_made.0; mid = x.is_made.1; follows = x.is_made.2 };

@@ -18,7 +18,7 @@ use Rattle.document_machine.specs.declared.outs.Turned.TheVariants.{Worked}
 use Rattle.document_machine.specs.declared.rights.Rights.{Rights}
 use Rattle.kit_trait.specs.Rules.{Rules}
 use Rattle.kit_trait.specs.declared.jobs.PaintJob.{PaintJob}
-use Rattle.kit_trait.specs.declared.values.Pixels.{Pixels}
+use Rattle.tile_key.specs.Places.{Place}
 use Rattle.script_world.specs.Seats.{Seats, is_waiting, view_of, enters, sits, without, link_of, tells, records, lobby_frame, bad_file, views_full}
 use Rattle.script_world.specs.declared.event.Waiting.{Waiting}
 use Rattle.script_world.specs.declared.event.Waiting.TheVariants.{Opened, Loads, Says, Gone}
@@ -40,32 +40,32 @@ rights false = record { can_write = false; token = codes "t-ro" }
 
 -- A load of a document that is there: the link is a new view of it, or, where it has 64 views, is refused and stays
 -- in the lobby.
-abbrev pub JoinsWhere : {C B S : Type 0} → Bool → Rules C B → (S → Pixels) → Seats → ℕ → Rights → Document S → List ℕ → House S → Type 0
-JoinsWhere {C} {B} {S} true rules paints seats link given old out new = (d : Document S) × (outs : Outs S)
-    × Step rules paints old (Joined given) outs d
+abbrev pub JoinsWhere : {C B S : Type 0} → Bool → Rules C B → (C → Place → S) → Seats → ℕ → Rights → Document S → List ℕ → House S → Type 0
+JoinsWhere {C} {B} {S} true rules cut seats link given old out new = (d : Document S) × (outs : Outs S)
+    × Step rules cut old (Joined given) outs d
     × (new ≡ record { seats = sits seats link old.next_view; document = Some d })
     × (out ≡ records (sits seats link old.next_view) outs.frames)
-JoinsWhere false rules paints seats link given old out new =
+JoinsWhere false rules cut seats link given old out new =
     (out ≡ tells link views_full) × (new ≡ record { seats = seats; document = Some old })
 
-abbrev pub JoinsOne : {C B S : Type 0} → Rules C B → (S → Pixels) → Seats → ℕ → Rights → Document S → List ℕ → House S → Type 0
-JoinsOne rules paints seats link given old out new =
-    JoinsWhere (nat_lt (length old.views) 64) rules paints seats link given old out new
+abbrev pub JoinsOne : {C B S : Type 0} → Rules C B → (C → Place → S) → Seats → ℕ → Rights → Document S → List ℕ → House S → Type 0
+JoinsOne rules cut seats link given old out new =
+    JoinsWhere (nat_lt (length old.views) 64) rules cut seats link given old out new
 
 -- The first load begins the document over no bytes, unless the kit refuses no bytes as a file.
-abbrev pub BeginsWhere : {C B S : Type 0} → Bool → Rules C B → (S → Pixels) → Seats → ℕ → List ℕ → Rights → List ℕ → House S → Type 0
-BeginsWhere true rules paints seats link file given out new = JoinsOne rules paints seats link given (opening file []) out new
-BeginsWhere false rules paints seats link file given out new =
+abbrev pub BeginsWhere : {C B S : Type 0} → Bool → Rules C B → (C → Place → S) → Seats → ℕ → List ℕ → Rights → List ℕ → House S → Type 0
+BeginsWhere true rules cut seats link file given out new = JoinsOne rules cut seats link given (opening file []) out new
+BeginsWhere false rules cut seats link file given out new =
     (out ≡ tells link bad_file) × (new ≡ record { seats = seats; document = None })
 
-abbrev pub LoadsOne : {C B S : Type 0} → Rules C B → (S → Pixels) → Seats → Option (Document S) → ℕ → List ℕ → Rights → List ℕ → House S → Type 0
-LoadsOne rules paints seats None link file given out new = BeginsWhere (rules.accepts []) rules paints seats link file given out new
-LoadsOne rules paints seats (Some old) link file given out new = JoinsOne rules paints seats link given old out new
+abbrev pub LoadsOne : {C B S : Type 0} → Rules C B → (C → Place → S) → Seats → Option (Document S) → ℕ → List ℕ → Rights → List ℕ → House S → Type 0
+LoadsOne rules cut seats None link file given out new = BeginsWhere (rules.accepts []) rules cut seats link file given out new
+LoadsOne rules cut seats (Some old) link file given out new = JoinsOne rules cut seats link given old out new
 
 -- only a link of the lobby loads
-abbrev pub LoadsWhere : {C B S : Type 0} → Bool → Rules C B → (S → Pixels) → House S → ℕ → List ℕ → Rights → List ℕ → House S → Type 0
-LoadsWhere true rules paints old link file given out new = LoadsOne rules paints old.seats old.document link file given out new
-LoadsWhere false rules paints old link file given out new = (out ≡ []) × (new ≡ old)
+abbrev pub LoadsWhere : {C B S : Type 0} → Bool → Rules C B → (C → Place → S) → House S → ℕ → List ℕ → Rights → List ℕ → House S → Type 0
+LoadsWhere true rules cut old link file given out new = LoadsOne rules cut old.seats old.document link file given out new
+LoadsWhere false rules cut old link file given out new = (out ≡ []) × (new ≡ old)
 
 -- the view with this id, where the document has it
 abbrev pub seated_at : {S : Type 0} → Option (Document S) → Option ℕ → Option (Document S × ℕ)
@@ -83,31 +83,31 @@ abbrev pub lobby_tells : Bool → ℕ → List ℕ → List ℕ
 lobby_tells true link text = tells link (lobby_frame text)
 lobby_tells false link text = []
 
-abbrev pub SaysAs : {C B S : Type 0} → Rules C B → (S → Pixels) → House S → ℕ → List ℕ → Option (Document S × ℕ) → List ℕ → House S → Type 0
-SaysAs rules paints old link text None out new = (out ≡ lobby_tells (is_waiting old.seats link) link text) × (new ≡ old)
-SaysAs {C} {B} {S} rules paints old link text (Some seat) out new = (d : Document S) × (outs : Outs S)
-    × Step rules paints seat.0 (Said seat.1 text) outs d
+abbrev pub SaysAs : {C B S : Type 0} → Rules C B → (C → Place → S) → House S → ℕ → List ℕ → Option (Document S × ℕ) → List ℕ → House S → Type 0
+SaysAs rules cut old link text None out new = (out ≡ lobby_tells (is_waiting old.seats link) link text) × (new ≡ old)
+SaysAs {C} {B} {S} rules cut old link text (Some seat) out new = (d : Document S) × (outs : Outs S)
+    × Step rules cut seat.0 (Said seat.1 text) outs d
     × (new ≡ record old { document = Some d }) × (out ≡ records old.seats outs.frames)
 
 -- A view that leaves is a step of its document; then the link is no longer held.
-abbrev pub LeavesAs : {C B S : Type 0} → Rules C B → (S → Pixels) → House S → ℕ → Option (Document S × ℕ) → List ℕ → House S → Type 0
-LeavesAs rules paints old link None out new = (out ≡ []) × (new ≡ record old { seats = without old.seats link })
-LeavesAs {C} {B} {S} rules paints old link (Some seat) out new = (d : Document S)
-    × Step rules paints seat.0 (Left seat.1) nothing d
+abbrev pub LeavesAs : {C B S : Type 0} → Rules C B → (C → Place → S) → House S → ℕ → Option (Document S × ℕ) → List ℕ → House S → Type 0
+LeavesAs rules cut old link None out new = (out ≡ []) × (new ≡ record old { seats = without old.seats link })
+LeavesAs {C} {B} {S} rules cut old link (Some seat) out new = (d : Document S)
+    × Step rules cut seat.0 (Left seat.1) nothing d
     × (out ≡ []) × (new ≡ record { seats = without old.seats link; document = Some d })
 
 -- taking one event
-abbrev pub TakesOne : {C B S : Type 0} → Rules C B → (S → Pixels) → Waiting → House S → List ℕ → House S → Type 0
-TakesOne rules paints (Opened link) old out new = (out ≡ []) × (new ≡ record old { seats = enters old.seats link })
-TakesOne rules paints (Loads link file writes) old out new =
-    LoadsWhere (is_waiting old.seats link) rules paints old link file (rights writes) out new
-TakesOne rules paints (Says link text) old out new = SaysAs rules paints old link text (seated old link) out new
-TakesOne rules paints (Gone link) old out new = LeavesAs rules paints old link (seated old link) out new
+abbrev pub TakesOne : {C B S : Type 0} → Rules C B → (C → Place → S) → Waiting → House S → List ℕ → House S → Type 0
+TakesOne rules cut (Opened link) old out new = (out ≡ []) × (new ≡ record old { seats = enters old.seats link })
+TakesOne rules cut (Loads link file writes) old out new =
+    LoadsWhere (is_waiting old.seats link) rules cut old link file (rights writes) out new
+TakesOne rules cut (Says link text) old out new = SaysAs rules cut old link text (seated old link) out new
+TakesOne rules cut (Gone link) old out new = LeavesAs rules cut old link (seated old link) out new
 
 -- taking the first event that waits, if one does
-abbrev pub TakesFirst : {C B S : Type 0} → Rules C B → (S → Pixels) → List Waiting → House S → List ℕ → List Waiting → House S → Type 0
-TakesFirst rules paints [] old out rest new = (rest ≡ []) × (out ≡ []) × (new ≡ old)
-TakesFirst rules paints (event ∷ events) old out rest new = (rest ≡ events) × TakesOne rules paints event old out new
+abbrev pub TakesFirst : {C B S : Type 0} → Rules C B → (C → Place → S) → List Waiting → House S → List ℕ → List Waiting → House S → Type 0
+TakesFirst rules cut [] old out rest new = (rest ≡ []) × (out ≡ []) × (new ≡ old)
+TakesFirst rules cut (event ∷ events) old out rest new = (rest ≡ events) × TakesOne rules cut event old out new
 
 -- these jobs come back painted, in order
 abbrev pub painted_all : {S : Type 0} → List (PaintJob S) → List (Event S)
@@ -115,32 +115,32 @@ painted_all jobs = map (λ job. Painted job.ticket.0 job.scene) jobs
 
 -- A turn that does a work, and directly behind it the answers to the jobs that it cut; these are all the frames.
 -- Behind the last input the work is a job for the pair that is next, in order of views and then of keys.
-pub record WorksAtOnce {C B S : Type 0} (rules : Rules C B) (paints : S → Pixels) (old : Document S) (frames : List (ViewId × Frame)) (new : Document S) : Type 0 where
+pub record WorksAtOnce {C B S : Type 0} (rules : Rules C B) (cut : C → Place → S) (old : Document S) (frames : List (ViewId × Frame)) (new : Document S) : Type 0 where
   pub mid : Document S
   pub first : Outs S
   pub later : Outs S
-  pub works : Works rules paints old first mid
+  pub works : Works rules cut old first mid
   pub in_order : old.applied ≡ length old.journal → IsFirst rules none_kept old (Worked first)
-  pub answered : Segment rules paints mid (painted_all first.jobs) later new
+  pub answered : Segment rules cut mid (painted_all first.jobs) later new
   pub frames_are : frames ≡ first.frames ++ later.frames
 
 -- One turn of the document, its jobs painted and answered at once: what it wrote and that it worked; or it rests, and
 -- so does a house without a document.
-abbrev pub TurnsDocument : {C B S : Type 0} → Rules C B → (S → Pixels) → Seats → Option (Document S) → List ℕ → Bool → Option (Document S) → Type 0
-TurnsDocument rules paints seats None out worked new = (out ≡ []) × (worked ≡ false) × (new ≡ None)
-TurnsDocument {C} {B} {S} rules paints seats (Some old) out true new = (d : Document S) × (frames : List (ViewId × Frame))
-    × WorksAtOnce rules paints old frames d × (out ≡ records seats frames) × (new ≡ Some d)
-TurnsDocument rules paints seats (Some old) out false new = (out ≡ []) × Rests rules old × (new ≡ Some old)
+abbrev pub TurnsDocument : {C B S : Type 0} → Rules C B → (C → Place → S) → Seats → Option (Document S) → List ℕ → Bool → Option (Document S) → Type 0
+TurnsDocument rules cut seats None out worked new = (out ≡ []) × (worked ≡ false) × (new ≡ None)
+TurnsDocument {C} {B} {S} rules cut seats (Some old) out true new = (d : Document S) × (frames : List (ViewId × Frame))
+    × WorksAtOnce rules cut old frames d × (out ≡ records seats frames) × (new ≡ Some d)
+TurnsDocument rules cut seats (Some old) out false new = (out ≡ []) × Rests rules old × (new ≡ Some old)
 
 -- A poll turn takes the first event that waits, if one does, and then the document makes one turn. It worked where it
 -- took an event or where the document's turn worked.
-pub record PollTurn {C B S : Type 0} (rules : Rules C B) (paints : S → Pixels) (waiting : List Waiting) (old : House S) (out : List ℕ) (worked : Bool) (rest : List Waiting) (new : House S) : Type 0 where
+pub record PollTurn {C B S : Type 0} (rules : Rules C B) (cut : C → Place → S) (waiting : List Waiting) (old : House S) (out : List ℕ) (worked : Bool) (rest : List Waiting) (new : House S) : Type 0 where
   pub mid : House S
   pub here : List ℕ
   pub later : List ℕ
   pub turned : Bool
-  pub takes : TakesFirst rules paints waiting old here rest mid
-  pub turns : TurnsDocument rules paints mid.seats mid.document later turned new.document
+  pub takes : TakesFirst rules cut waiting old here rest mid
+  pub turns : TurnsDocument rules cut mid.seats mid.document later turned new.document
   pub stays : new.seats ≡ mid.seats
   pub worked_is : worked ≡ (nat_lt 0 (length waiting) || turned)
   pub is : out ≡ here ++ later

@@ -6,7 +6,7 @@ use Rattle.cool_message.specs.declared.message.ClientMessage.TheVariants.{TilePr
 use Rattle.document_machine.specs.Rank.{left_to_do}
 use Rattle.document_machine.specs.State.{Document}
 use Rattle.kit_trait.specs.Rules.{Rules}
-use Rattle.kit_trait.specs.declared.values.Pixels.{Pixels}
+use Rattle.tile_key.specs.Places.{Place}
 use Rattle.outside.specs.Streams.{Adds}
 use Rattle.script_world.specs.House.{House, PollTurn, window_in}
 use Rattle.script_world.specs.World.{Seen, Chain, Moves, turns, Turned}
@@ -25,9 +25,9 @@ abbrev pub MadeFrom : {M X : Type 0} → (M → X → List ℕ → X → Type 0)
 MadeFrom {M} {X} step s out = (moves : List M) × (t : X) × Chain step moves s out t
 
 -- a poll turn is done and written
-pub record TurnWritten {C B S : Type 0} (rules : Rules C B) (paints : S → Pixels) (waiting : List Waiting) (old : House S) (worked : Bool) (rest : List Waiting) (new : House S) (before now : Option (List ℕ)) : Type 0 where
+pub record TurnWritten {C B S : Type 0} (rules : Rules C B) (cut : C → Place → S) (waiting : List Waiting) (old : House S) (worked : Bool) (rest : List Waiting) (new : House S) (before now : Option (List ℕ)) : Type 0 where
   pub out : List ℕ
-  pub done : PollTurn rules paints waiting old out worked rest new
+  pub done : PollTurn rules cut waiting old out worked rest new
   pub added : Adds before out now
 
 -- the event is a text that acknowledges tiles
@@ -47,15 +47,15 @@ abbrev pub AllAcknowledge : List Waiting → Type 0
 AllAcknowledge events = AllByRecursion IsAcknowledgement events
 
 -- so many poll turns that work, and all that they wrote is in the sink
-pub record MadeTurns {C B S : Type 0} (rules : Rules C B) (paints : S → Pixels) (made : ℕ) (s t : Seen S) (old new : Option (List ℕ)) : Type 0 where
+pub record MadeTurns {C B S : Type 0} (rules : Rules C B) (cut : C → Place → S) (made : ℕ) (s t : Seen S) (old new : Option (List ℕ)) : Type 0 where
   pub out : List ℕ
-  pub chain : Chain (Moves rules paints) (turns made) s out t
+  pub chain : Chain (Moves rules cut) (turns made) s out t
   pub added : Adds old out new
 
 -- so many poll turns, or fewer up to one that would do nothing, are done and written
-pub record TurnedTo {C B S : Type 0} (rules : Rules C B) (paints : S → Pixels) (count : ℕ) (s t : Seen S) (old new : Option (List ℕ)) : Type 0 where
+pub record TurnedTo {C B S : Type 0} (rules : Rules C B) (cut : C → Place → S) (count : ℕ) (s t : Seen S) (old new : Option (List ℕ)) : Type 0 where
   pub out : List ℕ
-  pub done : Turned rules paints count s out t
+  pub done : Turned rules cut count s out t
   pub added : Adds old out new
 
 -- the windows of these seats hold numbers below 2^64

@@ -6,17 +6,17 @@ use Rattle.document_machine.specs.State.{Document}
 use Rattle.document_machine.specs.Step.{Step}
 use Rattle.document_machine.specs.declared.rights.Rights.{Rights}
 use Rattle.kit_trait.specs.Rules.{Rules}
-use Rattle.kit_trait.specs.declared.values.Pixels.{Pixels}
+use Rattle.tile_key.specs.Places.{Place}
 use Rattle.script_world.specs.House.{House, JoinsOne}
 use Rattle.script_world.specs.Seats.{Seats}
 
 -- a load of a document that is there; a spent broker takes none
-abbrev pub JoinsBy : {C B S : Type 0} → Rules C B → (S → Pixels) → Seats → ℕ → Rights → Option (Document S) → List ℕ → House S → Type 0
-JoinsBy rules paints seats link given None out new = ⊥
-JoinsBy rules paints seats link given (Some old) out new = JoinsOne rules paints seats link given old out new
+abbrev pub JoinsBy : {C B S : Type 0} → Rules C B → (C → Place → S) → Seats → ℕ → Rights → Option (Document S) → List ℕ → House S → Type 0
+JoinsBy rules cut seats link given None out new = ⊥
+JoinsBy rules cut seats link given (Some old) out new = JoinsOne rules cut seats link given old out new
 
 -- the document behind the leaving of a view, if the link is one
-abbrev pub LeavesDocument : {C B S : Type 0} → Rules C B → (S → Pixels) → Option (Document S) → Option (Document S × ℕ) → Option (Document S) → Type 0
-LeavesDocument rules paints old None new = new ≡ old
-LeavesDocument {C} {B} {S} rules paints old (Some seat) new = (d : Document S)
-    × Step rules paints seat.0 (Left seat.1) nothing d × (new ≡ Some d)
+abbrev pub LeavesDocument : {C B S : Type 0} → Rules C B → (C → Place → S) → Option (Document S) → Option (Document S × ℕ) → Option (Document S) → Type 0
+LeavesDocument rules cut old None new = new ≡ old
+LeavesDocument {C} {B} {S} rules cut old (Some seat) new = (d : Document S)
+    × Step rules cut seat.0 (Left seat.1) nothing d × (new ≡ Some d)

@@ -5,7 +5,7 @@ use Rattle.document_machine.specs.Quiet.{IsQuiet, AllRight}
 use Rattle.document_machine.specs.State.{Document}
 use Rattle.document_machine.specs.Step.{Rests}
 use Rattle.kit_trait.specs.Rules.{Rules}
-use Rattle.kit_trait.specs.declared.values.Pixels.{Pixels}
+use Rattle.tile_key.specs.Places.{Place}
 use Rattle.script_world.specs.House.{House, PollTurn, acknowledgements}
 use Rattle.script_world.specs.Seats.{nobody}
 use Rattle.script_world.specs.declared.event.Waiting.{Waiting}
@@ -47,9 +47,9 @@ pub data Move : Type 0 where
   Turn : Move
   Acknowledge : Move
 
-abbrev pub Moves : {C B S : Type 0} → Rules C B → (S → Pixels) → Move → Seen S → List ℕ → Seen S → Type 0
-Moves rules paints Turn s out t = PollTurn rules paints s.waiting s.house out true t.waiting t.house
-Moves rules paints Acknowledge s out t =
+abbrev pub Moves : {C B S : Type 0} → Rules C B → (C → Place → S) → Move → Seen S → List ℕ → Seen S → Type 0
+Moves rules cut Turn s out t = PollTurn rules cut s.waiting s.house out true t.waiting t.house
+Moves rules cut Acknowledge s out t =
     IsIdle rules s × (0 < length (acknowledgements s.house)) × (out ≡ []) × (t ≡ record s { waiting = acknowledgements s.house })
 
 -- moves one after the other, and what they wrote
@@ -64,9 +64,9 @@ turns zero = []
 turns (suc n) = Turn ∷ turns n
 
 -- So many poll turns are made, or fewer up to one that would do nothing.
-pub record Turned {C B S : Type 0} (rules : Rules C B) (paints : S → Pixels) (count : ℕ) (s : Seen S) (out : List ℕ) (t : Seen S) : Type 0 where
+pub record Turned {C B S : Type 0} (rules : Rules C B) (cut : C → Place → S) (count : ℕ) (s : Seen S) (out : List ℕ) (t : Seen S) : Type 0 where
   pub made : ℕ
-  pub follows : Chain (Moves rules paints) (turns made) s out t
+  pub follows : Chain (Moves rules cut) (turns made) s out t
   pub all : (made ≡ count) ⊎ ((made < count) × IsIdle rules t)
 
 -- the document, if there is one, is quiet, and all that its views see or asked for is right
@@ -75,14 +75,14 @@ IsAtRest rules None = Unit {0}
 IsAtRest rules (Some d) = IsQuiet rules d × AllRight rules d
 
 -- All that waits is done: moves up to where nothing waits and the document, if any, is quiet and right.
-pub record Settled {C B S : Type 0} (rules : Rules C B) (paints : S → Pixels) (s : Seen S) (out : List ℕ) (t : Seen S) : Type 0 where
+pub record Settled {C B S : Type 0} (rules : Rules C B) (cut : C → Place → S) (s : Seen S) (out : List ℕ) (t : Seen S) : Type 0 where
   pub moves : List Move
-  pub follows : Chain (Moves rules paints) moves s out t
+  pub follows : Chain (Moves rules cut) moves s out t
   pub none_waits : t.waiting ≡ []
   pub rests : IsAtRest rules t.house.document
 
 -- Some of it is done: moves from this state on write these bytes.
-pub record Begun {C B S : Type 0} (rules : Rules C B) (paints : S → Pixels) (s : Seen S) (out : List ℕ) : Type 0 where
+pub record Begun {C B S : Type 0} (rules : Rules C B) (cut : C → Place → S) (s : Seen S) (out : List ℕ) : Type 0 where
   pub moves : List Move
   pub mid : Seen S
-  pub follows : Chain (Moves rules paints) moves s out mid
+  pub follows : Chain (Moves rules cut) moves s out mid

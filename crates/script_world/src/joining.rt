@@ -39,10 +39,10 @@ fn joins<K: Kit>(
     writes: bool,
 ) -> Result<Step<K>, Memory>
     requires { ForSome broker (λ d. d.jobs ≡ []) }
-    ensures { IfOk result (λ step. JoinsBy K.rules K.Scene.paints seats.old link (rights writes) broker step.bytes.items (record { seats = seats.new; document = held step.broker })) }
+    ensures { IfOk result (λ step. JoinsBy K.rules K.cut seats.old link (rights writes) broker step.bytes.items (record { seats = seats.new; document = held step.broker })) }
 {
     let given = rights(alloc, writes)?;
-    match broker.join(alloc, given) {
+    match broker.join(given) {
         Ok((view, outs)) => {
             seats.sit(link, view.0)?;
             let bytes = records(alloc, seats, outs.frames.get())?;
@@ -70,7 +70,7 @@ fn begins<K: Kit>(
     file: &FileId,
     writes: bool,
 ) -> Result<Step<K>, Memory>
-    ensures { IfOk result (λ step. BeginsWhere (K.rules.accepts []) K.rules K.Scene.paints seats.old link file.now (rights writes) step.bytes.items (record { seats = seats.new; document = held step.broker })) }
+    ensures { IfOk result (λ step. BeginsWhere (K.rules.accepts []) K.rules K.cut seats.old link file.now (rights writes) step.bytes.items (record { seats = seats.new; document = held step.broker })) }
 {
     match Broker::start(alloc, file, Bytes::new()) {
         Ok(broker) => joins(alloc, broker, seats, link, writes),
@@ -95,7 +95,7 @@ fn loads_one<K: Kit>(
     writes: bool,
 ) -> Result<Step<K>, Memory>
     requires { ForSome (held broker) (λ d. d.jobs ≡ []) }
-    ensures { IfOk result (λ step. LoadsOne K.rules K.Scene.paints seats.old (held broker) link file.now (rights writes) step.bytes.items (record { seats = seats.new; document = held step.broker })) }
+    ensures { IfOk result (λ step. LoadsOne K.rules K.cut seats.old (held broker) link file.now (rights writes) step.bytes.items (record { seats = seats.new; document = held step.broker })) }
 {
     match broker {
         Some(broker) => joins(alloc, broker, seats, link, writes),
@@ -113,7 +113,7 @@ pub(crate) fn loads<K: Kit>(
     writes: bool,
 ) -> Result<Step<K>, Memory>
     requires { ForSome (held broker) (λ d. d.jobs ≡ []) }
-    ensures { IfOk result (λ step. LoadsWhere (is_waiting seats.old link) K.rules K.Scene.paints (record { seats = seats.old; document = held broker }) link file.now (rights writes) step.bytes.items (record { seats = seats.new; document = held step.broker })) }
+    ensures { IfOk result (λ step. LoadsWhere (is_waiting seats.old link) K.rules K.cut (record { seats = seats.old; document = held broker }) link file.now (rights writes) step.bytes.items (record { seats = seats.new; document = held step.broker })) }
 {
     if !seats.is_waiting(link) {
         return Ok(Step {

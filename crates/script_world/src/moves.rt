@@ -27,7 +27,7 @@ fn event_turn<K: Kit>(
     event: Waiting,
 ) -> Result<Turn<K>, Memory>
     requires { IsHoused K.rules (record { seats = seats.old; document = held broker }) }
-    ensures { IfOk result (λ turn. (rest : List Waiting) → PollTurn K.rules K.Scene.paints (event ∷ rest) (record { seats = seats.old; document = held broker }) turn.bytes.items turn.worked rest (record { seats = seats.new; document = held turn.broker })) }
+    ensures { IfOk result (λ turn. (rest : List Waiting) → PollTurn K.rules K.cut (event ∷ rest) (record { seats = seats.old; document = held broker }) turn.bytes.items turn.worked rest (record { seats = seats.new; document = held turn.broker })) }
 {
     steps_keep::<K>();
     let taken = takes(alloc, broker, seats, event)?;
@@ -54,7 +54,7 @@ fn poll_turn<K: Kit>(
     waiting: &mut VecDeque<Waiting>,
 ) -> Result<Turn<K>, Memory>
     requires { IsHoused K.rules (record { seats = seats.old; document = held broker }) }
-    ensures { IfOk result (λ turn. PollTurn K.rules K.Scene.paints waiting.old.items (record { seats = seats.old; document = held broker }) turn.bytes.items turn.worked waiting.new.items (record { seats = seats.new; document = held turn.broker })) }
+    ensures { IfOk result (λ turn. PollTurn K.rules K.cut waiting.old.items (record { seats = seats.old; document = held broker }) turn.bytes.items turn.worked waiting.new.items (record { seats = seats.new; document = held turn.broker })) }
 {
     match waiting.pop_front() {
         Some(event) => event_turn(alloc, broker, seats, event),
@@ -71,9 +71,9 @@ pub(crate) fn one_turn<K: Kit, T: Sink>(
     sink: &mut T,
 ) -> Result<(Option<Broker<K>>, bool), Stop>
     requires { IsHoused K.rules (record { seats = seats.old; document = held broker }) }
-    ensures ok { IfOk result (λ new. TurnWritten K.rules K.Scene.paints waiting.old.items (record { seats = seats.old; document = held broker }) new.1 waiting.new.items (record { seats = seats.new; document = held new.0 }) (T.written sink.old) (T.written sink.new)) }
+    ensures ok { IfOk result (λ new. TurnWritten K.rules K.cut waiting.old.items (record { seats = seats.old; document = held broker }) new.1 waiting.new.items (record { seats = seats.new; document = held new.0 }) (T.written sink.old) (T.written sink.new)) }
     ensures housed { IfOk result (λ new. IsHoused K.rules (record { seats = seats.new; document = held new.0 })) }
-    ensures stop { IfErr result (λ stop. Stopped stop (MadeFrom (Moves K.rules K.Scene.paints) (record { waiting = waiting.old.items; house = record { seats = seats.old; document = held broker } })) (T.written sink.old) (T.written sink.new)) }
+    ensures stop { IfErr result (λ stop. Stopped stop (MadeFrom (Moves K.rules K.cut) (record { waiting = waiting.old.items; house = record { seats = seats.old; document = held broker } })) (T.written sink.old) (T.written sink.new)) }
     ensures cause { HasCause (T.faults sink.old) (T.faults sink.new) (result ≡ Err Stop.Sink) }
 {
     steps_keep::<K>();
@@ -96,11 +96,11 @@ pub(crate) fn all_events<K: Kit, T: Sink>(
     sink: &mut T,
 ) -> Result<Option<Broker<K>>, Stop>
     requires { IsHoused K.rules (record { seats = seats.old; document = held broker }) }
-    ensures ok { IfOk result (λ new. Came (Moves K.rules K.Scene.paints) (record { waiting = waiting.old.items; house = record { seats = seats.old; document = held broker } }) (record { waiting = []; house = record { seats = seats.new; document = held new } }) (T.written sink.old) (T.written sink.new)) }
+    ensures ok { IfOk result (λ new. Came (Moves K.rules K.cut) (record { waiting = waiting.old.items; house = record { seats = seats.old; document = held broker } }) (record { waiting = []; house = record { seats = seats.new; document = held new } }) (T.written sink.old) (T.written sink.new)) }
     ensures none { IfOk result (λ _. waiting.new.items ≡ []) }
     ensures less { IfOk result (λ new. AllAcknowledge waiting.old.items → left_of K.rules (held new) ≤ left_of K.rules (held broker)) }
     ensures housed { IfOk result (λ new. IsHoused K.rules (record { seats = seats.new; document = held new })) }
-    ensures stop { IfErr result (λ stop. Stopped stop (MadeFrom (Moves K.rules K.Scene.paints) (record { waiting = waiting.old.items; house = record { seats = seats.old; document = held broker } })) (T.written sink.old) (T.written sink.new)) }
+    ensures stop { IfErr result (λ stop. Stopped stop (MadeFrom (Moves K.rules K.cut) (record { waiting = waiting.old.items; house = record { seats = seats.old; document = held broker } })) (T.written sink.old) (T.written sink.new)) }
     ensures cause { HasCause (T.faults sink.old) (T.faults sink.new) (result ≡ Err Stop.Sink) }
 {
     steps_keep::<K>();
@@ -122,12 +122,12 @@ pub(crate) fn works<K: Kit, T: Sink>(
 ) -> Result<Option<Broker<K>>, Stop>
     requires housed { IsHoused K.rules (record { seats = seats.old; document = held broker }) }
     requires none { waiting.old.items ≡ [] }
-    ensures ok { IfOk result (λ new. Came (Moves K.rules K.Scene.paints) (record { waiting = []; house = record { seats = seats.old; document = held broker } }) (record { waiting = []; house = record { seats = seats.new; document = held new } }) (T.written sink.old) (T.written sink.new)) }
+    ensures ok { IfOk result (λ new. Came (Moves K.rules K.cut) (record { waiting = []; house = record { seats = seats.old; document = held broker } }) (record { waiting = []; house = record { seats = seats.new; document = held new } }) (T.written sink.old) (T.written sink.new)) }
     ensures none_still { IfOk result (λ _. waiting.new.items ≡ []) }
     ensures housed_still { IfOk result (λ new. IsHoused K.rules (record { seats = seats.new; document = held new })) }
     ensures rests { IfOk result (λ new. RestsNow K.rules (held new)) }
     ensures less { IfOk result (λ new. left_of K.rules (held new) ≤ left_of K.rules (held broker)) }
-    ensures stop { IfErr result (λ stop. Stopped stop (MadeFrom (Moves K.rules K.Scene.paints) (record { waiting = []; house = record { seats = seats.old; document = held broker } })) (T.written sink.old) (T.written sink.new)) }
+    ensures stop { IfErr result (λ stop. Stopped stop (MadeFrom (Moves K.rules K.cut) (record { waiting = []; house = record { seats = seats.old; document = held broker } })) (T.written sink.old) (T.written sink.new)) }
     ensures cause { HasCause (T.faults sink.old) (T.faults sink.new) (result ≡ Err Stop.Sink) }
 {
     let mut broker = broker;
@@ -150,9 +150,9 @@ pub(crate) fn turns_up_to<K: Kit, T: Sink>(
     count: u32,
 ) -> Result<Option<Broker<K>>, Stop>
     requires { IsHoused K.rules (record { seats = seats.old; document = held broker }) }
-    ensures ok { IfOk result (λ new. TurnedTo K.rules K.Scene.paints count (record { waiting = waiting.old.items; house = record { seats = seats.old; document = held broker } }) (record { waiting = waiting.new.items; house = record { seats = seats.new; document = held new } }) (T.written sink.old) (T.written sink.new)) }
+    ensures ok { IfOk result (λ new. TurnedTo K.rules K.cut count (record { waiting = waiting.old.items; house = record { seats = seats.old; document = held broker } }) (record { waiting = waiting.new.items; house = record { seats = seats.new; document = held new } }) (T.written sink.old) (T.written sink.new)) }
     ensures housed { IfOk result (λ new. IsHoused K.rules (record { seats = seats.new; document = held new })) }
-    ensures stop { IfErr result (λ stop. Stopped stop (MadeFrom (Moves K.rules K.Scene.paints) (record { waiting = waiting.old.items; house = record { seats = seats.old; document = held broker } })) (T.written sink.old) (T.written sink.new)) }
+    ensures stop { IfErr result (λ stop. Stopped stop (MadeFrom (Moves K.rules K.cut) (record { waiting = waiting.old.items; house = record { seats = seats.old; document = held broker } })) (T.written sink.old) (T.written sink.new)) }
     ensures cause { HasCause (T.faults sink.old) (T.faults sink.new) (result ≡ Err Stop.Sink) }
 {
     let mut broker = broker;

@@ -33,11 +33,11 @@ fn acknowledged<K: Kit, T: Sink>(
     requires some { 0 < length waiting.old.items }
     requires small { AreSmall (held broker) seats.old.views }
     requires sorted { IsStrictlySortedBy nat_cmp (map (λ seat. seat.0) seats.old.views) }
-    ensures ok { IfOk result (λ new. Came (Moves K.rules K.Scene.paints) (record { waiting = waiting.old.items; house = record { seats = seats.old; document = held broker } }) (record { waiting = []; house = record { seats = seats.new; document = held new } }) (T.written sink.old) (T.written sink.new)) }
+    ensures ok { IfOk result (λ new. Came (Moves K.rules K.cut) (record { waiting = waiting.old.items; house = record { seats = seats.old; document = held broker } }) (record { waiting = []; house = record { seats = seats.new; document = held new } }) (T.written sink.old) (T.written sink.new)) }
     ensures none { IfOk result (λ _. waiting.new.items ≡ []) }
     ensures housed_still { IfOk result (λ new. IsHoused K.rules (record { seats = seats.new; document = held new })) }
     ensures less { IfOk result (λ new. left_of K.rules (held new) < left_of K.rules (held broker)) }
-    ensures stop { IfErr result (λ stop. Stopped stop (MadeFrom (Moves K.rules K.Scene.paints) (record { waiting = waiting.old.items; house = record { seats = seats.old; document = held broker } })) (T.written sink.old) (T.written sink.new)) }
+    ensures stop { IfErr result (λ stop. Stopped stop (MadeFrom (Moves K.rules K.cut) (record { waiting = waiting.old.items; house = record { seats = seats.old; document = held broker } })) (T.written sink.old) (T.written sink.new)) }
     ensures cause { HasCause (T.faults sink.old) (T.faults sink.new) (result ≡ Err Stop.Sink) }
 {
     steps_keep::<K>();
@@ -56,11 +56,11 @@ pub(crate) fn comes_to_rest<K: Kit, T: Sink>(
 ) -> Result<Option<Broker<K>>, Stop>
     requires housed { IsHoused K.rules (record { seats = seats.old; document = held broker }) }
     requires none { waiting.old.items ≡ [] }
-    ensures ok { IfOk result (λ new. Came (Moves K.rules K.Scene.paints) (record { waiting = []; house = record { seats = seats.old; document = held broker } }) (record { waiting = []; house = record { seats = seats.new; document = held new } }) (T.written sink.old) (T.written sink.new)) }
+    ensures ok { IfOk result (λ new. Came (Moves K.rules K.cut) (record { waiting = []; house = record { seats = seats.old; document = held broker } }) (record { waiting = []; house = record { seats = seats.new; document = held new } }) (T.written sink.old) (T.written sink.new)) }
     ensures none_still { IfOk result (λ _. waiting.new.items ≡ []) }
     ensures housed_still { IfOk result (λ new. IsHoused K.rules (record { seats = seats.new; document = held new })) }
     ensures rests { IfOk result (λ new. IsAtRest K.rules (held new)) }
-    ensures stop { IfErr result (λ stop. Stopped stop (MadeFrom (Moves K.rules K.Scene.paints) (record { waiting = []; house = record { seats = seats.old; document = held broker } })) (T.written sink.old) (T.written sink.new)) }
+    ensures stop { IfErr result (λ stop. Stopped stop (MadeFrom (Moves K.rules K.cut) (record { waiting = []; house = record { seats = seats.old; document = held broker } })) (T.written sink.old) (T.written sink.new)) }
     ensures cause { HasCause (T.faults sink.old) (T.faults sink.new) (result ≡ Err Stop.Sink) }
 {
     quiet_is_right::<K>();

@@ -42,7 +42,7 @@ fn says_to<K: Kit>(
     text: &[u8],
 ) -> Result<Step<K>, Memory>
     requires { ForSome broker (λ d. d.jobs ≡ []) }
-    ensures { IfOk result (λ step. SaysAs K.rules K.Scene.paints (record { seats = seats.now; document = broker }) link text.now (seated_at broker (view_of seats.now link)) step.bytes.items (record { seats = seats.now; document = held step.broker })) }
+    ensures { IfOk result (λ step. SaysAs K.rules K.cut (record { seats = seats.now; document = broker }) link text.now (seated_at broker (view_of seats.now link)) step.bytes.items (record { seats = seats.now; document = held step.broker })) }
 {
     let Some(view) = live_view(&broker, seats, link) else {
         let bytes = lobby_record(alloc, seats, link, text)?;
@@ -51,7 +51,7 @@ fn says_to<K: Kit>(
             bytes,
         });
     };
-    let outs = broker.message(alloc, ViewId(view), text)?;
+    let outs = broker.message(ViewId(view), text)?;
     let bytes = records(alloc, seats, outs.frames.get())?;
     Ok(Step {
         broker: Some(broker),
@@ -68,7 +68,7 @@ fn says<K: Kit>(
     text: &[u8],
 ) -> Result<Step<K>, Memory>
     requires { ForSome (held broker) (λ d. d.jobs ≡ []) }
-    ensures { IfOk result (λ step. SaysAs K.rules K.Scene.paints (record { seats = seats.now; document = held broker }) link text.now (seated_at (held broker) (view_of seats.now link)) step.bytes.items (record { seats = seats.now; document = held step.broker })) }
+    ensures { IfOk result (λ step. SaysAs K.rules K.cut (record { seats = seats.now; document = held broker }) link text.now (seated_at (held broker) (view_of seats.now link)) step.bytes.items (record { seats = seats.now; document = held step.broker })) }
 {
     match broker {
         Some(broker) => says_to(alloc, broker, seats, link, text),
@@ -85,7 +85,7 @@ fn says<K: Kit>(
 /// The link's view leaves the document, if it is one of its views.
 fn leaves_it<K: Kit>(mut broker: Broker<K>, seats: &Seats, link: u32) -> Broker<K>
     requires { ForSome broker (λ d. d.jobs ≡ []) }
-    ensures { LeavesDocument K.rules K.Scene.paints broker (seated_at broker (view_of seats.now link)) result }
+    ensures { LeavesDocument K.rules K.cut broker (seated_at broker (view_of seats.now link)) result }
 {
     if let Some(view) = live_view(&broker, seats, link) {
         broker.leave(ViewId(view));
@@ -96,7 +96,7 @@ fn leaves_it<K: Kit>(mut broker: Broker<K>, seats: &Seats, link: u32) -> Broker<
 /// A link is gone.
 fn leaves<K: Kit>(alloc: Global, broker: Option<Broker<K>>, seats: &mut Seats, link: u32) -> Step<K>
     requires { ForSome (held broker) (λ d. d.jobs ≡ []) }
-    ensures { LeavesAs K.rules K.Scene.paints (record { seats = seats.old; document = held broker }) link (seated_at (held broker) (view_of seats.old link)) result.bytes.items (record { seats = seats.new; document = held result.broker }) }
+    ensures { LeavesAs K.rules K.cut (record { seats = seats.old; document = held broker }) link (seated_at (held broker) (view_of seats.old link)) result.bytes.items (record { seats = seats.new; document = held result.broker }) }
 {
     let broker = match broker {
         Some(broker) => Some(leaves_it(broker, seats, link)),
@@ -117,7 +117,7 @@ pub(crate) fn takes<K: Kit>(
     event: Waiting,
 ) -> Result<Step<K>, Memory>
     requires { ForSome (held broker) (λ d. d.jobs ≡ []) }
-    ensures { IfOk result (λ step. TakesOne K.rules K.Scene.paints event (record { seats = seats.old; document = held broker }) step.bytes.items (record { seats = seats.new; document = held step.broker })) }
+    ensures { IfOk result (λ step. TakesOne K.rules K.cut event (record { seats = seats.old; document = held broker }) step.bytes.items (record { seats = seats.new; document = held step.broker })) }
 {
     match event {
         Waiting::Opened(link) => {

@@ -27,12 +27,12 @@ fn answers_all<K: Kit>(
     jobs: Vec<PaintJob<K::Scene>>,
 ) -> Result<Vec<u8>, Memory>
     requires { IsSome broker.old }
-    ensures { IfOk result (λ bytes. AnswersAll K.rules K.Scene.paints seats.now broker.old jobs.items bytes.items broker.new) }
+    ensures { IfOk result (λ bytes. AnswersAll K.rules K.cut seats.now broker.old jobs.items bytes.items broker.new) }
 {
     let mut bytes = Vec::new(alloc);
     for job in jobs {
         let done = paint(alloc, job)?;
-        let outs = broker.painted(alloc, &done)?;
+        let outs = broker.painted(&done)?;
         let more = records(alloc, seats, outs.frames.get())?;
         bytes.extend_from_slice(&more)?;
     }
@@ -42,9 +42,9 @@ fn answers_all<K: Kit>(
 /// One turn of a document.
 fn turns_one<K: Kit>(alloc: Global, mut broker: Broker<K>, seats: &Seats) -> Result<Turn<K>, Memory>
     requires { ForSome broker (λ d. d.jobs ≡ []) }
-    ensures { IfOk result (λ turn. TurnsDocument K.rules K.Scene.paints seats.now broker turn.bytes.items turn.worked (held turn.broker)) }
+    ensures { IfOk result (λ turn. TurnsDocument K.rules K.cut seats.now broker turn.bytes.items turn.worked (held turn.broker)) }
 {
-    match broker.turn(alloc)? {
+    match broker.turn()? {
         Turned::Worked(outs) => {
             let mut bytes = records(alloc, seats, outs.frames.get())?;
             let later = answers_all(alloc, &mut broker, seats, outs.jobs.into_inner())?;
@@ -70,7 +70,7 @@ pub(crate) fn turns<K: Kit>(
     seats: &Seats,
 ) -> Result<Turn<K>, Memory>
     requires { ForSome (held broker) (λ d. d.jobs ≡ []) }
-    ensures { IfOk result (λ turn. TurnsDocument K.rules K.Scene.paints seats.now (held broker) turn.bytes.items turn.worked (held turn.broker)) }
+    ensures { IfOk result (λ turn. TurnsDocument K.rules K.cut seats.now (held broker) turn.bytes.items turn.worked (held turn.broker)) }
 {
     match broker {
         Some(broker) => turns_one(alloc, broker, seats),

@@ -102,8 +102,8 @@ impl<K: Kit> World<K> {
     /// frames. Where it is stopped, whole turns were written and a front of one more; what stands in the
     /// world after that is open.
     pub fn turn<T: Sink>(&mut self, alloc: Global, sink: &mut T, count: u32) -> Result<(), Stop>
-        ensures ok { OnOk result ((out : List ℕ) × Turned K.rules K.Scene.paints count self.old out self.new × Adds (T.written sink.old) out (T.written sink.new)) }
-        ensures stop { IfErr result (λ stop. Stopped stop (Begun K.rules K.Scene.paints self.old) (T.written sink.old) (T.written sink.new)) }
+        ensures ok { OnOk result ((out : List ℕ) × Turned K.rules K.cut count self.old out self.new × Adds (T.written sink.old) out (T.written sink.new)) }
+        ensures stop { IfErr result (λ stop. Stopped stop (Begun K.rules K.cut self.old) (T.written sink.old) (T.written sink.new)) }
         ensures cause { HasCause (T.faults sink.old) (T.faults sink.new) (result ≡ Err Stop.Sink) }
     {
         let broker = self.broker.take();
@@ -122,8 +122,8 @@ impl<K: Kit> World<K> {
     /// nothing, then the acknowledgements of all tiles that were sent, and anew. Where it is stopped, whole
     /// moves were written and a front of one more; what stands in the world after that is open.
     pub fn settle<T: Sink>(&mut self, alloc: Global, sink: &mut T) -> Result<(), Stop>
-        ensures ok { OnOk result ((out : List ℕ) × Settled K.rules K.Scene.paints self.old out self.new × Adds (T.written sink.old) out (T.written sink.new)) }
-        ensures stop { IfErr result (λ stop. Stopped stop (Begun K.rules K.Scene.paints self.old) (T.written sink.old) (T.written sink.new)) }
+        ensures ok { OnOk result ((out : List ℕ) × Settled K.rules K.cut self.old out self.new × Adds (T.written sink.old) out (T.written sink.new)) }
+        ensures stop { IfErr result (λ stop. Stopped stop (Begun K.rules K.cut self.old) (T.written sink.old) (T.written sink.new)) }
         ensures cause { HasCause (T.faults sink.old) (T.faults sink.new) (result ≡ Err Stop.Sink) }
     {
         let broker = self.broker.take();

@@ -5,8 +5,6 @@
 //! key.
 #![tactic(auto)]
 
-#[cfg(test)]
-mod tests;
 mod windows;
 
 pub use windows::Window;

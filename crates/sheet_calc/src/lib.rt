@@ -15,6 +15,3 @@ pub use book::Book;
 pub use changed::Changed;
 pub use draft::BookDraft;
 pub use raws::is_raw;
-
-#[cfg(test)]
-mod tests;

@@ -13,6 +13,3 @@ mod references;
 pub use cells::{CellRef, Cells};
 pub use plains::{Plain, is_digit, read_plain};
 pub use references::{is_letter, leading_letters, place_of, read_ref};
-
-#[cfg(test)]
-mod tests;

@@ -16,6 +16,3 @@ pub use fault::BookFault;
 pub use laws::{one_spelling_a_book, what_is_written_is_read};
 pub use reading::read_book;
 pub use writing::write_book;
-
-#[cfg(test)]
-mod tests;

@@ -15,6 +15,3 @@ mod tokens;
 mod trees;
 
 pub use formulas::read_formula;
-
-#[cfg(test)]
-mod tests;

@@ -20,6 +20,7 @@ pub record IsSized (zoom : Scale) : Type 0 where
   pub twip_w_high : zoom.twip_w ≤ 61440
   pub twip_h_low : 15 ≤ zoom.twip_h
   pub twip_h_high : zoom.twip_h ≤ 61440
+  pub nviewid_high : zoom.nviewid ≤ 1
 
 pub zoom_facts : (zoom : Scale) → is_zoom zoom ≡ true → IsSized zoom
 zoom_facts zoom passes = grind (arith, nat_tests)
@@ -41,6 +42,7 @@ tile_is_key part zoom column row passes across down =
       posy_high = down;
       posx_multiple = mul-mod_left column zoom.twip_w;
       posy_multiple = mul-mod_left row zoom.twip_h;
+      nviewid_high = z.nviewid_high;
     }
 
 pub ruleset tile_facts = (tile_is_key, zoom_facts)

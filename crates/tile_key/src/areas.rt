@@ -3,12 +3,12 @@ ghost use Rattle.std.specs.Prelude.{◌≡◌};
 ghost use Rattle.tile_key.specs.Places.{is_area, area_at, rect_of_place, IsArea};
 ghost use Rattle.tile_key.specs.Words.{place_of};
 
-use crate::keys::{TileKey, TileWords};
+use crate::keys::{TileKey, TileWords, look_of};
 use cool_base::Rect;
 use std::marker::Model;
 
 /// What a scene paints: 1 to 2,048 pixels wide and 1 to 256 high, 1 to 491,520 twips wide and high, at
-/// positions up to 2,147,483,647. The order is key order.
+/// positions up to 2,147,483,647, in the look 0 or 1. The order is key order.
 #[derive(Clone, Copy, Debug, PartialEq, Eq, PartialOrd, Ord)]
 pub struct Area {
     part: u32,
@@ -18,6 +18,7 @@ pub struct Area {
     height: u32,
     tilewidth: u32,
     tileheight: u32,
+    nviewid: u32,
 }
 
 impl Model for Area {
@@ -25,15 +26,15 @@ impl Model for Area {
 
     ghost Value = { Place };
 
-    ghost view = { λ a. record { part = a.part; width = a.width; height = a.height; posx = a.posx; posy = a.posy; tilewidth = a.tilewidth; tileheight = a.tileheight } };
+    ghost view = { λ a. record { part = a.part; width = a.width; height = a.height; posx = a.posx; posy = a.posy; tilewidth = a.tilewidth; tileheight = a.tileheight; nviewid = a.nviewid } };
 
-    ghost invariant = { λ a. IsArea (record { part = a.part; width = a.width; height = a.height; posx = a.posx; posy = a.posy; tilewidth = a.tilewidth; tileheight = a.tileheight }) };
+    ghost invariant = { λ a. IsArea (record { part = a.part; width = a.width; height = a.height; posx = a.posx; posy = a.posy; tilewidth = a.tilewidth; tileheight = a.tileheight; nviewid = a.nviewid }) };
 
-    ghost inverse = { λ p. record { part = p.part; posy = p.posy; posx = p.posx; width = p.width; height = p.height; tilewidth = p.tilewidth; tileheight = p.tileheight } };
+    ghost inverse = { λ p. record { part = p.part; posy = p.posy; posx = p.posx; width = p.width; height = p.height; tilewidth = p.tilewidth; tileheight = p.tileheight; nviewid = p.nviewid } };
 }
 
 impl Area {
-    /// The area that the seven words name; None exactly where one of them is out of its bounds.
+    /// The area that the words name; None exactly where one of them is out of its bounds.
     #[tactic(auto, using(crate::proofs::PlaceFacts::facts))]
     pub fn read(words: &TileWords) -> Option<Area>
         ensures { result ≡ area_at (place_of words.now) }
@@ -44,7 +45,7 @@ impl Area {
         Some(Area::of_words(*words))
     }
 
-    /// The area that the seven words name, which are within its bounds.
+    /// The area that the words name, which are within its bounds.
     pub fn of_words(words: TileWords) -> Area
         requires { IsArea (place_of words) }
         ensures { result ≡ place_of words }
@@ -57,6 +58,7 @@ impl Area {
             height: words.height,
             tilewidth: words.tilewidth,
             tileheight: words.tileheight,
+            nviewid: look_of(words.nviewid),
         }
     }
 
@@ -135,7 +137,15 @@ impl Area {
         self.tileheight
     }
 
-    /// The seven words that name the area.
+    /// The look.
+    pub fn nviewid(&self) -> u32
+        ensures value { result ≡ self.now.nviewid }
+        ensures form { IsArea self.now }
+    {
+        self.nviewid
+    }
+
+    /// The words that name the area.
     pub fn words(&self) -> TileWords
         ensures value { place_of result ≡ self.now }
         ensures form { IsArea self.now }
@@ -148,6 +158,7 @@ impl Area {
             tileposy: self.posy,
             tilewidth: self.tilewidth,
             tileheight: self.tileheight,
+            nviewid: self.nviewid,
         }
     }
 }

@@ -69,6 +69,7 @@ impl Group {
             tileposy: first.tileposy,
             tilewidth: count * first.tilewidth,
             tileheight: first.tileheight,
+            nviewid: first.nviewid,
         })
     }
 

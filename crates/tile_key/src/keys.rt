@@ -1,13 +1,13 @@
-//! `TileKey` and the seven words that name one.
+//! `TileKey` and the words that name one.
 ghost use Rattle.std.specs.Prelude.{◌≡◌};
-ghost use Rattle.tile_key.specs.Places.{is_key, is_key_side, key_at, rect_of_place};
+ghost use Rattle.tile_key.specs.Places.{is_key, is_key_side, key_at, look_of, rect_of_place};
 ghost use Rattle.tile_key.specs.Words.{place_of};
 
 use cool_base::Rect;
 use std::cmp::Ordering;
 use std::marker::Model;
 
-/// The seven words of a tile, as a message has them: any numbers.
+/// The words of a tile, as a message has them: any numbers.
 #[derive(Clone, Copy, Debug, PartialEq, Eq)]
 pub struct TileWords {
     pub part: u32,
@@ -17,10 +17,11 @@ pub struct TileWords {
     pub tileposy: u32,
     pub tilewidth: u32,
     pub tileheight: u32,
+    pub nviewid: u32,
 }
 
 /// The key of a tile: 1 to 256 pixels and 15 to 61,440 twips wide and high, at multiples of its twip
-/// size up to 2,147,483,647. The order is key order.
+/// size up to 2,147,483,647, in the look 0 or 1. The order is key order.
 #[derive(Clone, Copy, Debug, PartialEq, Eq, PartialOrd, Ord)]
 pub struct TileKey {
     part: u32,
@@ -30,6 +31,7 @@ pub struct TileKey {
     height: u32,
     tilewidth: u32,
     tileheight: u32,
+    nviewid: u32,
 }
 
 impl Model for TileKey {
@@ -37,14 +39,14 @@ impl Model for TileKey {
 
     ghost Value = { Place };
 
-    ghost view = { λ a. record { part = a.part; width = a.width; height = a.height; posx = a.posx; posy = a.posy; tilewidth = a.tilewidth; tileheight = a.tileheight } };
+    ghost view = { λ a. record { part = a.part; width = a.width; height = a.height; posx = a.posx; posy = a.posy; tilewidth = a.tilewidth; tileheight = a.tileheight; nviewid = a.nviewid } };
 
-    ghost invariant = { λ a. IsKey (record { part = a.part; width = a.width; height = a.height; posx = a.posx; posy = a.posy; tilewidth = a.tilewidth; tileheight = a.tileheight }) };
+    ghost invariant = { λ a. IsKey (record { part = a.part; width = a.width; height = a.height; posx = a.posx; posy = a.posy; tilewidth = a.tilewidth; tileheight = a.tileheight; nviewid = a.nviewid }) };
 
-    ghost inverse = { λ p. record { part = p.part; posy = p.posy; posx = p.posx; width = p.width; height = p.height; tilewidth = p.tilewidth; tileheight = p.tileheight } };
+    ghost inverse = { λ p. record { part = p.part; posy = p.posy; posx = p.posx; width = p.width; height = p.height; tilewidth = p.tilewidth; tileheight = p.tileheight; nviewid = p.nviewid } };
 }
 
-/// The key that the seven words name; None exactly where a width or height is outside 1 to 256, a twip
+/// The key that the words name; None exactly where a width or height is outside 1 to 256, a twip
 /// size outside 15 to 61,440, or a position above 2,147,483,647 or no multiple of its twip size.
 #[tactic(auto, using(crate::proofs::PlaceFacts::facts))]
 pub fn key_of(words: &TileWords) -> Option<TileKey>
@@ -61,7 +63,16 @@ pub fn key_of(words: &TileWords) -> Option<TileKey>
         height: words.height,
         tilewidth: words.tilewidth,
         tileheight: words.tileheight,
+        nviewid: look_of(words.nviewid),
     })
+}
+
+/// The look that a number names: 1 means 1, the one without grid lines; every other number counts as
+/// 0, the one with them.
+pub fn look_of(nviewid: u32) -> u32
+    ensures { result ≡ look_of nviewid }
+{
+    if nviewid == 1 { 1 } else { 0 }
 }
 
 fn is_key(words: &TileWords) -> bool
@@ -98,7 +109,7 @@ pub fn rect_of(key: &TileKey) -> Rect
 impl Default for TileKey {
     ghost use Rattle.std.specs.Prelude.{◌≡◌};
 
-    ghost is_default = { λ k. k ≡ record { part = 0; width = 1; height = 1; posx = 0; posy = 0; tilewidth = 15; tileheight = 15 } };
+    ghost is_default = { λ k. k ≡ record { part = 0; width = 1; height = 1; posx = 0; posy = 0; tilewidth = 15; tileheight = 15; nviewid = 0 } };
 
     fn default() -> TileKey {
         TileKey {
@@ -109,6 +120,7 @@ impl Default for TileKey {
             height: 1,
             tilewidth: 15,
             tileheight: 15,
+            nviewid: 0,
         }
     }
 }
@@ -174,6 +186,14 @@ impl TileKey {
         self.tileheight
     }
 
+    /// The look.
+    pub fn nviewid(&self) -> u32
+        ensures value { result ≡ self.now.nviewid }
+        ensures form { IsKey self.now }
+    {
+        self.nviewid
+    }
+
     /// How the two keys stand in key order.
     pub fn compare(&self, other: &TileKey) -> Ordering
         ensures { result ≡ key_order self.now other.now }
@@ -189,7 +209,7 @@ impl TileKey {
         self == other
     }
 
-    /// The key that the seven words name, which are within its bounds.
+    /// The key that the words name, which are within its bounds.
     pub(crate) fn of_words(words: TileWords) -> TileKey
         requires { IsKey (place_of words) }
         ensures { result ≡ place_of words }
@@ -202,10 +222,11 @@ impl TileKey {
             height: words.height,
             tilewidth: words.tilewidth,
             tileheight: words.tileheight,
+            nviewid: look_of(words.nviewid),
         }
     }
 
-    /// The seven words that name the key.
+    /// The words that name the key.
     pub fn words(&self) -> TileWords
         ensures value { place_of result ≡ self.now }
         ensures form { IsKey self.now }
@@ -218,6 +239,7 @@ impl TileKey {
             tileposy: self.posy,
             tilewidth: self.tilewidth,
             tileheight: self.tileheight,
+            nviewid: self.nviewid,
         }
     }
 }

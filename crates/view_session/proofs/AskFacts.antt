@@ -165,3 +165,15 @@ once_with asked key p =
 pub once_with_all : (keys asked : List Place) → Pairwise (λ p q. p ≢ q) asked → Pairwise (λ p q. p ≢ q) (asked_with_all asked keys)
 once_with_all [] asked p = p
 once_with_all (key ∷ keys) asked p = once_with_all keys (asked_with asked key) (once_with asked key p)
+
+-- ---- whether a key is asked for
+
+pub asked_at : (slots : List Slot) (asked : List Place) (key : Place) (i : ℕ) (slot : Slot) → IsSlotted slots asked → IsAt slots key i → slot ≡ get_or slots i slot → slot.asked ≡ is_among asked key
+asked_at slots asked key i slot k at e =
+    let t : Tells slots asked key slot = tells slots asked key (take i slots) slot (drop (suc i) slots) k (at_split slots key i slot k.order at e) in
+    sym t.asking
+
+pub asked_gap : (slots : List Slot) (asked : List Place) (key : Place) (i : ℕ) → IsSlotted slots asked → IsGap slots key i → false ≡ is_among asked key
+asked_gap slots asked key i k gap =
+    let t : TellsNone slots asked key = tells_none slots asked key k (gap_others slots key i gap) in
+    sym t.asking

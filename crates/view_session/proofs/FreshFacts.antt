@@ -1,9 +1,10 @@
 -- Slots of keys that are seen, with nothing on the screen, and a view as it joins.
-use Rattle.std.proofs.Common.{◌≡◌, ◌||◌, Bool, true, false, List, [], ◌∷◌, length, map, refl, ap, ◌∙◌, arith}
+use Rattle.std.proofs.Common.{◌≡◌, ℕ, ◌+◌, ◌||◌, Bool, true, false, min, nat_lt, List, [], ◌∷◌, length, map, refl, ap, subst, ◌∙◌, arith}
+use Rattle.std.proofs.lemmas.Bool.Decides.{nat_tests}
 use Rattle.std.specs.List.{AllByRecursion}
-use Rattle.cool_base.specs.Points.{Extent}
+use Rattle.cool_base.specs.Points.{Extent, cut_of, nowhere}
 use Rattle.tile_key.specs.Places.{Place, Scale}
-use Rattle.tile_key.specs.Visible.{IsBefore, visible_keys, is_too_large}
+use Rattle.tile_key.specs.Visible.{IsBefore, rows_of, visible_keys, whole_part, is_too_large}
 use Rattle.document_machine.specs.Keys.{Pairwise}
 use Rattle.document_machine.specs.State.{Sent, first_zoom, no_area}
 use Rattle.document_machine.specs.declared.rights.Rights.{Rights}
@@ -72,3 +73,20 @@ whole_opening rights zoom size slots keys asked window z k s a w =
       window = w i;
       next_wid = 1;
     }
+
+-- an area of no point shows nothing
+nothing_seen : (size : Extent) → cut_of no_area (whole_part size) ≡ nowhere
+nothing_seen size =
+    let none : nat_lt 0 (min 0 (0 + size.w)) ≡ false = grind (arith, nat_tests) in
+    rw none refl
+
+pub nothing_visible : (size : Extent) → visible_keys 0 first_zoom no_area size ≡ []
+unfolding visible_keys rows_of
+nothing_visible size = rw (nothing_seen size) refl
+
+-- a view that joins is never too large
+pub never_large : (zoom : Scale) (size : Extent) → zoom ≡ first_zoom → is_too_large zoom (length (visible_keys 0 zoom no_area size)) ≡ true → ⊥
+never_large zoom size e h =
+    let none : is_too_large first_zoom (length (visible_keys 0 first_zoom no_area size)) ≡ false = rw (nothing_visible size) refl in
+    let large : is_too_large first_zoom (length (visible_keys 0 first_zoom no_area size)) ≡ true = subst (λ (z : Scale). is_too_large z (length (visible_keys 0 z no_area size)) ≡ true) e h in
+    absurd (cc)

@@ -8,5 +8,6 @@ pub mod HeldFacts
 pub mod FreshFacts
 pub mod ShowFacts
 pub mod AskFacts
+pub mod CountFacts
 pub mod CancelFacts
 pub mod SeeFacts

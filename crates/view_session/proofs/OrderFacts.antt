@@ -18,7 +18,8 @@ order_total =
     (then_total (on_total (λ (p : Place). p.width) nat_cmp_total)
     (then_total (on_total (λ (p : Place). p.height) nat_cmp_total)
     (then_total (on_total (λ (p : Place). p.tilewidth) nat_cmp_total)
-    (on_total (λ (p : Place). p.tileheight) nat_cmp_total))))))
+    (then_total (on_total (λ (p : Place). p.tileheight) nat_cmp_total)
+    (on_total (λ (p : Place). p.nviewid) nat_cmp_total)))))))
 
 pub before_trans : (p q r : Place) → IsBefore p q → IsBefore q r → IsBefore p r
 before_trans p q r = order_total.trans p q r
@@ -43,7 +44,8 @@ not_self p =
 -- two places whose numbers are equal are one
 pub same_is : (p q : Place) → same_place p q ≡ true → p ≡ q
 same_is p q h =
-    let a = and_parts (nat_eq p.part q.part && nat_eq p.posy q.posy && nat_eq p.posx q.posx && (nat_eq p.width q.width && nat_eq p.height q.height)) (nat_eq p.tilewidth q.tilewidth && nat_eq p.tileheight q.tileheight) h in
+    let z = and_parts (nat_eq p.part q.part && nat_eq p.posy q.posy && nat_eq p.posx q.posx && (nat_eq p.width q.width && nat_eq p.height q.height) && (nat_eq p.tilewidth q.tilewidth && nat_eq p.tileheight q.tileheight)) (nat_eq p.nviewid q.nviewid) h in
+    let a = and_parts (nat_eq p.part q.part && nat_eq p.posy q.posy && nat_eq p.posx q.posx && (nat_eq p.width q.width && nat_eq p.height q.height)) (nat_eq p.tilewidth q.tilewidth && nat_eq p.tileheight q.tileheight) z.0 in
     let b = and_parts (nat_eq p.part q.part && nat_eq p.posy q.posy && nat_eq p.posx q.posx) (nat_eq p.width q.width && nat_eq p.height q.height) a.0 in
     let c = and_parts (nat_eq p.part q.part && nat_eq p.posy q.posy) (nat_eq p.posx q.posx) b.0 in
     let d = and_parts (nat_eq p.part q.part) (nat_eq p.posy q.posy) c.0 in
@@ -57,6 +59,7 @@ same_is p q h =
       posy = eqb-true p.posy q.posy d.1 i;
       tilewidth = eqb-true p.tilewidth q.tilewidth f.0 i;
       tileheight = eqb-true p.tileheight q.tileheight f.1 i;
+      nviewid = eqb-true p.nviewid q.nviewid z.1 i;
     }
 
 -- a key that comes before another is another
@@ -100,12 +103,13 @@ number_equal a b h = ranked a b Equal (sym h)
 -- two keys that compare alike are one
 pub equal_is : (p q : Place) → key_order p q ≡ Equal → p ≡ q
 equal_is p q h =
-    let a = then_equal (nat_cmp p.part q.part) (ordering_then (nat_cmp p.posy q.posy) (ordering_then (nat_cmp p.posx q.posx) (ordering_then (nat_cmp p.width q.width) (ordering_then (nat_cmp p.height q.height) (ordering_then (nat_cmp p.tilewidth q.tilewidth) (nat_cmp p.tileheight q.tileheight)))))) h in
-    let b = then_equal (nat_cmp p.posy q.posy) (ordering_then (nat_cmp p.posx q.posx) (ordering_then (nat_cmp p.width q.width) (ordering_then (nat_cmp p.height q.height) (ordering_then (nat_cmp p.tilewidth q.tilewidth) (nat_cmp p.tileheight q.tileheight))))) a.1 in
-    let c = then_equal (nat_cmp p.posx q.posx) (ordering_then (nat_cmp p.width q.width) (ordering_then (nat_cmp p.height q.height) (ordering_then (nat_cmp p.tilewidth q.tilewidth) (nat_cmp p.tileheight q.tileheight)))) b.1 in
-    let d = then_equal (nat_cmp p.width q.width) (ordering_then (nat_cmp p.height q.height) (ordering_then (nat_cmp p.tilewidth q.tilewidth) (nat_cmp p.tileheight q.tileheight))) c.1 in
-    let e = then_equal (nat_cmp p.height q.height) (ordering_then (nat_cmp p.tilewidth q.tilewidth) (nat_cmp p.tileheight q.tileheight)) d.1 in
-    let f = then_equal (nat_cmp p.tilewidth q.tilewidth) (nat_cmp p.tileheight q.tileheight) e.1 in
+    let a = then_equal (nat_cmp p.part q.part) _ h in
+    let b = then_equal (nat_cmp p.posy q.posy) _ a.1 in
+    let c = then_equal (nat_cmp p.posx q.posx) _ b.1 in
+    let d = then_equal (nat_cmp p.width q.width) _ c.1 in
+    let e = then_equal (nat_cmp p.height q.height) _ d.1 in
+    let f = then_equal (nat_cmp p.tilewidth q.tilewidth) _ e.1 in
+    let g = then_equal (nat_cmp p.tileheight q.tileheight) _ f.1 in
     λ i. record {
       part = number_equal p.part q.part a.0 i;
       width = number_equal p.width q.width d.0 i;
@@ -113,7 +117,8 @@ equal_is p q h =
       posx = number_equal p.posx q.posx c.0 i;
       posy = number_equal p.posy q.posy b.0 i;
       tilewidth = number_equal p.tilewidth q.tilewidth f.0 i;
-      tileheight = number_equal p.tileheight q.tileheight f.1 i;
+      tileheight = number_equal p.tileheight q.tileheight g.0 i;
+      nviewid = number_equal p.nviewid q.nviewid g.1 i;
     }
 
 low_index : (o : Ordering) → ordering_index o ≤ 2

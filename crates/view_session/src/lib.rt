@@ -7,9 +7,10 @@
 //! key order (`slots`), so that a look-up is a binary search, and a tile that is sent takes no memory.
 #![tactic(auto)]
 
+mod asking;
 mod slots;
-#[cfg(test)]
-mod tests;
 mod views;
 
+pub use asking::MOST_ASKED;
+pub use document_machine::Rights;
 pub use views::{View, ViewFault};

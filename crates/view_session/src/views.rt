@@ -7,6 +7,7 @@ ghost use Rattle.document_machine.specs.Message.{asked_with_all};
 ghost use Rattle.view_session.specs.Viewing.{opening, looks, zooms, goes_to, asks, cancels, processed, sent, damaged, wants, version_on, is_due, keys, uncurrent};
 ghost use Rattle.view_session.specs.Keeps.{IsViewing};
 
+use crate::asking::{MOST_ASKED, asks_too_many, is_asked};
 use crate::slots::{
     Shown, Slot, ask_all, damage, due_keys, end_asking, find, first_due, keep_seen, keys, see,
     seeing, sees_due, show,
@@ -18,9 +19,6 @@ use std::alloc::{AllocError, Global};
 use std::marker::Model;
 use thiserror::Error;
 use tile_key::{TileKey, VisibleFault, Zoom, visible};
-
-/// The most keys that a view may ask for.
-const MOST_ASKED: usize = 1_024;
 
 /// Why a view was not changed.
 #[derive(Clone, Copy, Debug, PartialEq, Eq, Error)]
@@ -103,8 +101,8 @@ impl View {
     pub fn new(alloc: Global, rights: Rights, size: &Size) -> Result<View, Memory>
         ensures { IfOk result (λ view. view ≡ opening rights size.now) }
     {
-        let Some(zoom) = Zoom::read(256, 256, 3_840, 3_840) else {
-            return Err(Memory);
+        let Some(zoom) = Zoom::read(256, 256, 3_840, 3_840, 0) else {
+            unreachable!()
         };
         let area = Rect {
             x: 0,
@@ -112,8 +110,10 @@ impl View {
             w: 0,
             h: 0,
         };
-        let Ok(keys) = visible(alloc, 0, &zoom, &area, size) else {
-            return Err(Memory);
+        let keys = match visible(alloc, 0, &zoom, &area, size) {
+            Ok(keys) => keys,
+            Err(VisibleFault::TooLarge) => unreachable!(),
+            Err(VisibleFault::Memory) => return Err(Memory),
         };
         let slots = see(alloc, keys.as_slice())?;
         Ok(View {
@@ -257,21 +257,20 @@ impl View {
     }
 
     /// It asks for these keys too, in the order given, each once. AskedFull exactly where they would be
-    /// more than 1,024 together, so far as the memory to count them is there.
+    /// more than 1,024 together, which is counted before any memory is taken.
     pub fn ask(&mut self, keys: &[TileKey]) -> Result<(), ViewFault>
         ensures ok { OnOk result (self.new ≡ asks keys.now self.old) }
-        ensures fits { OnOk result (length (asked_with_all self.old.asked keys.now) ≤ 1024) }
-        ensures full { result ≡ Err ViewFault.AskedFull → 1024 < length (asked_with_all self.old.asked keys.now) }
+        ensures full { (result ≡ Err ViewFault.AskedFull) ↔ (MOST_ASKED < length (asked_with_all self.old.asked keys.now)) }
         ensures not_large { result ≢ Err ViewFault.TooLarge }
         ensures err { OnErr result (self.new ≡ self.old) }
     {
+        if asks_too_many(self.slots.as_slice(), self.asked.as_slice(), keys) {
+            return Err(ViewFault::AskedFull);
+        }
         let alloc = *self.slots.allocator();
         let mut slots = Vec::from_slice(alloc, self.slots.as_slice())?;
         let mut asked = Vec::from_slice(alloc, self.asked.as_slice())?;
         ask_all(&mut slots, &mut asked, keys)?;
-        if asked.len() > MOST_ASKED {
-            return Err(ViewFault::AskedFull);
-        }
         self.slots = slots;
         self.asked = asked;
         Ok(())
@@ -338,10 +337,7 @@ impl View {
     pub fn is_asked(&self, key: &TileKey) -> bool
         ensures { result ≡ is_among self.now.asked key.now }
     {
-        match find(self.slots.as_slice(), key) {
-            Ok(i) => self.slots[i].asked,
-            Err(_) => false,
-        }
+        is_asked(self.slots.as_slice(), key)
     }
 
     /// Whether it sees the key or asked for it.

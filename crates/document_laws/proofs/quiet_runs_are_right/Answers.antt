@@ -10,6 +10,6 @@ returns g c =
     Law.quiet_is_right g.K.Kit.rules d
     (λ base journal version n place wide high le clean.
     Untouched.untouched_is_unchanged g.K.Kit.rules g.K.Kit.IsSound laws.sound_start laws.sound_step laws.covered base journal version place wide high n le clean)
-    (Whole.runs_keep g.K.Kit.rules g.K.Scene.Scene.paints (λ base. laws.some_part (g.K.Kit.rules.start base) (laws.sound_start base)) events _ d outs run
+    (Whole.runs_keep g.K.Kit.rules g.K.Kit.cut (λ base. laws.some_part (g.K.Kit.rules.start base) (laws.sound_start base)) events _ d outs run
     (Whole.opening_is_whole _ g.K.Kit.rules file base accepted)).kept
     quiet

@@ -1,4 +1,4 @@
-use Rattle.std.proofs.Common.{◌≡◌, ℕ, ◌+◌, ◌≤◌, List, length}
+use Rattle.std.proofs.Common.{◌≡◌, ◌+◌, ◌≤◌, length}
 use Rattle.outside.specs.Streams.{Takes}
 use Rattle.script_lines.specs.Lines.{IsUnbroken}
 use Rattle.script_lines.proofs.line.next_line.Given as goal

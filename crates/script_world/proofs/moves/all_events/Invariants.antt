@@ -7,7 +7,7 @@ use Rattle.script_world.proofs.moves.all_events.Given as goal
 -- the events that are gone are done and written
 abbrev pub invariant-events : goal.invariant-events
 invariant-events g l = record {
-  came : Came (Moves g.K.Kit.rules g.K.Scene.Scene.paints) (record { waiting = l.initial.waiting.items; house = record { seats = l.initial.seats; document = held l.initial.broker } }) (record { waiting = l.waiting.items; house = record { seats = l.seats; document = held l.broker } }) (g.T.Sink.written l.initial.sink) (g.T.Sink.written l.sink);
+  came : Came (Moves g.K.Kit.rules g.K.Kit.cut) (record { waiting = l.initial.waiting.items; house = record { seats = l.initial.seats; document = held l.initial.broker } }) (record { waiting = l.waiting.items; house = record { seats = l.seats; document = held l.broker } }) (g.T.Sink.written l.initial.sink) (g.T.Sink.written l.sink);
   housed : IsHoused g.K.Kit.rules (record { seats = l.seats; document = held l.broker });
   less : AllAcknowledge l.initial.waiting.items → AllAcknowledge l.waiting.items × (left_of g.K.Kit.rules (held l.broker) ≤ left_of g.K.Kit.rules (held l.initial.broker));
   faults : g.T.Sink.faults l.sink ≡ g.T.Sink.faults l.initial.sink;

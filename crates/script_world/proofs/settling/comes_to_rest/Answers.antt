@@ -12,25 +12,25 @@ use Rattle.script_world.proofs.settling.comes_to_rest.Goals as goal
 pub returns-in_err-still-clause-stop : goal.returns-in_err-still-clause-stop
 returns-in_err-still-clause-stop g c =
     handed_on c.from_residual.result c.in_err-still.field-0.0
-    (λ stop. Stopped stop (MadeFrom (Moves g.K.Kit.rules g.K.Scene.Scene.paints) (record { waiting = []; house = record { seats = c.args.seats.now; document = held c.args.broker } })) (g.T.Sink.written c.args.sink.now) (g.T.Sink.written c.works.new.sink))
+    (λ stop. Stopped stop (MadeFrom (Moves g.K.Kit.rules g.K.Kit.cut) (record { waiting = []; house = record { seats = c.args.seats.now; document = held c.args.broker } })) (g.T.Sink.written c.args.sink.now) (g.T.Sink.written c.works.new.sink))
     c.from_residual.ensures.1
-    (stopped_later (Moves g.K.Kit.rules g.K.Scene.Scene.paints) (record { waiting = []; house = record { seats = c.args.seats.now; document = held c.args.broker } }) (record { waiting = []; house = record { seats = c.passes.seats; document = held c.passes.broker } }) (g.T.Sink.written c.args.sink.now) (g.T.Sink.written c.passes.sink) (g.T.Sink.written c.works.new.sink) c.in_err-still.field-0.0
+    (stopped_later (Moves g.K.Kit.rules g.K.Kit.cut) (record { waiting = []; house = record { seats = c.args.seats.now; document = held c.args.broker } }) (record { waiting = []; house = record { seats = c.passes.seats; document = held c.passes.broker } }) (g.T.Sink.written c.args.sink.now) (g.T.Sink.written c.passes.sink) (g.T.Sink.written c.works.new.sink) c.in_err-still.field-0.0
     c.passes.invariant.came c.in_err-still.ensures.stop)
 
 pub returns-in_err-broker-clause-stop : goal.returns-in_err-broker-clause-stop
 returns-in_err-broker-clause-stop g c =
     handed_on c.from_residual-in_err-broker.result c.in_err-broker.field-0.0
-    (λ stop. Stopped stop (MadeFrom (Moves g.K.Kit.rules g.K.Scene.Scene.paints) (record { waiting = []; house = record { seats = c.args.seats.now; document = held c.args.broker } })) (g.T.Sink.written c.args.sink.now) (g.T.Sink.written c.acknowledged.new.sink))
+    (λ stop. Stopped stop (MadeFrom (Moves g.K.Kit.rules g.K.Kit.cut) (record { waiting = []; house = record { seats = c.args.seats.now; document = held c.args.broker } })) (g.T.Sink.written c.args.sink.now) (g.T.Sink.written c.acknowledged.new.sink))
     c.from_residual-in_err-broker.ensures.1
-    (stopped_later (Moves g.K.Kit.rules g.K.Scene.Scene.paints) (record { waiting = []; house = record { seats = c.args.seats.now; document = held c.args.broker } }) (record { waiting = c.acknowledge_all.new.waiting.items; house = record { seats = c.works.new.seats; document = held c.in_ok-still.still } }) (g.T.Sink.written c.args.sink.now) (g.T.Sink.written c.works.new.sink) (g.T.Sink.written c.acknowledged.new.sink) c.in_err-broker.field-0.0
-    (acks_came g.K.Kit.rules g.K.Scene.Scene.paints (record { waiting = []; house = record { seats = c.args.seats.now; document = held c.args.broker } }) (record { seats = c.works.new.seats; document = held c.in_ok-still.still }) c.acknowledge_all.new.waiting.items (g.T.Sink.written c.args.sink.now) (g.T.Sink.written c.passes.sink) (g.T.Sink.written c.works.new.sink) (record { seats = c.passes.seats; document = held c.passes.broker })
+    (stopped_later (Moves g.K.Kit.rules g.K.Kit.cut) (record { waiting = []; house = record { seats = c.args.seats.now; document = held c.args.broker } }) (record { waiting = c.acknowledge_all.new.waiting.items; house = record { seats = c.works.new.seats; document = held c.in_ok-still.still } }) (g.T.Sink.written c.args.sink.now) (g.T.Sink.written c.works.new.sink) (g.T.Sink.written c.acknowledged.new.sink) c.in_err-broker.field-0.0
+    (acks_came g.K.Kit.rules g.K.Kit.cut (record { waiting = []; house = record { seats = c.args.seats.now; document = held c.args.broker } }) (record { seats = c.works.new.seats; document = held c.in_ok-still.still }) c.acknowledge_all.new.waiting.items (g.T.Sink.written c.args.sink.now) (g.T.Sink.written c.passes.sink) (g.T.Sink.written c.works.new.sink) (record { seats = c.passes.seats; document = held c.passes.broker })
     c.passes.invariant.came c.in_ok-still.ensures.ok c.in_ok-still.ensures.rests (c.in_ok-acknowledge_all.ensures.ok ∙ ap (λ w. w ++ acknowledgements (record { seats = c.works.new.seats; document = held c.in_ok-still.still })) c.in_ok-still.ensures.none_still) (let some : 0 < c.acknowledge_all.new.waiting.len = not_none c.acknowledge_all.new.waiting.len c.is_empty.result c.is_empty.ensures c.if-is_empty.false in omega (arith, some)))
     c.in_err-broker.ensures.stop)
 
 pub passes-preserved : goal.passes-preserved
 passes-preserved g c = record {
-  came = came_joined (Moves g.K.Kit.rules g.K.Scene.Scene.paints) (record { waiting = []; house = record { seats = c.args.seats.now; document = held c.args.broker } }) (record { waiting = c.acknowledge_all.new.waiting.items; house = record { seats = c.works.new.seats; document = held c.in_ok-still.still } }) (record { waiting = []; house = record { seats = c.acknowledged.new.seats; document = held c.in_ok-broker.broker } }) (g.T.Sink.written c.args.sink.now) (g.T.Sink.written c.works.new.sink) (g.T.Sink.written c.acknowledged.new.sink)
-      (acks_came g.K.Kit.rules g.K.Scene.Scene.paints (record { waiting = []; house = record { seats = c.args.seats.now; document = held c.args.broker } }) (record { seats = c.works.new.seats; document = held c.in_ok-still.still }) c.acknowledge_all.new.waiting.items (g.T.Sink.written c.args.sink.now) (g.T.Sink.written c.passes.sink) (g.T.Sink.written c.works.new.sink) (record { seats = c.passes.seats; document = held c.passes.broker })
+  came = came_joined (Moves g.K.Kit.rules g.K.Kit.cut) (record { waiting = []; house = record { seats = c.args.seats.now; document = held c.args.broker } }) (record { waiting = c.acknowledge_all.new.waiting.items; house = record { seats = c.works.new.seats; document = held c.in_ok-still.still } }) (record { waiting = []; house = record { seats = c.acknowledged.new.seats; document = held c.in_ok-broker.broker } }) (g.T.Sink.written c.args.sink.now) (g.T.Sink.written c.works.new.sink) (g.T.Sink.written c.acknowledged.new.sink)
+      (acks_came g.K.Kit.rules g.K.Kit.cut (record { waiting = []; house = record { seats = c.args.seats.now; document = held c.args.broker } }) (record { seats = c.works.new.seats; document = held c.in_ok-still.still }) c.acknowledge_all.new.waiting.items (g.T.Sink.written c.args.sink.now) (g.T.Sink.written c.passes.sink) (g.T.Sink.written c.works.new.sink) (record { seats = c.passes.seats; document = held c.passes.broker })
       c.passes.invariant.came c.in_ok-still.ensures.ok c.in_ok-still.ensures.rests (c.in_ok-acknowledge_all.ensures.ok ∙ ap (λ w. w ++ acknowledgements (record { seats = c.works.new.seats; document = held c.in_ok-still.still })) c.in_ok-still.ensures.none_still) (let some : 0 < c.acknowledge_all.new.waiting.len = not_none c.acknowledge_all.new.waiting.len c.is_empty.result c.is_empty.ensures c.if-is_empty.false in omega (arith, some))) c.in_ok-broker.ensures.ok;
   none = c.in_ok-broker.ensures.none;
   housed = c.in_ok-broker.ensures.housed_still;
@@ -40,13 +40,13 @@ passes-preserved g c = record {
 pub returns-in_err-acknowledge_all-clause-stop : goal.returns-in_err-acknowledge_all-clause-stop
 returns-in_err-acknowledge_all-clause-stop g c =
     handed_on c.from_residual-in_err-acknowledge_all.result NoMemory
-    (λ stop. Stopped stop (MadeFrom (Moves g.K.Kit.rules g.K.Scene.Scene.paints) (record { waiting = []; house = record { seats = c.args.seats.now; document = held c.args.broker } })) (g.T.Sink.written c.args.sink.now) (g.T.Sink.written c.works.new.sink))
+    (λ stop. Stopped stop (MadeFrom (Moves g.K.Kit.rules g.K.Kit.cut) (record { waiting = []; house = record { seats = c.args.seats.now; document = held c.args.broker } })) (g.T.Sink.written c.args.sink.now) (g.T.Sink.written c.works.new.sink))
     c.from_residual-in_err-acknowledge_all.ensures.1
-    (stopped_later (Moves g.K.Kit.rules g.K.Scene.Scene.paints) (record { waiting = []; house = record { seats = c.args.seats.now; document = held c.args.broker } }) (record { waiting = []; house = record { seats = c.works.new.seats; document = held c.in_ok-still.still } }) (g.T.Sink.written c.args.sink.now) (g.T.Sink.written c.works.new.sink) (g.T.Sink.written c.works.new.sink) NoMemory (came_joined (Moves g.K.Kit.rules g.K.Scene.Scene.paints) (record { waiting = []; house = record { seats = c.args.seats.now; document = held c.args.broker } }) (record { waiting = []; house = record { seats = c.passes.seats; document = held c.passes.broker } }) (record { waiting = []; house = record { seats = c.works.new.seats; document = held c.in_ok-still.still } }) (g.T.Sink.written c.args.sink.now) (g.T.Sink.written c.passes.sink) (g.T.Sink.written c.works.new.sink) c.passes.invariant.came c.in_ok-still.ensures.ok)
-    (stopped_here (Moves g.K.Kit.rules g.K.Scene.Scene.paints) (record { waiting = []; house = record { seats = c.works.new.seats; document = held c.in_ok-still.still } }) (g.T.Sink.written c.works.new.sink) (g.T.Sink.written c.works.new.sink) NoMemory refl refl))
+    (stopped_later (Moves g.K.Kit.rules g.K.Kit.cut) (record { waiting = []; house = record { seats = c.args.seats.now; document = held c.args.broker } }) (record { waiting = []; house = record { seats = c.works.new.seats; document = held c.in_ok-still.still } }) (g.T.Sink.written c.args.sink.now) (g.T.Sink.written c.works.new.sink) (g.T.Sink.written c.works.new.sink) NoMemory (came_joined (Moves g.K.Kit.rules g.K.Kit.cut) (record { waiting = []; house = record { seats = c.args.seats.now; document = held c.args.broker } }) (record { waiting = []; house = record { seats = c.passes.seats; document = held c.passes.broker } }) (record { waiting = []; house = record { seats = c.works.new.seats; document = held c.in_ok-still.still } }) (g.T.Sink.written c.args.sink.now) (g.T.Sink.written c.passes.sink) (g.T.Sink.written c.works.new.sink) c.passes.invariant.came c.in_ok-still.ensures.ok)
+    (stopped_here (Moves g.K.Kit.rules g.K.Kit.cut) (record { waiting = []; house = record { seats = c.works.new.seats; document = held c.in_ok-still.still } }) (g.T.Sink.written c.works.new.sink) (g.T.Sink.written c.works.new.sink) NoMemory refl refl))
 
 pub returns-then-is_empty-clause-ok : goal.returns-then-is_empty-clause-ok
-returns-then-is_empty-clause-ok g c = (came_joined (Moves g.K.Kit.rules g.K.Scene.Scene.paints) (record { waiting = []; house = record { seats = c.args.seats.now; document = held c.args.broker } }) (record { waiting = []; house = record { seats = c.passes.seats; document = held c.passes.broker } }) (record { waiting = []; house = record { seats = c.works.new.seats; document = held c.in_ok-still.still } }) (g.T.Sink.written c.args.sink.now) (g.T.Sink.written c.passes.sink) (g.T.Sink.written c.works.new.sink) c.passes.invariant.came c.in_ok-still.ensures.ok)
+returns-then-is_empty-clause-ok g c = (came_joined (Moves g.K.Kit.rules g.K.Kit.cut) (record { waiting = []; house = record { seats = c.args.seats.now; document = held c.args.broker } }) (record { waiting = []; house = record { seats = c.passes.seats; document = held c.passes.broker } }) (record { waiting = []; house = record { seats = c.works.new.seats; document = held c.in_ok-still.still } }) (g.T.Sink.written c.args.sink.now) (g.T.Sink.written c.passes.sink) (g.T.Sink.written c.works.new.sink) c.passes.invariant.came c.in_ok-still.ensures.ok)
 
 pub returns-then-is_empty-clause-rests : goal.returns-then-is_empty-clause-rests
 returns-then-is_empty-clause-rests g c =

@@ -7,7 +7,7 @@ use Rattle.script_world.proofs.settling.comes_to_rest.Given as goal
 -- what was done is written, and no event waits
 abbrev pub invariant-passes : goal.invariant-passes
 invariant-passes g l = record {
-  came : Came (Moves g.K.Kit.rules g.K.Scene.Scene.paints) (record { waiting = []; house = record { seats = l.initial.seats; document = held l.initial.broker } }) (record { waiting = []; house = record { seats = l.seats; document = held l.broker } }) (g.T.Sink.written l.initial.sink) (g.T.Sink.written l.sink);
+  came : Came (Moves g.K.Kit.rules g.K.Kit.cut) (record { waiting = []; house = record { seats = l.initial.seats; document = held l.initial.broker } }) (record { waiting = []; house = record { seats = l.seats; document = held l.broker } }) (g.T.Sink.written l.initial.sink) (g.T.Sink.written l.sink);
   none : l.waiting.items ≡ [];
   housed : IsHoused g.K.Kit.rules (record { seats = l.seats; document = held l.broker });
   faults : g.T.Sink.faults l.sink ≡ g.T.Sink.faults l.initial.sink;

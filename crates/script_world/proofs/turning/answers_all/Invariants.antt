@@ -7,5 +7,5 @@ use Rattle.script_world.proofs.turning.answers_all.Given as goal
 abbrev pub invariant-loop-job : goal.invariant-loop-job
 invariant-loop-job g l = record {
   there : IsSome l.broker;
-  leads : LeadsTo g.K.Kit.rules g.K.Scene.Scene.paints l.seats l.initial.broker l.fn.jobs.items l.broker (into_iter_items l.job-iterator) l.bytes.items;
+  leads : LeadsTo g.K.Kit.rules g.K.Kit.cut l.seats l.initial.broker l.fn.jobs.items l.broker (into_iter_items l.job-iterator) l.bytes.items;
 }

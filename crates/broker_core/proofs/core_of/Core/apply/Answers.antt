@@ -8,7 +8,7 @@ use Rattle.broker_core.proofs.core_of.Core.apply.Goals as goal
 
 pub invariant_of-core : goal.invariant_of-core
 invariant_of-core g c =
-    holds_applied g.K.Kit.rules g.K.Scene.Scene.paints g.K.Kit.IsSound (g.K.Kit.contents c.self.inside.kit) (g.K.Kit.contents c.input.new.self) c.self.inside.base c.self.inside.journal.items c.self.inside.applied c.self.inside.seats.items c.self.inside.next_view (option_to_list c.self.inside.job) c.index.result.now c.in_ok-hurt.hurt.items c.strike.new.seats.items
+    holds_applied g.K.Kit.rules g.K.Kit.cut g.K.Kit.IsSound (g.K.Kit.contents c.self.inside.kit) (g.K.Kit.contents c.input.new.self) c.self.inside.base c.self.inside.journal.items c.self.inside.applied c.self.inside.seats.items c.self.inside.next_view (option_to_list c.self.inside.job) c.index.result.now c.in_ok-hurt.hurt.items c.strike.new.seats.items
     c.self.invariant
     (none_out_of c.self.inside.file c.self.inside.base c.self.inside.journal.items c.self.inside.applied c.self.inside.seats.items c.self.inside.next_view (option_to_list c.self.inside.job) c.self.inside.next_ticket c.args.self c.self.view_is c.requires.none_out)
     (behind_of c.self.inside.file c.self.inside.base c.self.inside.journal.items c.self.inside.applied c.self.inside.seats.items c.self.inside.next_view (option_to_list c.self.inside.job) c.self.inside.next_ticket c.args.self c.self.view_is c.requires.behind)
@@ -21,7 +21,7 @@ invariant_of-core g c =
 pub returns : goal.returns
 returns g c =
     rw c.frames_only.ensures
-    (applies_by g.K.Kit.rules g.K.Scene.Scene.paints g.K.Kit.IsSound (g.K.Kit.contents c.self.inside.kit) c.self.inside.file c.self.inside.base c.self.inside.journal.items c.self.inside.applied c.self.inside.seats.items c.self.inside.next_view (option_to_list c.self.inside.job) c.self.inside.next_ticket c.index.result.now c.in_ok-hurt.hurt.items c.strike.new.seats.items c.in_ok-frames.frames c.args.self
+    (applies_by g.K.Kit.rules g.K.Kit.cut g.K.Kit.IsSound (g.K.Kit.contents c.self.inside.kit) c.self.inside.file c.self.inside.base c.self.inside.journal.items c.self.inside.applied c.self.inside.seats.items c.self.inside.next_view (option_to_list c.self.inside.job) c.self.inside.next_ticket c.index.result.now c.in_ok-hurt.hurt.items c.strike.new.seats.items c.in_ok-frames.frames c.args.self
     c.self.invariant c.self.view_is
     (behind_of c.self.inside.file c.self.inside.base c.self.inside.journal.items c.self.inside.applied c.self.inside.seats.items c.self.inside.next_view (option_to_list c.self.inside.job) c.self.inside.next_ticket c.args.self c.self.view_is c.requires.behind)
     (sym c.index.ensures) c.in_ok-hurt.ensures.hurt

@@ -13,7 +13,7 @@ invariant_of-core g c =
     let few : length i.seats.items < 64 = few_seats i.seats.items (rw (← c.self.view_is) at c.requires) in
     let seat : Seat = record { id = i.next_view; view = c.in_ok-view.view } in
     rw (c.in_ok-push.ensures.items, c.in_ok-next_view.ensures)
-    (holds_joined g.K.Kit.rules g.K.Scene.Scene.paints g.K.Kit.IsSound (g.K.Kit.contents i.kit) i.base i.journal.items i.applied i.seats.items i.next_view (option_to_list i.job) seat c.args.rights c.size-size.result c.self.invariant few c.size-size.ensures refl c.in_ok-view.ensures c.kept.ensures)
+    (holds_joined g.K.Kit.rules g.K.Kit.cut g.K.Kit.IsSound (g.K.Kit.contents i.kit) i.base i.journal.items i.applied i.seats.items i.next_view (option_to_list i.job) seat c.args.rights c.size-size.result c.self.invariant few c.size-size.ensures refl c.in_ok-view.ensures c.kept.ensures)
 
 pub returns-clause-step : goal.returns-clause-step
 returns-clause-step g c =
@@ -25,4 +25,4 @@ returns-clause-step g c =
     let frame = StatusFrame rules.name (rules.parts (rules.body contents)) (rules.size (rules.body contents) 0) (named i.next_view) (not c.args.rights.can_write) in
     let outs_are : c.frames_only.result ≡ one_frame i.next_view frame = outs_by c.frames_only.result c.in_ok-frames.frames i.next_view c.status-frame.result frame c.frames_only.ensures c.in_ok-frames.ensures c.status-frame.ensures in
     rw (← c.self.view_is, c.in_ok-push.ensures.items, c.in_ok-next_view.ensures)
-    (joins_by g.K.Kit.rules g.K.Scene.Scene.paints g.K.Kit.IsSound (g.K.Kit.contents i.kit) i.file i.base i.journal.items i.applied i.seats.items i.next_view (option_to_list i.job) i.next_ticket seat c.args.rights c.size-size.result c.frames_only.result c.self.invariant few refl c.in_ok-view.ensures outs_are)
+    (joins_by g.K.Kit.rules g.K.Kit.cut g.K.Kit.IsSound (g.K.Kit.contents i.kit) i.file i.base i.journal.items i.applied i.seats.items i.next_view (option_to_list i.job) i.next_ticket seat c.args.rights c.size-size.result c.frames_only.result c.self.invariant few refl c.in_ok-view.ensures outs_are)

@@ -8,7 +8,7 @@ pub invariant_of-result : goal.invariant_of-result
 invariant_of-result g c =
     let i = c.self.inside in
     rw (c.remove.ensures.items)
-    (holds_left g.K.Kit.rules g.K.Scene.Scene.paints g.K.Kit.IsSound (g.K.Kit.contents i.kit) i.base i.journal.items i.applied i.seats.items i.next_view (option_to_list i.job) c.in-Some.i c.self.invariant)
+    (holds_left g.K.Kit.rules g.K.Kit.cut g.K.Kit.IsSound (g.K.Kit.contents i.kit) i.base i.journal.items i.applied i.seats.items i.next_view (option_to_list i.job) c.in-Some.i c.self.invariant)
 
 pub returns : goal.returns
 returns g c =

@@ -3,7 +3,7 @@ use Rattle.tile_key.specs.Visible.{IsBefore, is_too_large}
 use Rattle.document_machine.specs.State.{first_zoom}
 use Rattle.view_session.specs.Moves.{seen_slot}
 use Rattle.view_session.proofs.ListFacts.{pairs_by_index}
-use Rattle.view_session.proofs.FreshFacts.{not_large, held_fresh, whole_opening}
+use Rattle.view_session.proofs.FreshFacts.{never_large, not_large, held_fresh, whole_opening}
 use Rattle.view_session.proofs.views.View.new.Goals as goal
 
 pub invariant_of-result : goal.invariant_of-result
@@ -21,3 +21,8 @@ returns c =
     c.in-Ok.ensures.keys
     (c.in_ok-slots.ensures ∙ ap (map seen_slot) c.as_slice.ensures.value)
     c.new.ensures.items c.new-2.ensures
+
+pub unreachable-requires-in-Err-TooLarge : goal.unreachable-requires-in-Err-TooLarge
+unreachable-requires-in-Err-TooLarge c =
+    never_large c.in-Some.zoom c.args.size.now (let e : c.in-Some.zoom ≡ first_zoom = cc in e)
+    (c.in-Err-TooLarge.ensures.too_large.0 (cc))

@@ -1,0 +1,92 @@
+//! Cases of one text: names of cells, plain texts, and formulas with their values and the cells that they
+//! name.
+ghost use Rattle.std.specs.Prelude.{◌≡◌, pos};
+ghost use Rattle.formula_base.specs.declared.values.Value.TheVariants.{Empty, Number};
+
+use crate::spelling::number;
+use cool_base::Memory;
+use formula_base::{CellFault, Lookup, Value, eval, reads};
+use sheet_cells::{Plain, read_plain, read_ref};
+use sheet_formula::read_formula;
+use std::alloc::Global;
+use std::io::Print;
+
+/// The number of a row that no formula can name.
+pub const NO_ROW: u32 = 4096;
+
+// Cells with the number 7 in one row, and nothing in the others.
+#[derive(Clone, Copy)]
+struct Sevens {
+    row: u32,
+}
+
+impl Lookup for Sevens {
+    ghost use Rattle.std.specs.Prelude.{◌==◌, if◌then◌else◌};
+
+    ghost value_at = { λ cells place. if place.0 == cells.row then Number (pos 7) else Empty };
+
+    fn value(&self, _alloc: Global, row: u32, _col: u32) -> Result<Value, Memory> {
+        if row == self.row {
+            Ok(Value::Number(7))
+        } else {
+            Ok(Value::Empty)
+        }
+    }
+}
+
+/// The cell of a name.
+pub fn name(rt: &impl Print, text: &str) -> anyhow::Result<()> {
+    match read_ref(text) {
+        Some((row, col)) => println!(rt; "  {row},{col}")?,
+        None => println!(rt; "  none")?,
+    }
+    Ok(())
+}
+
+/// What a raw text without a formula is.
+pub fn plain(rt: &impl Print, text: &str) -> anyhow::Result<()> {
+    match read_plain(text) {
+        Plain::Empty => println!(rt; "  empty")?,
+        Plain::Number(number) => println!(rt; "  number {number}")?,
+        Plain::Text => println!(rt; "  text")?,
+    }
+    Ok(())
+}
+
+/// The value of a formula where one row has sevens, and the cells that it names.
+pub fn formula(rt: &impl Print, alloc: Global, raw: &str, row: u32) -> anyhow::Result<()> {
+    let Some(expression) = read_formula(alloc, raw)? else {
+        println!(rt; "  none")?;
+        return Ok(());
+    };
+    match eval(alloc, &expression, &Sevens { row })? {
+        Value::Empty => print!(rt; "  empty")?,
+        Value::Number(number) => print!(rt; "  number {number}")?,
+        Value::Words(words) => print!(rt; "  text [{}]", words.get())?,
+        Value::Fault(CellFault::Num) => print!(rt; "  #NUM!")?,
+        Value::Fault(CellFault::Div0) => print!(rt; "  #DIV/0!")?,
+        Value::Fault(CellFault::Value) => print!(rt; "  #VALUE!")?,
+        Value::Fault(CellFault::Circ) => print!(rt; "  #CIRC!")?,
+    }
+    for (row, col) in &reads(alloc, &expression)? {
+        print!(rt; " {row},{col}")?;
+    }
+    println!(rt; "")?;
+    Ok(())
+}
+
+/// A formula of `<n> <open> <close>`: n times `<open>`, then `1`, then n times `<close>`.
+pub fn nested(rt: &impl Print, alloc: Global, text: &str) -> anyhow::Result<()> {
+    let (depth, signs) = text.split_once(' ').unwrap_or((text, ""));
+    let (open, close) = signs.split_once(' ').unwrap_or((signs, ""));
+    let depth = number(depth).min(100);
+    let mut raw = String::from_str(alloc, "=")?;
+    for _ in 0..depth {
+        raw.push_str(open)?;
+    }
+    raw.push_str("1")?;
+    for _ in 0..depth {
+        raw.push_str(close)?;
+    }
+    formula(rt, alloc, &raw, NO_ROW)
+}
