@@ -16,7 +16,7 @@ pub record Say {P M : Type 0} (k : Kind P M) (m : M) (whole : List ℕ) : Type 0
 some_same : {A : Type 0} (x y : A) → Some x ≡ Some y → x ≡ y
 some_same x y is = ap (λ o. unwrap_or o x) is
 
-ok_or : {M E : Type 0} → M → Result M E → M
+abbrev ok_or : {M E : Type 0} → M → Result M E → M
 ok_or d (Ok m) = m
 ok_or d (Err e) = d
 

@@ -16,7 +16,7 @@ use Rattle.wopi_host.specs.Table.{operation_of, wants_right, wants_id, is_lock_i
 use Rattle.wopi_host.specs.Hosts.{Pages, verdict_at, status_of, is_ordinary, IsOrdinary, AnswersAt}
 
 -- the verdict's status is one
-Fits : Verdict → Type 0
+abbrev Fits : Verdict → Type 0
 Fits v = is_ordinary (status_of v) ≡ true
 
 if_fits : (b : Bool) (x y : Verdict) → Fits x → Fits y → Fits (if b then x else y)

@@ -271,7 +271,6 @@ fn answer_at<Q: Keeper>(
 }
 
 // The answer to a request, but for the keeper's faults.
-#[tactic(auto, using(crate::proofs::Statuses::if_ok_ordinary))]
 fn answer_request<Q: Keeper>(
     alloc: Global,
     keeper: &mut Q,

@@ -19,7 +19,7 @@ use Rattle.wopi_client.specs.Asks.{file_target, contents_target, lock_id, gettin
 use Rattle.wopi_limits.specs.Sound.{IsNamed, IsSound}
 
 -- the lines of a head and the empty line
-lines_text : List Header → List ℕ
+abbrev lines_text : List Header → List ℕ
 lines_text hs = print_section (map field_of hs) crlf
 
 field_length : (name value : List ℕ) → length (print_field (field_of (name, value))) ≡ length name + (length value + 4)
