@@ -38,7 +38,12 @@ sized body behind ended within =
 
 -- no body, whatever is behind it
 empty : (body behind : List ℕ) (ended : Bool) → body ≡ [] → body_says no_body (body ++ behind) ended ≡ Some (Ok body)
-empty body behind ended none = by_length 0 (body ++ behind) ended ∙ ap (λ xs. Some (Ok xs)) (sym none)
+empty body behind ended none =
+    by_length 0 (body ++ behind) ended
+    ∙ (λ i. if fits 0 body_limit (omega arith) i
+    then (if fits 0 (length (body ++ behind)) (omega arith) i then Some (Ok []) else (if ended then Some (Err CutOff) else None))
+    else Some (Err BodyTooLong))
+    ∙ ap (λ xs. Some (Ok xs)) (sym none)
 
 asked_says : (method : Method) (body behind : List ℕ) (ended : Bool) → IsAsked method body → length body ≤ body_limit
     → body_says (start_of (framing_told method body)) (body ++ behind) ended ≡ Some (Ok body)
