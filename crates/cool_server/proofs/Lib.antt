@@ -1,0 +1,3 @@
+pub mod ShownStatuses
+pub mod ServedWires
+pub mod Runs
