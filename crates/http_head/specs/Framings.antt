@@ -1,6 +1,8 @@
 -- What the lines of a head say of the body behind it.
-use Rattle.std.specs.Prelude.{ℕ, Bool, ◌&&◌, ◌||◌, nat_le, ◌==◌, List, [], ◌∷◌, Option, Some, None, option_and_then, if◌then◌else◌, codes, bytes_eq, length}
+use Rattle.std.specs.Prelude.{ℕ, ◌&&◌, nat_le, ◌==◌, List, [], ◌∷◌, Option, Some, None, option_and_then, if◌then◌else◌, codes, length}
+use Rattle.std.specs.Str.{str_eq_ignore_ascii_case}
 use Rattle.cool_base.specs.Numbers.{is_decimal, decimal_value}
+use Rattle.http_message.specs.Statuses.{is_bodiless}
 use Rattle.http_head.specs.declared.framing.Framing.{Framing}
 use Rattle.http_head.specs.declared.framing.Framing.TheVariants.{Empty, Sized, Chunked, ToEnd}
 use Rattle.http_head.specs.declared.framing.Said.{Said}
@@ -11,9 +13,9 @@ use Rattle.http_head.specs.Lines.{is_named}
 abbrev pub length_said : List ℕ → Said
 length_said value = if is_decimal value && nat_le (length value) 19 then Length (decimal_value value) else Wrong
 
--- what a value of `Transfer-Encoding` says: `chunked` alone is known
+-- what a value of `Transfer-Encoding` says: `chunked` alone is known, in any case
 abbrev pub coding_said : List ℕ → Said
-coding_said value = if bytes_eq value (codes "chunked") then Chunks else Wrong
+coding_said value = if str_eq_ignore_ascii_case value (codes "chunked") then Chunks else Wrong
 
 -- what one line says
 abbrev pub line_said : List ℕ × List ℕ → Said
@@ -25,7 +27,8 @@ line_said line =
 abbrev pub same_length : ℕ → ℕ → Said
 same_length a b = if a == b then Length a else Wrong
 
--- what two say together: two lengths that differ are wrong, and so is a length beside a coding
+-- what two say together: two lengths that differ are wrong, and so are a length beside a coding and
+-- two codings, which together are `chunked, chunked`
 abbrev pub joined : Said → Said → Said
 joined Nothing b = b
 joined Wrong b = Wrong
@@ -35,7 +38,7 @@ joined (Length a) Chunks = Wrong
 joined (Length a) Wrong = Wrong
 joined Chunks Nothing = Chunks
 joined Chunks (Length b) = Wrong
-joined Chunks Chunks = Chunks
+joined Chunks Chunks = Wrong
 joined Chunks Wrong = Wrong
 
 -- what the lines say together
@@ -49,10 +52,6 @@ request_framing Nothing = Some Empty
 request_framing (Length n) = Some (Sized n)
 request_framing Chunks = Some Chunked
 request_framing Wrong = None
-
--- a status from 100 to 199, 204 or 304 has no body
-abbrev pub is_bodiless : ℕ → Bool
-is_bodiless status = (nat_le 100 status && nat_le status 199) || (status == 204 || status == 304)
 
 -- the body of a response, which goes to the end of the wire where nothing is said
 abbrev pub said_framing : Said → Option Framing

@@ -1,9 +1,10 @@
 // What the lines of a head say of the body.
 ghost use Rattle.std.specs.Prelude.{◌≡◌};
-ghost use Rattle.http_head.specs.Framings.{length_said, coding_said, line_said, same_length, joined, request_framing, said_framing, is_bodiless, framing_for, response_framing};
+ghost use Rattle.http_head.specs.Framings.{length_said, coding_said, line_said, same_length, joined, request_framing, said_framing, framing_for, response_framing};
 
 use crate::fields::is_named;
 use cool_base::read_number;
+use http_message::is_bodiless;
 
 /// The body behind a head.
 #[derive(Clone, Copy, Debug, PartialEq, Eq)]
@@ -41,7 +42,7 @@ fn length_said(value: &[u8]) -> Said
 fn coding_said(value: &[u8]) -> Said
     ensures { result ≡ coding_said value.now }
 {
-    if value == b"chunked".as_slice() {
+    if is_named(value, b"chunked") {
         Said::Chunks
     } else {
         Said::Wrong
@@ -83,7 +84,7 @@ fn with_chunks(second: Said) -> Said
     match second {
         Said::Nothing => Said::Chunks,
         Said::Length(_) => Said::Wrong,
-        Said::Chunks => Said::Chunks,
+        Said::Chunks => Said::Wrong,
         Said::Wrong => Said::Wrong,
     }
 }
@@ -119,12 +120,6 @@ fn said_framing(said: Said) -> Option<Framing>
         Said::Chunks => Some(Framing::Chunked),
         Said::Wrong => None,
     }
-}
-
-fn is_bodiless(status: u16) -> bool
-    ensures { result ≡ is_bodiless status }
-{
-    (status >= 100 && status <= 199) || (status == 204 || status == 304)
 }
 
 fn framing_for(status: u16, framing: Framing) -> Framing

@@ -16,8 +16,6 @@ mod laws;
 mod parts;
 mod requests;
 mod responses;
-#[cfg(test)]
-mod tests;
 
 pub use framing::{Framing, Said};
 pub use laws::{requests_are_read_in_one_way, responses_are_read_in_one_way};

@@ -1,6 +1,9 @@
 //! Requests and responses of HTTP, as far as a WOPI host and its client read them.
 #![tactic(auto)]
 
+ghost use Rattle.std.specs.Prelude.{◌≡◌};
+ghost use Rattle.http_message.specs.Statuses.{is_bodiless};
+
 use bytes::Bytes;
 use cool_base::TextOf;
 
@@ -30,4 +33,11 @@ pub struct Response {
     pub status: u16,
     pub lock: Option<TextOf>,
     pub body: Bytes,
+}
+
+/// Whether a response of this status has no body, whatever its head says: from 100 to 199, 204 or 304.
+pub fn is_bodiless(status: u16) -> bool
+    ensures { result ≡ is_bodiless status }
+{
+    (status >= 100 && status <= 199) || (status == 204 || status == 304)
 }

@@ -10,7 +10,7 @@ use Rattle.http_head.specs.declared.parts.Scan.{Scan}
 use Rattle.http_head.specs.declared.parts.Scan.TheVariants.{Begun, NoHead}
 use Rattle.wire_body.specs.declared.states.BodyState.{BodyState}
 use Rattle.wire_body.specs.Bodies.{body_says}
-use Rattle.wire_body.specs.Reads.{ReadsBody, IsSaid}
+use Rattle.wire_body.specs.Reads.{ReadsBody, IsSaid, Stops}
 use Rattle.http_wire.specs.Messages.{Kind, Front, head_limit, Scans, start_of, with_body, message_said, IsAnswer, ReadsMessage, GotHead}
 use Rattle.http_wire.specs.Messages.Front.{Refused, Longer, Open, Headed}
 
@@ -20,21 +20,21 @@ all_within bytes within = sym (take_all head_limit bytes within)
 
 pub refused_answer : {P M : Type 0} (k : Kind P M) (old new : Option Talk) (bytes : List ℕ)
     → Hears old bytes false new → length bytes ≤ head_limit → k.refuses bytes → ReadsMessage k old new (Err (Wire BadHead))
-refused_answer k old new bytes heard within none = (bytes, false, heard, (Refused (subst (λ xs. k.refuses xs) (all_within bytes within) none), refl))
+refused_answer k old new bytes heard within none = (bytes, false, heard, (Refused (subst (λ xs. k.refuses xs) (all_within bytes within) none), refl, λ is. cc))
 
 pub longer_answer : {P M : Type 0} (k : Kind P M) (old new : Option Talk) (bytes : List ℕ)
     → Hears old bytes false new → length bytes ≤ head_limit → head_limit ≤ length bytes → k.begins bytes → ReadsMessage k old new (Err (Wire HeadTooLong))
-longer_answer k old new bytes heard within full begun = (bytes, false, heard, (Longer full (subst (λ xs. k.begins xs) (all_within bytes within) begun), refl))
+longer_answer k old new bytes heard within full begun = (bytes, false, heard, (Longer full (subst (λ xs. k.begins xs) (all_within bytes within) begun), refl, λ is. cc))
 
 pub cut_answer : {P M : Type 0} (k : Kind P M) (old mid new : Option Talk) (bytes : List ℕ)
     → Hears old bytes false mid → Hears mid [] true new → length bytes < head_limit → k.begins bytes → ReadsMessage k old new (Err (Wire CutOff))
 cut_answer k old mid new bytes heard ended less begun =
-    (bytes, true, subst (λ xs. Hears old xs true new) (append-nil bytes) (hears_more old mid new bytes [] true heard ended), (Open less begun, refl))
+    (bytes, true, subst (λ xs. Hears old xs true new) (append-nil bytes) (hears_more old mid new bytes [] true heard ended), (Open less begun, refl, λ is. refl))
 
 pub fault_answer : {P M : Type 0} (k : Kind P M) (old mid new : Option Talk) (bytes : List ℕ)
     → Hears old bytes false mid → new ≡ mid → length bytes < head_limit → k.begins bytes → ReadsMessage k old new (Err (Wire ReadFault))
 fault_answer k old mid new bytes heard same less begun =
-    (bytes, false, subst (λ t. Hears old bytes false t) (sym same) heard, (Open less begun, refl))
+    (bytes, false, subst (λ t. Hears old bytes false t) (sym same) heard, (Open less begun, refl, λ is. cc))
 
 pub memory_answer : {P M : Type 0} (k : Kind P M) (old new : Option Talk) (bytes : List ℕ)
     → Hears old bytes false new → ReadsMessage k old new (Err NoMemory)
@@ -53,33 +53,34 @@ headed k old mid parts bytes more len got =
 pub body_answer : {P M : Type 0} (k : Kind P M) (old mid new : Option Talk) (parts : P) (bytes : List ℕ) (len : ℕ) (body : List ℕ)
     → GotHead k old mid parts bytes len → ReadsBody mid new (start_of (k.framing parts)) (drop len bytes) (Ok body)
     → ReadsMessage k old new (Ok (k.message parts body))
-body_answer k old mid new parts bytes len body got (more, ended, heard, said) = (
+body_answer k old mid new parts bytes len body got (more, ended, heard, said, stops) = (
   bytes ++ more,
   ended,
   hears_more old mid new bytes more ended got.heard heard,
-  (headed k old mid parts bytes more len got, ap (with_body k parts) said),
+  (headed k old mid parts bytes more len got, ap (with_body k parts) said, λ is. ap (with_body k parts) (stops is)),
 )
 
 body_fault : {P M : Type 0} (k : Kind P M) (parts : P) (bytes : List ℕ) (ended : Bool) (rest : List ℕ) (front : Front k bytes)
     → message_said front ended ≡ with_body k parts (body_says (start_of (k.framing parts)) rest ended)
+    → Stops (message_said front false) ended
     → (fault : HttpFault) → IsSaid (body_says (start_of (k.framing parts)) rest ended) (Err fault) → IsAnswer k bytes ended (Err fault)
-body_fault k parts bytes ended rest front is NoMemory said = tt
-body_fault k parts bytes ended rest front is (Wire BadHead) said = (front, is ∙ ap (with_body k parts) said)
-body_fault k parts bytes ended rest front is (Wire HeadTooLong) said = (front, is ∙ ap (with_body k parts) said)
-body_fault k parts bytes ended rest front is (Wire BodyTooLong) said = (front, is ∙ ap (with_body k parts) said)
-body_fault k parts bytes ended rest front is (Wire BadChunk) said = (front, is ∙ ap (with_body k parts) said)
-body_fault k parts bytes ended rest front is (Wire CutOff) said = (front, is ∙ ap (with_body k parts) said)
-body_fault k parts bytes ended rest front is (Wire ReadFault) said = (front, is ∙ ap (with_body k parts) said)
-body_fault k parts bytes ended rest front is (Wire WriteFault) said = absurd said
+body_fault k parts bytes ended rest front is stops NoMemory said = tt
+body_fault k parts bytes ended rest front is stops (Wire BadHead) said = (front, is ∙ ap (with_body k parts) said, stops)
+body_fault k parts bytes ended rest front is stops (Wire HeadTooLong) said = (front, is ∙ ap (with_body k parts) said, stops)
+body_fault k parts bytes ended rest front is stops (Wire BodyTooLong) said = (front, is ∙ ap (with_body k parts) said, stops)
+body_fault k parts bytes ended rest front is stops (Wire BadChunk) said = (front, is ∙ ap (with_body k parts) said, stops)
+body_fault k parts bytes ended rest front is stops (Wire CutOff) said = (front, is ∙ ap (with_body k parts) said, stops)
+body_fault k parts bytes ended rest front is stops (Wire ReadFault) said = (front, is ∙ ap (with_body k parts) said, stops)
+body_fault k parts bytes ended rest front is stops (Wire WriteFault) said = absurd said
 
 pub body_fault_answer : {P M : Type 0} (k : Kind P M) (old mid new : Option Talk) (parts : P) (bytes : List ℕ) (len : ℕ) (fault : HttpFault)
     → GotHead k old mid parts bytes len → ReadsBody mid new (start_of (k.framing parts)) (drop len bytes) (Err fault)
     → ReadsMessage k old new (Err fault)
-body_fault_answer k old mid new parts bytes len fault got (more, ended, heard, said) = (
+body_fault_answer k old mid new parts bytes len fault got (more, ended, heard, said, stops) = (
   bytes ++ more,
   ended,
   hears_more old mid new bytes more ended got.heard heard,
-  body_fault k parts (bytes ++ more) ended (drop len bytes ++ more) (headed k old mid parts bytes more len got) refl fault said,
+  body_fault k parts (bytes ++ more) ended (drop len bytes ++ more) (headed k old mid parts bytes more len got) refl (λ is. ap (with_body k parts) (stops is)) fault said,
 )
 
 -- what a scan of the bytes said

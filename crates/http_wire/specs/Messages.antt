@@ -11,7 +11,7 @@ use Rattle.wire_body.specs.declared.faults.HttpFault.{HttpFault}
 use Rattle.wire_body.specs.declared.faults.HttpFault.TheVariants.{Wire, Memory as NoMemory}
 use Rattle.wire_body.specs.declared.states.BodyState.{BodyState}
 use Rattle.wire_body.specs.Bodies.{no_body, body_of, chunked_body, open_body, body_says}
-use Rattle.wire_body.specs.Reads.{FaultSaid}
+use Rattle.wire_body.specs.Reads.{FaultSaid, Stops}
 
 -- how many bytes a head has at most
 abbrev pub head_limit : ℕ
@@ -61,11 +61,12 @@ message_said (Longer full begun) ended = Some (Err HeadTooLong)
 message_said (Open less begun) ended = if ended then Some (Err CutOff) else None
 message_said {k = k} (Headed parts rest whole within) ended = with_body k parts (body_says (start_of (k.framing parts)) rest ended)
 
--- the answer is what the bytes say; where memory ran out they may say anything
+-- the answer is what the bytes say, and no end was asked for behind a message that was whole without it; where
+-- memory ran out they may say anything
 abbrev pub IsAnswer : {P M : Type 0} → Kind P M → List ℕ → Bool → Result M HttpFault → Type 0
-IsAnswer k bytes ended (Ok m) = (front : Front k bytes) × (message_said front ended ≡ Some (Ok m))
+IsAnswer k bytes ended (Ok m) = (front : Front k bytes) × (message_said front ended ≡ Some (Ok m)) × Stops (message_said front false) ended
 IsAnswer k bytes ended (Err NoMemory) = ⊤
-IsAnswer k bytes ended (Err (Wire fault)) = (front : Front k bytes) × FaultSaid (message_said front ended) fault
+IsAnswer k bytes ended (Err (Wire fault)) = (front : Front k bytes) × FaultSaid (message_said front ended) fault × Stops (message_said front false) ended
 
 -- bytes were received, with the end or without, and the answer is what they say
 abbrev pub ReadsMessage : {P M : Type 0} → Kind P M → Option Talk → Option Talk → Result M HttpFault → Type 0

@@ -12,8 +12,6 @@
 mod heads;
 mod messages;
 mod reads;
-#[cfg(test)]
-mod tests;
 
 pub use messages::{read_request, read_response};
 pub use wire_body::HttpFault;

@@ -16,7 +16,8 @@ use Rattle.http_message.specs.declared.Method.TheVariants.{Get, Post, Other}
 use Rattle.http_message.specs.declared.Request.{Request}
 use Rattle.http_message.specs.declared.Response.{Response}
 use Rattle.http_head.specs.Lines.{is_shown, shown, value_of, has_line}
-use Rattle.http_head.specs.Framings.{lines_said, request_framing, response_framing, said_framing, is_bodiless, length_said, joined}
+use Rattle.http_head.specs.Framings.{lines_said, request_framing, response_framing, said_framing, length_said, joined}
+use Rattle.http_message.specs.Statuses.{is_bodiless}
 use Rattle.http_head.specs.declared.framing.Framing.{Framing}
 use Rattle.http_head.specs.declared.framing.Framing.TheVariants.{Empty, Sized}
 use Rattle.http_head.specs.declared.framing.Said.TheVariants.{Length, Nothing}

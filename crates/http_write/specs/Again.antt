@@ -11,7 +11,7 @@ use Rattle.http_head.specs.declared.framing.Framing.TheVariants.{Empty, Sized}
 use Rattle.http_head.specs.declared.parts.RequestParts.{RequestParts}
 use Rattle.http_head.specs.declared.parts.ResponseParts.{ResponseParts}
 use Rattle.http_head.specs.Lines.{is_shown}
-use Rattle.http_head.specs.Framings.{is_bodiless}
+use Rattle.http_message.specs.Statuses.{is_bodiless}
 
 -- some bytes, each from 33 to 126
 abbrev pub is_word : List ℕ → Bool

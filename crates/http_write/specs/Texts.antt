@@ -5,7 +5,7 @@ use Rattle.http_message.specs.declared.Method.{Method}
 use Rattle.http_message.specs.declared.Method.TheVariants.{Get, Post, Other}
 use Rattle.http_message.specs.declared.Request.{Request}
 use Rattle.http_message.specs.declared.Response.{Response}
-use Rattle.http_head.specs.Framings.{is_bodiless}
+use Rattle.http_message.specs.Statuses.{is_bodiless}
 
 -- the method's letters
 abbrev pub method_text : Method → List ℕ

@@ -1,11 +1,10 @@
 // The heads of requests and responses as bytes.
 ghost use Rattle.std.specs.Prelude.{◌≡◌, ◌+◌, ◌/◌, ◌%◌, ℕ, [], ◌∷◌, ◌++◌, OnOk, IfOk, length, codes};
 ghost use Rattle.http1.specs.Head.{print_header, print_headers, status_digits};
-ghost use Rattle.http_head.specs.Framings.{is_bodiless};
 ghost use Rattle.http_write.specs.Texts.{method_text, optional, length_line, length_lines, old_lines, size_lines, request_lines, request_head, response_lines, response_head};
 
 use cool_base::{Memory, TextOf};
-use http_message::{Method, Request, Response};
+use http_message::{Method, Request, Response, is_bodiless};
 use std::alloc::Global;
 
 fn put(out: &mut Vec<u8>, part: &[u8]) -> Result<(), Memory>
@@ -120,12 +119,6 @@ fn put_status_line(out: &mut Vec<u8>, status: u16) -> Result<(), Memory>
     put(out, b"HTTP/1.1 ")?;
     put(out, &digits)?;
     put(out, b" \r\n")
-}
-
-fn is_bodiless(status: u16) -> bool
-    ensures { result ≡ is_bodiless status }
-{
-    (status >= 100 && status <= 199) || (status == 204 || status == 304)
 }
 
 fn put_size(alloc: Global, out: &mut Vec<u8>, status: u16, body: &[u8]) -> Result<(), Memory>

@@ -10,8 +10,6 @@
 mod heads;
 mod laws;
 mod sends;
-#[cfg(test)]
-mod tests;
 mod writes;
 
 pub use laws::{requests_are_read_again, responses_are_read_again};

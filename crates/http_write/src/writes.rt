@@ -1,7 +1,7 @@
 // Messages over a wire.
 ghost use Rattle.std.specs.Prelude.{◌≡◌, true, [], ◌++◌, Err};
 ghost use Rattle.outside.specs.Causes.{HasCause};
-ghost use Rattle.http_head.specs.Framings.{is_bodiless};
+ghost use Rattle.http_message.specs.Statuses.{HasDueBody};
 ghost use Rattle.http_write.specs.Texts.{request_bytes, response_bytes};
 ghost use Rattle.http_write.specs.Writes.{Sends, Writes};
 
@@ -49,7 +49,7 @@ pub fn write_response<W: Wire>(
     wire: &mut W,
     response: &Response,
 ) -> Result<(), HttpFault>
-    requires { is_bodiless response.now.status ≡ true → response.now.body ≡ [] }
+    requires { HasDueBody response.now }
     ensures writes { Writes (W.talk wire.old) (response_bytes response.now) result (W.talk wire.new) }
     ensures cause { HasCause (W.faults wire.old) (W.faults wire.new) (result ≡ Err (HttpFault.Wire WireFault.WriteFault)) }
 {

@@ -1,5 +1,5 @@
 -- What a store tells: its calls with their answers.
-use Rattle.std.specs.Prelude.{ℕ, ◌≡◌, Bool, true, false, List, [], ◌∷◌, ◌++◌, Option, Result, Ok, Err, IfOk, ⊤}
+use Rattle.std.specs.Prelude.{ℕ, ◌≡◌, ◌⊎◌, Bool, true, false, List, [], ◌∷◌, ◌++◌, Option, Result, Ok, Err, IfOk, ⊤}
 use Rattle.std.specs.Option.{option_map}
 use Rattle.outside.specs.declared.faults.WireFault.{WireFault}
 use Rattle.outside.specs.declared.faults.WireFault.TheVariants.{BadHead, HeadTooLong, BodyTooLong, BadChunk, CutOff, ReadFault, WriteFault}
@@ -55,6 +55,10 @@ pub data StoreCall : Type 0 where
 -- The call was made. Both lists are told or neither is.
 abbrev pub Calls : Option (List StoreCall) → StoreCall → Option (List StoreCall) → Type 0
 Calls old call new = new ≡ option_map (λ calls. calls ++ call ∷ []) old
+
+-- The call was made and is told with its answer; or memory was refused, and nothing is told of it.
+abbrev pub Tells : {A : Type 0} → Option (List StoreCall) → StoreCall → Result A StoreFault → Option (List StoreCall) → Type 0
+Tells old call result new = Calls old call new ⊎ ((result ≡ Err NoMemory) × (new ≡ old))
 
 -- A receipt is for the errand's content in the errand's file.
 abbrev pub IsReceiptOf : Errand → Receipt → Type 0

@@ -13,10 +13,6 @@ mod errands;
 mod faults;
 mod stores;
 mod streams;
-#[cfg(test)]
-mod tests;
-#[cfg(test)]
-mod wire_tests;
 mod wires;
 
 pub use errands::{Admission, Errand, Receipt};

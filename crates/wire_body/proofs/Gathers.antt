@@ -47,17 +47,7 @@ says old new start front s body g ended = ap (λ (r : Reached). verdict r.state.
 pub reads_whole : (old new : Option Talk) (start : BodyState) (front : List ℕ) (s : BodyState) (body : List ℕ) (result : Result (List ℕ) HttpFault)
     → Gathers old new start front s body → IsSaid (verdict s.phase body false) result → ReadsBody old new start front result
 reads_whole old new start front s body result g said =
-    (g.more, false, g.heard, subst (λ v. IsSaid v result) (says old new start front s body g false) said)
-
--- the answer once the wire gave its end
-pub reads_end : (old new new' : Option Talk) (start : BodyState) (front : List ℕ) (s : BodyState) (body : List ℕ) (result : Result (List ℕ) HttpFault)
-    → Gathers old new start front s body → Hears new [] true new' → IsSaid (verdict s.phase body true) result → ReadsBody old new' start front result
-reads_end old new new' start front s body result g ended said = (
-  g.more,
-  true,
-  subst (λ xs. Hears old xs true new') (append-nil g.more) (hears_more old new new' g.more [] true g.heard ended),
-  subst (λ v. IsSaid v result) (says old new start front s body g true) said,
-)
+    (g.more, false, g.heard, subst (λ v. IsSaid v result) (says old new start front s body g false) said, λ is. cc)
 
 -- before its end a body says nothing
 nothing_said : (p : Phase) (body : List ℕ) → is_final p ≡ false → verdict p body false ≡ None
@@ -81,18 +71,29 @@ nothing_said Done body is = cc
 nothing_said TooLong body is = cc
 nothing_said Bad body is = cc
 
+-- the answer once the wire gave its end
+pub reads_end : (old new new' : Option Talk) (start : BodyState) (front : List ℕ) (s : BodyState) (body : List ℕ) (result : Result (List ℕ) HttpFault)
+    → Gathers old new start front s body → Hears new [] true new' → is_final s.phase ≡ false → IsSaid (verdict s.phase body true) result → ReadsBody old new' start front result
+reads_end old new new' start front s body result g ended is said = (
+  g.more,
+  true,
+  subst (λ xs. Hears old xs true new') (append-nil g.more) (hears_more old new new' g.more [] true g.heard ended),
+  subst (λ v. IsSaid v result) (says old new start front s body g true) said,
+  λ end. sym (says old new start front s body g false) ∙ nothing_said s.phase body is,
+)
+
 -- the answer where a read failed
 pub reads_fault : (old new new' : Option Talk) (start : BodyState) (front : List ℕ) (s : BodyState) (body : List ℕ)
     → Gathers old new start front s body → new' ≡ new → is_final s.phase ≡ false → ReadsBody old new' start front (Err (Wire ReadFault))
 reads_fault old new new' start front s body g same is =
-    (g.more, false, subst (λ t. Hears old g.more false t) (sym same) g.heard, sym (says old new start front s body g false) ∙ nothing_said s.phase body is)
+    (g.more, false, subst (λ t. Hears old g.more false t) (sym same) g.heard, sym (says old new start front s body g false) ∙ nothing_said s.phase body is, λ is. cc)
 
 -- memory ran out before a byte was received
 pub reads_no_memory : (t : Option Talk) (start : BodyState) (front : List ℕ) → ReadsBody t t start front (Err NoMemory)
-reads_no_memory t start front = ([], false, hears_nothing t, tt)
+reads_no_memory t start front = ([], false, hears_nothing t, tt, λ is. cc)
 
 -- memory ran out over a piece that was received
 pub reads_piece_no_memory : (old new new' : Option Talk) (start : BodyState) (front : List ℕ) (s : BodyState) (body piece : List ℕ)
     → Gathers old new start front s body → Hears new piece false new' → ReadsBody old new' start front (Err NoMemory)
 reads_piece_no_memory old new new' start front s body piece g heard =
-    (g.more ++ piece, false, hears_more old new new' g.more piece false g.heard heard, tt)
+    (g.more ++ piece, false, hears_more old new new' g.more piece false g.heard heard, tt, λ is. cc)

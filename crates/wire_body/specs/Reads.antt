@@ -1,5 +1,5 @@
 -- A body that is read from a wire.
-use Rattle.std.specs.Prelude.{ℕ, ◌≡◌, Bool, List, ◌++◌, Option, Some, None, Result, Ok, Err, ⊤}
+use Rattle.std.specs.Prelude.{ℕ, ◌≡◌, Bool, true, false, List, ◌++◌, Option, Some, None, Result, Ok, Err, ⊤}
 use Rattle.outside.specs.declared.faults.WireFault.{WireFault}
 use Rattle.outside.specs.declared.faults.WireFault.TheVariants.{ReadFault, WriteFault}
 use Rattle.outside.specs.Wires.{Talk, Hears}
@@ -21,7 +21,13 @@ IsSaid said (Ok a) = said ≡ Some (Ok a)
 IsSaid said (Err NoMemory) = ⊤
 IsSaid said (Err (Wire fault)) = FaultSaid said fault
 
--- Bytes were received, with the end or without, and the answer is what they say behind those that came before
+-- The end was asked for only where the bytes said nothing yet.
+abbrev pub Stops : {A : Type 0} → Option (Result A WireFault) → Bool → Type 0
+Stops said ended = ended ≡ true → said ≡ None
+
+-- Bytes were received, with the end or without, and the answer is what they say behind those that came before.
+-- No end was asked for behind a body that was whole without it
 abbrev pub ReadsBody : Option Talk → Option Talk → BodyState → List ℕ → Result (List ℕ) HttpFault → Type 0
 ReadsBody old new start front result =
     (more : List ℕ) × (ended : Bool) × Hears old more ended new × IsSaid (body_says start (front ++ more) ended) result
+    × Stops (body_says start (front ++ more) false) ended

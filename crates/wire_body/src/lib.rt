@@ -14,8 +14,6 @@ mod feeds;
 mod reads;
 mod states;
 mod steps;
-#[cfg(test)]
-mod tests;
 
 pub use faults::HttpFault;
 pub use reads::read_body;

@@ -12,7 +12,7 @@ use Rattle.http_wire.specs.Messages.{ReadsMessage}
 use Rattle.http_wire.specs.Kinds.{responses}
 use Rattle.http_write.specs.Texts.{request_bytes}
 use Rattle.http_write.specs.Writes.{Writes}
-use Rattle.wopi_dial.specs.Dials.{IsFresh, with_talk}
+use Rattle.wopi_dial.specs.Dials.{DialTold, dialled, hung_up, IsFresh, with_talk}
 use Rattle.wopi_client.specs.declared.asks.Ask.{Ask}
 use Rattle.wopi_client.specs.declared.asks.Told.{Told}
 use Rattle.wopi_client.specs.Asks.{request_for}
@@ -76,26 +76,31 @@ or_false true = refl
 or_false false = refl
 
 -- a talk over a new wire is one that the dial tells
-pub told_talk : (talks : Option (List Talk)) (old new : Option Talk) (talk : Talk) → IsFresh talks old → new ≡ option_map (after_talk talk) old
-    → with_talk talks new ≡ option_map (λ told. told ++ talk ∷ []) talks
+pub told_talk : (told : Option DialTold) (old new : Option Talk) (talk : Talk) → IsFresh told old → new ≡ option_map (after_talk talk) old
+    → with_talk told new ≡ option_map (hung_up talk) told
 told_talk None old new talk fresh is = refl
 told_talk (Some told) old new talk fresh is =
     let e : new ≡ Some (after_talk talk silence) = is ∙ ap (option_map (after_talk talk)) fresh in
-    ap (option_map (λ t. told ++ t ∷ [])) e ∙ (λ i. Some (told ++ (record talk { ended = or_false talk.ended i }) ∷ []))
+    ap (option_map (λ one. hung_up one told)) e ∙ (λ i. Some (hung_up (record talk { ended = or_false talk.ended i }) told))
+
+-- a dial and then a talk that is hung up
+dialled_and_hung : (talk : Talk) (told : Option DialTold) → option_map (hung_up talk) (option_map dialled told) ≡ option_map (λ t. hung_up talk (dialled t)) told
+dialled_and_hung talk None = refl
+dialled_and_hung talk (Some told) = refl
 
 -- one talk was had
-pub asked_once : (host : List ℕ) (ask : Ask) (talks talks1 talks2 : Option (List Talk)) (old new : Option Talk) (result : Result Told StoreFault)
-    → talks1 ≡ talks → IsFresh talks1 old → TalksOver host ask old new result → talks2 ≡ with_talk talks1 new → AskedOnce host ask talks talks2 result
-asked_once host ask talks talks1 talks2 old new result same fresh (talk, is, talked) hung =
-    inl (talk, hung ∙ told_talk talks1 old new talk fresh is ∙ ap (option_map (λ told. told ++ talk ∷ [])) same, talked)
+pub asked_once : (host : List ℕ) (ask : Ask) (told told1 told2 : Option DialTold) (old new : Option Talk) (result : Result Told StoreFault)
+    → told1 ≡ option_map dialled told → IsFresh told1 old → TalksOver host ask old new result → told2 ≡ with_talk told1 new → AskedOnce host ask told told2 result
+asked_once host ask told told1 told2 old new result same fresh (talk, is, talked) hung =
+    inl (talk, hung ∙ told_talk told1 old new talk fresh is ∙ (ap (option_map (hung_up talk)) same ∙ dialled_and_hung talk told), talked)
 
--- one talk and then another
-pub then_two : (host : List ℕ) (one two : Ask) (talks mid talks2 : Option (List Talk)) (first last : Result Told StoreFault) (told : Told)
-    → first ≡ Ok told → AskedOnce host one talks mid first → AskedOnce host two mid talks2 last → AskedTwice host one two talks talks2 last
-then_two host one two talks mid talks2 first last told is had next =
-    (mid, first, had, subst (λ f. Then f last (AskedOnce host two mid talks2 last) talks2 mid) (sym is) next)
+-- one talk and then another, by a store that names the same host in both
+pub then_two : (host later : List ℕ) (one two : Ask) (told1 mid told2 : Option DialTold) (told : Told) (last : Result Told StoreFault)
+    → later ≡ host → AskedOnce host one told1 mid (Ok told) → AskedOnce later two mid told2 last → AskedTwice host one two told1 told2 last
+then_two host later one two told1 mid told2 told last same had next =
+    (mid, Ok told, had, subst (λ h. AskedOnce h two mid told2 last) same next)
 
 -- a talk that was refused, and no other
-pub then_none : (host : List ℕ) (one two : Ask) (talks mid : Option (List Talk)) (fault : StoreFault)
-    → AskedOnce host one talks mid (Err fault) → AskedTwice host one two talks mid (Err fault)
-then_none host one two talks mid fault had = (mid, Err fault, had, (refl, refl))
+pub then_none : (host : List ℕ) (one two : Ask) (told mid : Option DialTold) (fault : StoreFault)
+    → AskedOnce host one told mid (Err fault) → AskedTwice host one two told mid (Err fault)
+then_none host one two told mid fault had = (mid, Err fault, had, (refl, refl))

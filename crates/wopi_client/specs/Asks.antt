@@ -1,5 +1,5 @@
 -- What the client asks and what it reads in the host's response.
-use Rattle.std.specs.Prelude.{ℕ, ◌≡◌, ◌≢◌, false, List, [], ◌++◌, Some, None, Result, Ok, Err, option_and_then, unwrap_or, codes, IsUtf8}
+use Rattle.std.specs.Prelude.{ℕ, ◌≡◌, ◌≢◌, ◌⊎◌, false, List, [], ◌++◌, Some, None, Result, Ok, Err, option_and_then, unwrap_or, codes, IsUtf8}
 use Rattle.serde_json.specs.Read.{read}
 use Rattle.http_message.specs.declared.Method.TheVariants.{Get as GetMethod, Post}
 use Rattle.http_message.specs.declared.Request.{Request}
@@ -76,6 +76,19 @@ WantsInfo (Asks.Put file token content) = ⊥
 abbrev pub IsOther : ℕ → Type 0
 IsOther status = (status ≢ 200) × (status ≢ 401) × (status ≢ 404) × (status ≢ 409)
 
+-- what a 200 tells besides that it was done
+abbrev pub TellsMore : Ask → Type 0
+TellsMore (Asks.Check file token) = Unit {0}
+TellsMore (Asks.Get file token) = Unit {0}
+TellsMore (Asks.Lock file token) = ⊥
+TellsMore (Asks.Refresh file token) = ⊥
+TellsMore (Asks.Unlock file token) = ⊥
+TellsMore (Asks.Put file token content) = ⊥
+
+-- memory is taken for the id of a conflict and for what a 200 tells; so a put that was answered with 200 is done
+abbrev pub TakesMemory : Ask → ℕ → Type 0
+TakesMemory ask status = (status ≡ 409) ⊎ ((status ≡ 200) × TellsMore ask)
+
 -- what a refusal says of the response
 abbrev pub Refuses : Ask → Response → StoreFault → Type 0
 Refuses ask r (Conflict id) = (r.status ≡ 409) × (id ≡ unwrap_or r.lock [])
@@ -84,7 +97,7 @@ Refuses ask r Missing = r.status ≡ 404
 Refuses ask r (BadAnswer status) = (r.status ≡ status) × IsOther status
 Refuses ask r (Wire fault) = ⊥
 Refuses ask r BadJson = (r.status ≡ 200) × WantsInfo ask × IsNoInfo r.body
-Refuses ask r Memory = Unit {0}
+Refuses ask r Memory = TakesMemory ask r.status
 
 -- what the client reads in the response
 abbrev pub Understands : Ask → Response → Result Told StoreFault → Type 0

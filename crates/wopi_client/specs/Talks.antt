@@ -12,6 +12,7 @@ use Rattle.wire_body.specs.declared.faults.HttpFault.TheVariants as Http
 use Rattle.http_wire.specs.Messages.{IsAnswer}
 use Rattle.http_wire.specs.Kinds.{responses}
 use Rattle.http_write.specs.Texts.{request_bytes}
+use Rattle.wopi_dial.specs.Dials.{DialTold, dialled, hung_up}
 use Rattle.wopi_client.specs.declared.asks.Ask.{Ask}
 use Rattle.wopi_client.specs.declared.asks.Told.{Told}
 use Rattle.wopi_client.specs.Asks.{request_for, Understands}
@@ -65,14 +66,14 @@ TalksOver host ask old new result = (talk : Talk) × (new ≡ option_map (after_
 abbrev pub HearsOver : Ask → Option Talk → Option Talk → Result Told StoreFault → Type 0
 HearsOver ask old new result = (received : List ℕ) × (ended : Bool) × Hears old received ended new × Heard ask received ended result
 
--- what is answered where no wire was dialled
+-- what is answered where no wire was had
 abbrev pub IsNotDialled : Result Told StoreFault → Type 0
 IsNotDialled (Err (Wire ReadFault)) = ⊤
 IsNotDialled (Err Memory) = ⊤
 IsNotDialled _ = ⊥
 
--- one talk was had, or none where none was dialled
-abbrev pub AskedOnce : List ℕ → Ask → Option (List Talk) → Option (List Talk) → Result Told StoreFault → Type 0
+-- one dial and one talk that was hung up; or one dial that gave no wire; or none, where memory was refused before
+abbrev pub AskedOnce : List ℕ → Ask → Option DialTold → Option DialTold → Result Told StoreFault → Type 0
 AskedOnce host ask old new result =
-    ((talk : Talk) × (new ≡ option_map (λ told. told ++ talk ∷ []) old) × Talked host ask talk result)
-    ⊎ ((new ≡ old) × IsNotDialled result)
+    ((talk : Talk) × (new ≡ option_map (λ told. hung_up talk (dialled told)) old) × Talked host ask talk result)
+    ⊎ (((new ≡ option_map dialled old) × IsNotDialled result) ⊎ ((new ≡ old) × (result ≡ Err Memory)))

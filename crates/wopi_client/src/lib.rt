@@ -7,12 +7,8 @@
 #![tactic(auto)]
 
 mod asks;
-#[cfg(test)]
-mod store_tests;
 mod stores;
 mod talks;
-#[cfg(test)]
-mod tests;
 
 pub use asks::{Ask, Told, request_of, understand};
 pub use stores::WopiStore;

@@ -1,7 +1,7 @@
 //! A store behind a dial.
 ghost use Rattle.std.specs.Prelude.{◌≡◌, IfOk, true, Option, List, None};
 ghost use Rattle.outside.specs.Causes.{HasCause};
-ghost use Rattle.outside.specs.Stores.{store_failed, StoreCall, IsReceiptOf, Calls};
+ghost use Rattle.outside.specs.Stores.{store_failed, IsReceiptOf};
 ghost use Rattle.wopi_client.specs.Talks.{AskedOnce};
 ghost use Rattle.wopi_client.specs.Stores.{info_told, content_told, done_told, IsInfo, IsContent};
 
@@ -26,7 +26,7 @@ fn info_of(answer: Result<Told, StoreFault>) -> Result<Admission, StoreFault>
 {
     match answer {
         Ok(Told::Info(admission)) => Ok(admission),
-        Ok(_) => Err(StoreFault::Memory),
+        Ok(_) => unreachable!(),
         Err(fault) => Err(fault),
     }
 }
@@ -37,7 +37,7 @@ fn content_of(answer: Result<Told, StoreFault>) -> Result<Bytes, StoreFault>
 {
     match answer {
         Ok(Told::Content(content)) => Ok(content),
-        Ok(_) => Err(StoreFault::Memory),
+        Ok(_) => unreachable!(),
         Err(fault) => Err(fault),
     }
 }
@@ -164,7 +164,7 @@ impl<D: Dial> WopiStore<D> {
         file: &FileId,
         token: &Token,
     ) -> Result<Admission, StoreFault>
-        ensures asked { AskedOnce (host_of self.old) (Ask.Check file.now token.now) (D.talks (dial_of self.old)) (D.talks (dial_of self.new)) (info_told result) }
+        ensures asked { AskedOnce (host_of self.old) (Ask.Check file.now token.now) (D.told (dial_of self.old)) (D.told (dial_of self.new)) (info_told result) }
         ensures host { host_of self.new ≡ host_of self.old }
         ensures away { D.away (dial_of self.new) ≡ D.away (dial_of self.old) }
         ensures cause { HasCause (D.faults (dial_of self.old)) (D.faults (dial_of self.new)) (store_failed result ≡ true) }
@@ -182,7 +182,7 @@ impl<D: Dial> WopiStore<D> {
         file: &FileId,
         token: &Token,
     ) -> Result<Bytes, StoreFault>
-        ensures asked { AskedOnce (host_of self.old) (Ask.Get file.now token.now) (D.talks (dial_of self.old)) (D.talks (dial_of self.new)) (content_told result) }
+        ensures asked { AskedOnce (host_of self.old) (Ask.Get file.now token.now) (D.told (dial_of self.old)) (D.told (dial_of self.new)) (content_told result) }
         ensures host { host_of self.new ≡ host_of self.old }
         ensures away { D.away (dial_of self.new) ≡ D.away (dial_of self.old) }
         ensures cause { HasCause (D.faults (dial_of self.old)) (D.faults (dial_of self.new)) (store_failed result ≡ true) }
@@ -195,7 +195,7 @@ impl<D: Dial> WopiStore<D> {
 
     /// Locks the file, in one talk.
     pub fn lock(&mut self, alloc: Global, file: &FileId, token: &Token) -> Result<(), StoreFault>
-        ensures asked { AskedOnce (host_of self.old) (Ask.Lock file.now token.now) (D.talks (dial_of self.old)) (D.talks (dial_of self.new)) (done_told result) }
+        ensures asked { AskedOnce (host_of self.old) (Ask.Lock file.now token.now) (D.told (dial_of self.old)) (D.told (dial_of self.new)) (done_told result) }
         ensures host { host_of self.new ≡ host_of self.old }
         ensures away { D.away (dial_of self.new) ≡ D.away (dial_of self.old) }
         ensures cause { HasCause (D.faults (dial_of self.old)) (D.faults (dial_of self.new)) (store_failed result ≡ true) }
@@ -213,7 +213,7 @@ impl<D: Dial> WopiStore<D> {
         file: &FileId,
         token: &Token,
     ) -> Result<(), StoreFault>
-        ensures asked { AskedOnce (host_of self.old) (Ask.Refresh file.now token.now) (D.talks (dial_of self.old)) (D.talks (dial_of self.new)) (done_told result) }
+        ensures asked { AskedOnce (host_of self.old) (Ask.Refresh file.now token.now) (D.told (dial_of self.old)) (D.told (dial_of self.new)) (done_told result) }
         ensures host { host_of self.new ≡ host_of self.old }
         ensures away { D.away (dial_of self.new) ≡ D.away (dial_of self.old) }
         ensures cause { HasCause (D.faults (dial_of self.old)) (D.faults (dial_of self.new)) (store_failed result ≡ true) }
@@ -226,7 +226,7 @@ impl<D: Dial> WopiStore<D> {
 
     /// Takes the lock away, in one talk.
     pub fn unlock(&mut self, alloc: Global, file: &FileId, token: &Token) -> Result<(), StoreFault>
-        ensures asked { AskedOnce (host_of self.old) (Ask.Unlock file.now token.now) (D.talks (dial_of self.old)) (D.talks (dial_of self.new)) (done_told result) }
+        ensures asked { AskedOnce (host_of self.old) (Ask.Unlock file.now token.now) (D.told (dial_of self.old)) (D.told (dial_of self.new)) (done_told result) }
         ensures host { host_of self.new ≡ host_of self.old }
         ensures away { D.away (dial_of self.new) ≡ D.away (dial_of self.old) }
         ensures cause { HasCause (D.faults (dial_of self.old)) (D.faults (dial_of self.new)) (store_failed result ≡ true) }
@@ -240,7 +240,7 @@ impl<D: Dial> WopiStore<D> {
     /// Puts the content, in one talk. A receipt comes only where the host answered 200 to the request
     /// that carried exactly this content.
     pub fn put_file(&mut self, alloc: Global, errand: &Errand) -> Result<Receipt, StoreFault>
-        ensures asked { AskedOnce (host_of self.old) (Ask.Put errand.now.file errand.now.token errand.now.content) (D.talks (dial_of self.old)) (D.talks (dial_of self.new)) (done_told result) }
+        ensures asked { AskedOnce (host_of self.old) (Ask.Put errand.now.file errand.now.token errand.now.content) (D.told (dial_of self.old)) (D.told (dial_of self.new)) (done_told result) }
         ensures receipt { IfOk result (IsReceiptOf errand.now) }
         ensures host { host_of self.new ≡ host_of self.old }
         ensures away { D.away (dial_of self.new) ≡ D.away (dial_of self.old) }
@@ -273,7 +273,7 @@ impl<D: Dial> WopiStore<D> {
         file: &FileId,
         token: &Token,
     ) -> Result<Bytes, StoreFault>
-        ensures asked { AskedTwice (host_of self.old) (Ask.Lock file.now token.now) (Ask.Get file.now token.now) (D.talks (dial_of self.old)) (D.talks (dial_of self.new)) (content_told result) }
+        ensures asked { AskedTwice (host_of self.old) (Ask.Lock file.now token.now) (Ask.Get file.now token.now) (D.told (dial_of self.old)) (D.told (dial_of self.new)) (content_told result) }
         ensures host { host_of self.new ≡ host_of self.old }
         ensures away { D.away (dial_of self.new) ≡ D.away (dial_of self.old) }
         ensures cause { HasCause (D.faults (dial_of self.old)) (D.faults (dial_of self.new)) (store_failed result ≡ true) }
@@ -286,7 +286,7 @@ impl<D: Dial> WopiStore<D> {
 
     // Puts the content, behind a lock of the file.
     fn lock_and_put(&mut self, alloc: Global, errand: &Errand) -> Result<Receipt, StoreFault>
-        ensures asked { PutsBy (host_of self.old) errand.now (D.talks (dial_of self.old)) (D.talks (dial_of self.new)) (done_told result) }
+        ensures asked { PutsBy (host_of self.old) errand.now (D.told (dial_of self.old)) (D.told (dial_of self.new)) (done_told result) }
         ensures receipt { IfOk result (IsReceiptOf errand.now) }
         ensures host { host_of self.new ≡ host_of self.old }
         ensures away { D.away (dial_of self.new) ≡ D.away (dial_of self.old) }
@@ -302,7 +302,7 @@ impl<D: Dial> WopiStore<D> {
 impl<D: Dial> Store for WopiStore<D> {
     ghost use Rattle.std.specs.Prelude.{◌≡◌, IfOk, true, None, Option, List};
     ghost use Rattle.outside.specs.Causes.{HasCause};
-    ghost use Rattle.outside.specs.Stores.{StoreCall, Admits, Fetches, Puts, Refreshes, Unlocks, Calls, store_failed, IsReceiptOf};
+    ghost use Rattle.outside.specs.Stores.{StoreCall, Admits, Fetches, Puts, Refreshes, Unlocks, Tells, store_failed, IsReceiptOf};
     ghost use Rattle.wopi_client.specs.Talks.{AskedOnce};
     ghost use Rattle.wopi_client.specs.Stores.{info_told, content_told, done_told, FetchesBy, PutsBy};
     ghost use Rattle.wopi_client.specs.Kept.{dial_of, host_of};
@@ -317,11 +317,11 @@ impl<D: Dial> Store for WopiStore<D> {
         file: &FileId,
         token: &Token,
     ) -> Result<Admission, StoreFault>
-        ensures told { Calls None (StoreCall.Admits file.now token.now result) None }
+        ensures told { Tells None (StoreCall.Admits file.now token.now result) result None }
         ensures cause { HasCause (D.faults (dial_of self.old)) (D.faults (dial_of self.new)) (store_failed result ≡ true) }
 
         // It checks the file.
-        ensures asked { AskedOnce (host_of self.old) (Ask.Check file.now token.now) (D.talks (dial_of self.old)) (D.talks (dial_of self.new)) (info_told result) }
+        ensures asked { AskedOnce (host_of self.old) (Ask.Check file.now token.now) (D.told (dial_of self.old)) (D.told (dial_of self.new)) (info_told result) }
         ensures host { host_of self.new ≡ host_of self.old }
     {
         self.check_file_info(alloc, file, token)
@@ -334,11 +334,11 @@ impl<D: Dial> Store for WopiStore<D> {
         token: &Token,
         write: bool,
     ) -> Result<Bytes, StoreFault>
-        ensures told { Calls None (StoreCall.Fetches file.now token.now write result) None }
+        ensures told { Tells None (StoreCall.Fetches file.now token.now write result) result None }
         ensures cause { HasCause (D.faults (dial_of self.old)) (D.faults (dial_of self.new)) (store_failed result ≡ true) }
 
         // It locks the file where it is to be written, and gets it.
-        ensures asked { FetchesBy (host_of self.old) file.now token.now write (D.talks (dial_of self.old)) (D.talks (dial_of self.new)) (content_told result) }
+        ensures asked { FetchesBy (host_of self.old) file.now token.now write (D.told (dial_of self.old)) (D.told (dial_of self.new)) (content_told result) }
         ensures host { host_of self.new ≡ host_of self.old }
     {
         if write {
@@ -349,34 +349,34 @@ impl<D: Dial> Store for WopiStore<D> {
     }
 
     fn put(&mut self, alloc: Global, errand: &Errand) -> Result<Receipt, StoreFault>
-        ensures told { Calls None (StoreCall.Puts errand.now result) None }
+        ensures told { Tells None (StoreCall.Puts errand.now result) result None }
         ensures receipt { IfOk result (IsReceiptOf errand.now) }
         ensures cause { HasCause (D.faults (dial_of self.old)) (D.faults (dial_of self.new)) (store_failed result ≡ true) }
 
         // It locks the file and puts the content.
-        ensures asked { PutsBy (host_of self.old) errand.now (D.talks (dial_of self.old)) (D.talks (dial_of self.new)) (done_told result) }
+        ensures asked { PutsBy (host_of self.old) errand.now (D.told (dial_of self.old)) (D.told (dial_of self.new)) (done_told result) }
         ensures host { host_of self.new ≡ host_of self.old }
     {
         self.lock_and_put(alloc, errand)
     }
 
     fn refresh(&mut self, alloc: Global, file: &FileId, token: &Token) -> Result<(), StoreFault>
-        ensures told { Calls None (StoreCall.Refreshes file.now token.now result) None }
+        ensures told { Tells None (StoreCall.Refreshes file.now token.now result) result None }
         ensures cause { HasCause (D.faults (dial_of self.old)) (D.faults (dial_of self.new)) (store_failed result ≡ true) }
 
         // It refreshes the lock.
-        ensures asked { AskedOnce (host_of self.old) (Ask.Refresh file.now token.now) (D.talks (dial_of self.old)) (D.talks (dial_of self.new)) (done_told result) }
+        ensures asked { AskedOnce (host_of self.old) (Ask.Refresh file.now token.now) (D.told (dial_of self.old)) (D.told (dial_of self.new)) (done_told result) }
         ensures host { host_of self.new ≡ host_of self.old }
     {
         self.refresh_lock(alloc, file, token)
     }
 
     fn unlock(&mut self, alloc: Global, file: &FileId, token: &Token) -> Result<(), StoreFault>
-        ensures told { Calls None (StoreCall.Unlocks file.now token.now result) None }
+        ensures told { Tells None (StoreCall.Unlocks file.now token.now result) result None }
         ensures cause { HasCause (D.faults (dial_of self.old)) (D.faults (dial_of self.new)) (store_failed result ≡ true) }
 
         // It takes the lock away.
-        ensures asked { AskedOnce (host_of self.old) (Ask.Unlock file.now token.now) (D.talks (dial_of self.old)) (D.talks (dial_of self.new)) (done_told result) }
+        ensures asked { AskedOnce (host_of self.old) (Ask.Unlock file.now token.now) (D.told (dial_of self.old)) (D.told (dial_of self.new)) (done_told result) }
         ensures host { host_of self.new ≡ host_of self.old }
     {
         self.unlock(alloc, file, token)

@@ -64,7 +64,7 @@ pub(crate) fn ask_once<D: Dial>(
     host: &str,
     ask: &Ask,
 ) -> Result<Told, StoreFault>
-    ensures asked { AskedOnce host.now ask.now (D.talks dial.old) (D.talks dial.new) result }
+    ensures asked { AskedOnce host.now ask.now (D.told dial.old) (D.told dial.new) result }
     ensures away { D.away dial.new ≡ D.away dial.old }
     ensures cause { HasCause (D.faults dial.old) (D.faults dial.new) (store_failed result ≡ true) }
 {

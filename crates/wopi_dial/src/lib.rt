@@ -6,8 +6,6 @@
 
 mod dials;
 mod memory;
-#[cfg(test)]
-mod tests;
 
 pub use dials::{Dial, DialFault};
 pub use memory::MemoryDial;

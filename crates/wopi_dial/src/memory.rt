@@ -16,6 +16,7 @@ pub struct MemoryDial {
     hung: Vec<MemoryWire>,
     pace: usize,
     room: usize,
+    dials: u64,
     faults: u64,
 }
 
@@ -27,7 +28,7 @@ impl Model for MemoryDial {
 
     ghost view = { λ d. record {
       waiting = drop d.dialled d.answers.items;
-      talks = map (λ w. w.talk) d.hung.items;
+      told = record { talks = map (λ w. w.talk) d.hung.items; dials = d.dials };
       away = d.dialled - length d.hung.items;
       pace = d.pace;
       room = d.room;
@@ -45,7 +46,7 @@ impl MemoryDial {
     /// `room` bytes to be sent.
     pub fn new(alloc: Global, pace: usize, room: usize) -> MemoryDial
         requires { 0 < pace }
-        ensures { result ≡ record { waiting = []; talks = []; away = 0; pace = pace; room = room; faults = 0 } }
+        ensures { result ≡ record { waiting = []; told = record { talks = []; dials = 0 }; away = 0; pace = pace; room = room; faults = 0 } }
     {
         MemoryDial {
             answers: Vec::new(alloc),
@@ -53,6 +54,7 @@ impl MemoryDial {
             hung: Vec::new(alloc),
             pace,
             room,
+            dials: 0,
             faults: 0,
         }
     }
@@ -71,9 +73,16 @@ impl MemoryDial {
 
     /// The wires that were hung up, in order.
     pub fn hung(&self) -> &[MemoryWire]
-        ensures { map (λ w. w.talk) result.now ≡ self.now.talks }
+        ensures { map (λ w. w.talk) result.now ≡ self.now.told.talks }
     {
         &self.hung
+    }
+
+    /// How often it was dialled, also where no wire was had; at 2^64 - 1 the count stands still.
+    pub fn dials(&self) -> u64
+        ensures { result ≡ self.now.told.dials }
+    {
+        self.dials
     }
 
     /// How many dials failed and wires had faults; at 2^64 - 1 it stands still.
@@ -90,17 +99,17 @@ impl Dial for MemoryDial {
     ghost use Rattle.std.specs.Prelude.{◌≡◌, ◌<◌, ◌+◌, ◌-◌, ◌^◌, [], ◌∷◌, Some, Err, IfOk, OnOk, OnErr, true, min};
     ghost use Rattle.outside.specs.Causes.{HasCause};
     ghost use Rattle.outside.specs.Wires.{silence};
-    ghost use Rattle.wopi_dial.specs.Dials.{IsFresh, with_talk, dial_failed};
+    ghost use Rattle.wopi_dial.specs.Dials.{dialled, IsFresh, with_talk, dial_failed};
 
-    ghost talks = { λ d. Some d.talks };
+    ghost told = { λ d. Some d.told };
 
     ghost away = { λ d. d.away };
 
     ghost faults = { λ d. d.faults };
 
     fn dial(&mut self, alloc: Global) -> Result<MemoryWire, DialFault>
-        ensures talks { Some self.new.talks ≡ Some self.old.talks }
-        ensures fresh { IfOk result (λ wire. IsFresh (Some self.new.talks) (Some wire.talk)) }
+        ensures told { Some self.new.told ≡ Some (dialled self.old.told) }
+        ensures fresh { IfOk result (λ wire. IsFresh (Some self.new.told) (Some wire.talk)) }
         ensures sound { IfOk result (λ wire. wire.faults ≡ 0) }
         ensures out { OnOk result (self.new.away ≡ self.old.away + 1) }
         ensures none { OnErr result (self.new.away ≡ self.old.away) }
@@ -112,6 +121,7 @@ impl Dial for MemoryDial {
         ensures fails { self.old.waiting ≡ [] → result ≡ Err DialFault.Failed }
         ensures failed { result ≡ Err DialFault.Failed → self.old.waiting ≡ [] }
     {
+        self.dials = self.dials.saturating_add(1);
         if self.dialled == self.answers.len() {
             self.faults = self.faults.saturating_add(1);
             return Err(DialFault::Failed);

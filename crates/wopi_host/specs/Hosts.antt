@@ -1,10 +1,10 @@
 -- The answer of the host, and what stands behind it.
-use Rattle.std.specs.Prelude.{ℕ, ◌≡◌, Bool, true, false, ◌==◌, List, [], length, Option, Some, None, unwrap_or, if◌then◌else◌, codes, bytes_eq, ◌⊎◌}
+use Rattle.std.specs.Prelude.{ℕ, ◌≡◌, Bool, true, false, not, ◌&&◌, ◌==◌, List, [], length, Option, Some, None, unwrap_or, if◌then◌else◌, codes, bytes_eq, nat_eq, ◌⊎◌, Result, Ok, Err}
 use Rattle.std.specs.Fmt.{decimal}
 use Rattle.http_message.specs.declared.Request.{Request}
 use Rattle.http_message.specs.declared.Response.{Response}
-use Rattle.outside.specs.Causes.{Rose}
 use Rattle.wopi_info.specs.Infos.{info_text}
+use Rattle.http_message.specs.Statuses.{is_bodiless}
 use Rattle.wopi_host.specs.declared.table.Verdict.{Verdict}
 use Rattle.wopi_host.specs.declared.table.Verdict.TheVariants.{Refused, Info, Content, Sets, Removes, TellsLock, Replaces, Conflict}
 use Rattle.wopi_host.specs.declared.marks.Marks.{Marks}
@@ -116,10 +116,30 @@ Answers Nothing right files1 pages1 r now response files2 pages2 = (response ≡
 Answers (TheFile file) right files1 pages1 r now response files2 pages2 = AnswersAt false right file files1 pages1 r now response files2 pages2
 Answers (TheContents file) right files1 pages1 r now response files2 pages2 = AnswersAt true right file files1 pages1 r now response files2 pages2
 
--- the answer 500, which comes only where the keeper's count of faults rose, and changes nothing
-pub record Fails
-    (faults1 : ℕ) (files1 : Option Files) (pages1 : Pages) (response : Response)
-    (faults2 : ℕ) (files2 : Option Files) (pages2 : Pages) : Type 0 where
-  pub told : response ≡ bare 500
-  pub rose : Rose faults1 faults2
-  pub unchanged : Unchanged files1 pages1 files2 pages2
+-- a status that is not that of a failed keeper, and that has a body
+abbrev pub is_ordinary : ℕ → Bool
+is_ordinary status = not (nat_eq status 500) && not (is_bodiless status)
+
+-- the same of a response
+abbrev pub IsOrdinary : Response → Type 0
+IsOrdinary r = is_ordinary r.status ≡ true
+
+-- what a host has: the files of its keeper, where they are told, and the marks of each
+pub record HostAt : Type 0 where
+  pub files : Option Files
+  pub pages : Pages
+
+-- nothing of it changed
+abbrev pub HostStays : HostAt → HostAt → Type 0
+HostStays old new = Unchanged old.files old.pages new.files new.pages
+
+-- a request is answered at a moment: by the table, or with 500, which changes nothing
+abbrev pub HostAnswers : HostAt → Request → ℕ → Response → HostAt → Type 0
+HostAnswers old r now response new =
+    Answers (named_at (path_of r.target)) (target_right r.target) old.files old.pages r now response new.files new.pages
+    ⊎ ((response ≡ bare 500) × HostStays old new)
+
+-- the answer is 500, which the table never gives
+abbrev pub host_failed : {E : Type 0} → Result Response E → Bool
+host_failed (Ok r) = nat_eq r.status 500
+host_failed (Err e) = false

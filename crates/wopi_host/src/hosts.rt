@@ -1,12 +1,12 @@
 //! The host.
 ghost use Rattle.std.specs.Prelude.{◌≡◌, ◌<◌, ◌+◌, ◌^◌, ◌⊎◌, ◌==◌, min, ℕ, List, [], length, Option, Some, None, true, false, IsTrue, IfOk, OnOk, OnErr, option_map, unwrap_or};
 ghost use Rattle.std.specs.Option.{option_copied};
-ghost use Rattle.outside.specs.Causes.{HasCause, Rose};
+ghost use Rattle.outside.specs.Causes.{HasCause};
 ghost use Rattle.wopi_host.specs.Targets.{named_at, path_of, target_right};
 ghost use Rattle.wopi_host.specs.Table.{operation_of, by_operation, is_lock_text};
 ghost use Rattle.wopi_host.specs.Keepers.{Files, IsKept, Keeps, SameFiles, keeper_failed};
 ghost use Rattle.wopi_host.specs.Marks.{marks_in, counting, marks_after, lock_end, lock_of, unmarked};
-ghost use Rattle.wopi_host.specs.Hosts.{Pages, SamePages, WritesPage, verdict_at, response_for, bare, FilesAfter, AnswersAt, Answers, Unchanged, Fails};
+ghost use Rattle.wopi_host.specs.Hosts.{Pages, SamePages, WritesPage, verdict_at, response_for, bare, FilesAfter, AnswersAt, Answers, IsOrdinary};
 
 use crate::answers::{bare_response, respond, text_or_empty};
 use crate::keepers::{Keeper, KeeperFault};
@@ -281,6 +281,7 @@ fn answer_request<Q: Keeper>(
     ensures ok { IfOk result (λ r. Answers (named_at (path_of request.now.target)) (target_right request.now.target) (Q.files keeper.old) (marks_in book.old) request.now now r (Q.files keeper.new) (marks_in book.new)) }
     ensures files { OnErr result (SameFiles (Q.files keeper.old) (Q.files keeper.new)) }
     ensures pages { OnErr result (SamePages (marks_in book.old) (marks_in book.new)) }
+    ensures ordinary { IfOk result IsOrdinary }
     ensures cause { HasCause (Q.faults keeper.old) (Q.faults keeper.new) (keeper_failed result ≡ true) }
 {
     let target = request.target.get().as_bytes();
@@ -294,7 +295,9 @@ fn answer_request<Q: Keeper>(
 
 impl<Q: Keeper + Drop> Host<Q> {
     ghost use Rattle.std.specs.Prelude.{◌≡◌, ◌⊎◌, ℕ, List, Some, IfOk, OnOk, OnErr, unwrap_or, None, IsTrue};
-    ghost use Rattle.wopi_host.specs.Kept.{keeper_of, pages_of};
+    ghost use Rattle.http_message.specs.Statuses.{HasDueBody};
+    ghost use Rattle.wopi_host.specs.Hosts.{HostAnswers, HostStays, host_failed};
+    ghost use Rattle.wopi_host.specs.Kept.{keeper_of, pages_of, host_at};
 
     /// A host over the keeper: no file has a lock and each has 0 puts.
     pub fn new(alloc: Global, keeper: Q) -> Result<Host<Q>, Memory>
@@ -308,12 +311,15 @@ impl<Q: Keeper + Drop> Host<Q> {
     }
 
     /// The response to a request at this moment, in seconds. Where the keeper fails it is a bare 500 and
-    /// nothing changes. Where no memory is left no content, lock or count of puts changes.
+    /// nothing changes; no other answer has that status. There is a body only where the status has one. Where no memory is left no content, lock or count of puts changes.
+    #[tactic(auto, using(crate::proofs::Statuses::ordinary_cause, crate::proofs::Statuses::ordinary_body))]
     pub fn answer(&mut self, alloc: Global, request: &Request, now: u64) -> Result<Response, Memory>
-        ensures ok { IfOk result (λ r.
-            (Answers (named_at (path_of request.now.target)) (target_right request.now.target) (Q.files (keeper_of self.old)) (pages_of self.old) request.now now r (Q.files (keeper_of self.new)) (pages_of self.new))
-            ⊎ (Fails (Q.faults (keeper_of self.old)) (Q.files (keeper_of self.old)) (pages_of self.old) r (Q.faults (keeper_of self.new)) (Q.files (keeper_of self.new)) (pages_of self.new))) }
-        ensures err { OnErr result (Unchanged (Q.files (keeper_of self.old)) (pages_of self.old) (Q.files (keeper_of self.new)) (pages_of self.new)) }
+        ensures ok { IfOk result (λ r. HostAnswers (host_at Q.files self.old) request.now now r (host_at Q.files self.new)) }
+        ensures err { OnErr result (HostStays (host_at Q.files self.old) (host_at Q.files self.new)) }
+
+        // The status is 500 exactly where the keeper failed.
+        ensures cause { HasCause (Q.faults (keeper_of self.old)) (Q.faults (keeper_of self.new)) (host_failed result ≡ true) }
+        ensures body { IfOk result HasDueBody }
     {
         match answer_request(alloc, &mut self.keeper, &mut self.book, request, now) {
             Ok(response) => Ok(response),

@@ -7,16 +7,17 @@
 //! - `marks`: the locks and counts of puts.
 //! - `answers`: the response to a verdict.
 //! - `hosts`: the host, which joins them.
+//! - `laws`: there is one answer.
 #![tactic(auto)]
 
 mod answers;
 mod hosts;
 mod keepers;
+mod laws;
 mod marks;
 mod table;
 mod targets;
-#[cfg(test)]
-mod tests;
 
 pub use hosts::{Host, LOCK_SECONDS};
 pub use keepers::{Keeper, KeeperFault, MemoryKeeper};
+pub use laws::answers_are_one;
