@@ -1,3 +1,2 @@
-pub mod ShownStatuses
 pub mod ServedWires
 pub mod Runs

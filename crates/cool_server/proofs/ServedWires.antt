@@ -1,5 +1,5 @@
 -- One wire is served.
-use Rattle.std.proofs.Common.{ℕ, ◌≡◌, ◌<◌, Option, Result, Ok, Err, refl, ap, arith}
+use Rattle.std.proofs.Common.{ℕ, ◌≡◌, true, nat_eq, ◌<◌, Option, Result, Ok, Err, refl, ap, arith}
 use Rattle.outside.specs.Causes.{HasCause, Rose}
 use Rattle.outside.specs.Wires.{Talk, Says}
 use Rattle.net_traits.specs.Clocks.{Ticks}
@@ -13,7 +13,7 @@ use Rattle.http_wire.specs.Messages.{ReadsMessage}
 use Rattle.http_wire.specs.Kinds.{requests}
 use Rattle.http_write.specs.Texts.{response_bytes}
 use Rattle.http_write.specs.Writes.{Writes}
-use Rattle.wopi_host.specs.Hosts.{Unchanged}
+use Rattle.wopi_host.specs.Hosts.{HostAnswers, HostStays}
 use Rattle.edge.specs.Edges.{IsNew}
 use Rattle.cool_server.specs.Hosting.{Hosting, Responds, Serves, Refused, Answered, CutShort, Starves, Reading, Thinking, Writing}
 
@@ -37,18 +37,18 @@ refused a start talk before after fault new reads cause =
 
 -- what stands behind a request that was answered and whose response was written, or not
 pub written : (a b : Hosting) (request : Request) (now : ℕ) (response : Response) (start asked talk : Option Talk) (before after : ℕ)
-    → IsNew start → ReadsMessage requests start asked (Ok request) → Ticks a.moments now b.moments → Responds a request now response b
+    → IsNew start → ReadsMessage requests start asked (Ok request) → Ticks a.moments now b.moments → HostAnswers a.host request now response b.host → HasCause a.faults b.faults (nat_eq response.status 500 ≡ true)
     → Says asked (response_bytes response) talk
     → Serves a (record { talk = talk; faults = after }) b
-written a b request now response start asked talk before after new reads ticks responds says =
-    Answered response asked (record { request = request; now = now; asks = record { start = start; new = new; reads = reads }; ticks = ticks; responds = responds }) says
+written a b request now response start asked talk before after new reads ticks answers answered says =
+    Answered response asked (record { request = request; now = now; asks = record { start = start; new = new; reads = reads }; ticks = ticks; responds = record { answers = answers; cause = answered } }) says
 
 pub cut_short : (a b : Hosting) (request : Request) (now : ℕ) (response : Response) (fault : WireFault) (start asked talk : Option Talk) (before after : ℕ)
-    → IsNew start → ReadsMessage requests start asked (Ok request) → Ticks a.moments now b.moments → Responds a request now response b
+    → IsNew start → ReadsMessage requests start asked (Ok request) → Ticks a.moments now b.moments → HostAnswers a.host request now response b.host → HasCause a.faults b.faults (nat_eq response.status 500 ≡ true)
     → Writes asked (response_bytes response) (Err (Wire fault)) talk → HasCause before after (unwritten (Wire fault) ≡ unwritten (Wire WriteFault))
     → Serves a (record { talk = talk; faults = after }) b
-cut_short a b request now response fault start asked talk before after new reads ticks responds writes cause =
-    CutShort response asked (record { request = request; now = now; asks = record { start = start; new = new; reads = reads }; ticks = ticks; responds = responds })
+cut_short a b request now response fault start asked talk before after new reads ticks answers answered writes cause =
+    CutShort response asked (record { request = request; now = now; asks = record { start = start; new = new; reads = reads }; ticks = ticks; responds = record { answers = answers; cause = answered } })
     writes.1
     (risen before after (cause.failed (ap (λ (f : WireFault). unwritten (Wire f)) writes.0)))
 
@@ -58,14 +58,14 @@ pub starved_reading : (a : Hosting) (start talk : Option Talk) (faults : ℕ)
 starved_reading a start talk faults new reads = Reading start new reads refl
 
 pub starved_thinking : (a b : Hosting) (request : Request) (now : ℕ) (start talk : Option Talk) (faults : ℕ)
-    → IsNew start → ReadsMessage requests start talk (Ok request) → Ticks a.moments now b.moments → Unchanged a.files a.pages b.files b.pages
+    → IsNew start → ReadsMessage requests start talk (Ok request) → Ticks a.moments now b.moments → HostStays a.host b.host → b.faults ≡ a.faults
     → Starves a (record { talk = talk; faults = faults }) b
-starved_thinking a b request now start talk faults new reads ticks same =
-    Thinking request now (record { start = start; new = new; reads = reads }) ticks same
+starved_thinking a b request now start talk faults new reads ticks same sound =
+    Thinking request now (record { start = start; new = new; reads = reads }) ticks same sound
 
 pub starved_writing : (a b : Hosting) (request : Request) (now : ℕ) (response : Response) (start asked talk : Option Talk) (faults : ℕ)
-    → IsNew start → ReadsMessage requests start asked (Ok request) → Ticks a.moments now b.moments → Responds a request now response b
+    → IsNew start → ReadsMessage requests start asked (Ok request) → Ticks a.moments now b.moments → HostAnswers a.host request now response b.host → HasCause a.faults b.faults (nat_eq response.status 500 ≡ true)
     → Writes asked (response_bytes response) (Err NoMemory) talk
     → Starves a (record { talk = talk; faults = faults }) b
-starved_writing a b request now response start asked talk faults new reads ticks responds writes =
-    Writing response asked (record { request = request; now = now; asks = record { start = start; new = new; reads = reads }; ticks = ticks; responds = responds }) writes
+starved_writing a b request now response start asked talk faults new reads ticks answers answered writes =
+    Writing response asked (record { request = request; now = now; asks = record { start = start; new = new; reads = reads }; ticks = ticks; responds = record { answers = answers; cause = answered } }) writes

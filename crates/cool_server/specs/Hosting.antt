@@ -1,6 +1,7 @@
 -- What the program `host` does: one request over each wire, answered by the host's table.
-use Rattle.std.specs.Prelude.{ℕ, ◌≡◌, ◌⊎◌, ◌<◌, ◌≤◌, List, [], ◌∷◌, ◌++◌, length, Option, Some, None, Result, Ok, Err}
+use Rattle.std.specs.Prelude.{ℕ, ◌≡◌, ◌⊎◌, nat_eq, true, ◌<◌, ◌≤◌, List, [], ◌∷◌, ◌++◌, length, Option, Some, None, Result, Ok, Err}
 use Rattle.std.specs.Option.{option_map}
+use Rattle.outside.specs.Causes.{HasCause}
 use Rattle.outside.specs.Wires.{Talk, Says}
 use Rattle.net_traits.specs.Clocks.{Ticks}
 use Rattle.outside.specs.declared.faults.WireFault.{WireFault}
@@ -12,35 +13,33 @@ use Rattle.http_wire.specs.Messages.{ReadsMessage}
 use Rattle.http_wire.specs.Kinds.{requests}
 use Rattle.http_write.specs.Texts.{response_bytes}
 use Rattle.http_write.specs.Writes.{SaysSome}
-use Rattle.wopi_host.specs.Targets.{named_at, path_of, target_right}
 use Rattle.wopi_host.specs.Keepers.{Files}
 use Rattle.wopi_host.specs.Marks.{unmarked}
-use Rattle.wopi_host.specs.Hosts.{Pages, Answers, Unchanged, Fails}
-use Rattle.wopi_host.specs.Kept.{keeper_of, pages_of}
+use Rattle.wopi_host.specs.Hosts.{HostAt, HostAnswers, HostStays}
+use Rattle.wopi_host.specs.Kept.{keeper_of, host_at}
 use Rattle.wopi_host.specs.declared.hosts.Host.{Host}
 use Rattle.server_words.specs.Hosts.{HostWords, host_said}
 use Rattle.edge.specs.declared.EdgeFault.{EdgeFault}
 use Rattle.edge.specs.declared.EdgeFault.TheVariants.{Net, Memory as EdgeMemory}
 use Rattle.edge.specs.Edges.{EdgeTold, WireEnd, Stock, IsNew, keeper_given, keeper_closed}
 
--- What the host stands on: its keeper's files and count of faults, the locks and puts of each file, and
--- the moments to come of its clock.
+-- What the host stands on: its files, locks and puts, its keeper's count of faults, and the moments to
+-- come of its clock.
 pub record Hosting : Type 0 where
-  pub files : Option Files
+  pub host : HostAt
   pub faults : ℕ
-  pub pages : Pages
   pub moments : Option (List ℕ)
 
--- The host's answer to a request at a moment: by its table, or 500 where a call of the keeper failed.
-abbrev pub Responds : Hosting → Request → ℕ → Response → Hosting → Type 0
-Responds a request now response b =
-    (Answers (named_at (path_of request.target)) (target_right request.target) a.files a.pages request now response b.files b.pages)
-    ⊎ (Fails a.faults a.files a.pages response b.faults b.files b.pages)
+-- The host's answer to a request at a moment: by its table, or 500, exactly where a call of the keeper
+-- failed.
+pub record Responds (a : Hosting) (request : Request) (now : ℕ) (response : Response) (b : Hosting) : Type 0 where
+  pub answers : HostAnswers a.host request now response b.host
+  pub cause : HasCause a.faults b.faults (nat_eq response.status 500 ≡ true)
 
 -- The same of a host and a clock.
 abbrev pub hosting : {Q C : Type 0} → (Q → Option Files) → (Q → ℕ) → (C → Option (List ℕ)) → Host Q → C → Hosting
 hosting files faults moments host clock =
-    record { files = files (keeper_of host); faults = faults (keeper_of host); pages = pages_of host; moments = moments clock }
+    record { host = host_at files host; faults = faults (keeper_of host); moments = moments clock }
 
 -- What a wire tells when it is closed.
 abbrev pub wire_end : {W : Type 0} → (W → Option Talk) → (W → ℕ) → W → WireEnd
@@ -75,7 +74,7 @@ pub data Serves (a : Hosting) (wire : WireEnd) (b : Hosting) : Type 0 where
 pub data Starves (a : Hosting) (wire : WireEnd) (b : Hosting) : Type 0 where
   Reading : (start : Option Talk) → IsNew start → ReadsMessage requests start wire.talk (Err NoMemory) → b ≡ a → Starves a wire b
   Thinking : (request : Request) (now : ℕ) → Asks request wire.talk → Ticks a.moments now b.moments
-      → Unchanged a.files a.pages b.files b.pages → Starves a wire b
+      → HostStays a.host b.host → b.faults ≡ a.faults → Starves a wire b
   Writing : (response : Response) (asked : Option Talk) → Answering a response asked b → wire.talk ≡ asked → Starves a wire b
 
 -- The wires are served in order.
@@ -126,10 +125,10 @@ pub record Hosts (said : HostWords) (t1 : EdgeTold) (status : ℕ) (t2 : EdgeTol
   pub start : Hosting
   pub end : Hosting
   pub between : EdgeTold
-  pub stocked : (start.files ≡ first.files) × (start.faults ≡ first.faults)
-  pub unlocked : (id : List ℕ) → start.pages id ≡ unmarked
+  pub stocked : (start.host.files ≡ first.files) × (start.faults ≡ first.faults)
+  pub unlocked : (id : List ℕ) → start.host.pages id ≡ unmarked
   pub clock : start.moments ≡ t1.moments
-  pub kept : (last.files ≡ end.files) × (last.faults ≡ end.faults)
+  pub kept : (last.files ≡ end.host.files) × (last.faults ≡ end.faults)
   pub served : ServesWires said.requests (keeper_given first t1) start status between end
   pub closed : t2 ≡ keeper_closed last between
 
