@@ -1,5 +1,5 @@
 -- What the words of `host` say.
-use Rattle.std.specs.Prelude.{ℕ, ◌≡◌, ◌^◌, ◌-◌, true, List, [], ◌∷◌, Option, Some, None, option_and_then, option_map, codes}
+use Rattle.std.specs.Prelude.{ℕ, Bool, true, ◌&&◌, nat_lt, nat_eq, List, [], ◌∷◌, length, slice_index, Option, Some, None, option_and_then, option_map, codes, if◌then◌else◌}
 use Rattle.clap.specs.Words.{App, Rule, Text, Kinds, Row, first_of, matches_of, fault_of, new_app, new_rule, with_rule}
 use Rattle.clap.specs.declared.builder.action.ArgAction.TheVariants.{Set}
 use Rattle.cool_base.specs.Numbers.{number}
@@ -26,14 +26,22 @@ pub record HostWords : Type 0 where
 abbrev pub said_of : GivenWords → HostWords
 said_of w = record { port = w.port; folder = w.folder.now; requests = w.requests }
 
--- a port is 1 to 20 digits with a value of at most 65,535
-abbrev pub port_of : Text → Option ℕ
-port_of = number 20 65535
+-- whether the text begins with a zero that it could leave out
+abbrev pub has_leading_zero : Text → Bool
+has_leading_zero text = nat_lt 1 (length text) && nat_eq (slice_index text 0) 48
 
--- a count is 1 to 20 digits with a value below 2^32; it is 0 where it isn't there
+-- a number among the words: decimal digits, without a sign or a leading zero, with a value of at most `limit`
+abbrev pub word_number : ℕ → Text → Option ℕ
+word_number limit text = if has_leading_zero text then None else number 20 limit text
+
+-- a port is a number of at most 65,535
+abbrev pub port_of : Text → Option ℕ
+port_of = word_number 65535
+
+-- a count is a number below 2^32; it is 0 where it isn't there
 abbrev pub count_of : Option Text → Option ℕ
 count_of None = Some 0
-count_of (Some text) = number 20 4294967295 text
+count_of (Some text) = word_number 4294967295 text
 
 -- what the values say
 abbrev pub values_say : Option Text → Option Text → Option Text → Option HostWords

@@ -2,7 +2,7 @@
 ghost use Rattle.std.specs.Prelude.{◌≡◌, ◌≢◌, ◌≤◌, List, ℕ, [], Option, Some, None, Ok, Err, IfOk, IfErr, OnErr, map, string_bytes, option_map};
 ghost use Rattle.clap.specs.Words.{App, FailsBy, app_of, fault_of, found_of, rows_of, matches_of, first_value, kind_of};
 ghost use Rattle.std.specs.Option.{option_copied};
-ghost use Rattle.server_words.specs.Hosts.{host_app, port_of, count_of, values_say, said_of, host_said};
+ghost use Rattle.server_words.specs.Hosts.{host_app, word_number, port_of, count_of, values_say, said_of, host_said};
 
 use clap::error::ErrorKind;
 use clap::{Arg, ArgAction, ArgMatches, Command, Error};
@@ -57,10 +57,21 @@ pub(crate) fn host_matches<'a>(alloc: Global, words: &'a [String]) -> Result<Arg
     host_command(alloc)?.try_get_matches_from(words)
 }
 
+// The number of decimal digits without a sign or a leading zero, where it is at most `limit`.
+fn read_word_number(text: &str, limit: u64) -> Option<u64>
+    ensures { result ≡ word_number limit text.now }
+{
+    let digits = text.as_bytes();
+    if digits.len() > 1 && digits[0] == b'0' {
+        return None;
+    }
+    read_number(digits, 20, limit)
+}
+
 fn read_port(text: &str) -> Option<u16>
     ensures { result ≡ port_of text.now }
 {
-    match read_number(text.as_bytes(), 20, 65_535) {
+    match read_word_number(text, 65_535) {
         Some(port) => Some(port as u16),
         None => None,
     }
@@ -70,7 +81,7 @@ fn read_count(text: Option<&str>) -> Option<u64>
     ensures { result ≡ count_of (option_copied text.entry) }
 {
     match text {
-        Some(text) => read_number(text.as_bytes(), 20, 4_294_967_295),
+        Some(text) => read_word_number(text, 4_294_967_295),
         None => Some(0),
     }
 }

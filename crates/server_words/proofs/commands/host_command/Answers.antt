@@ -1,7 +1,7 @@
-use Rattle.std.proofs.Common.{rules, ap, ap₂, refl, codes, true, Option, Some, None, [], ◌∷◌, ◌≡◌, ◌∙◌, IfOk}
+use Rattle.std.proofs.Common.{rules, ap₂, codes, ◌≡◌, ◌∙◌}
 use Rattle.std.proofs.lemmas.Result.{IfOk-weaker}
-use Rattle.clap.specs.Words.{App, app_of, rule_of, with_rule}
-use Rattle.server_words.specs.Hosts.{needed, optional, host_app}
+use Rattle.clap.specs.Words.{rule_of, with_rule}
+use Rattle.server_words.specs.Hosts.{needed, optional}
 use Rattle.server_words.proofs.commands.host_command.Goals as goal
 
 pub returns : goal.returns

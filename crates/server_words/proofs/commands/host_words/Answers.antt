@@ -1,4 +1,4 @@
-use Rattle.std.proofs.Common.{rules, ◌≡◌, ◌∙◌, ap, sym, option_map}
+use Rattle.std.proofs.Common.{◌∙◌, ap, sym, option_map}
 use Rattle.clap.specs.Words.{found_of}
 use Rattle.server_words.specs.Hosts.{said_of}
 use Rattle.server_words.proofs.Said.{only_refused, refused_by_parser, said_by_values}
