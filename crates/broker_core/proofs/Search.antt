@@ -3,7 +3,7 @@ use Rattle.std.proofs.Common.{◌≡◌, ℕ, zero, suc, ◌+◌, ◌/◌, ◌<�
 use Rattle.std.specs.Prelude.{◌⊎◌}
 use Rattle.std.specs.List.{list_any, AllByRecursion}
 use Rattle.std.specs.Ordering.{is_lt}
-use Rattle.cool_base.specs.Points.{Rectangle, Extent, cut_of}
+use Rattle.cool_base.specs.Points.{Rectangle, Extent, intersection_of}
 use Rattle.kit_trait.specs.Rules.{Rules}
 use Rattle.kit_trait.specs.declared.values.Input.{Input}
 use Rattle.tile_key.specs.Places.{Place, Scale, key_order, same_place}
@@ -146,7 +146,7 @@ rows_part part zoom first columns top (suc n) =
 pub visible_part : (part : ℕ) (zoom : Scale) (area : Rectangle) (size : Extent) → AllByRecursion (λ (key : Place). key.part ≡ part) (visible_keys part zoom area size)
 unfolding visible_keys
 visible_part part zoom area size =
-    let seen : Rectangle = cut_of area (whole_part size) in
+    let seen : Rectangle = intersection_of area (whole_part size) in
     rows_part part zoom (seen.x / zoom.twip_w) (tiles_to seen.x (seen.x + seen.w) zoom.twip_w) (seen.y / zoom.twip_h) (tiles_to seen.y (seen.y + seen.h) zoom.twip_h)
 
 -- what holds of all keys holds of them in order

@@ -30,8 +30,8 @@ abbrev pub do_meet : Rectangle → Rectangle → Bool
 do_meet a b = nat_lt (max a.x b.x) (min (a.x + a.w) (b.x + b.w)) && nat_lt (max a.y b.y) (min (a.y + a.h) (b.y + b.h))
 
 -- the common points by corners, all zero where there is none
-abbrev pub cut_of : Rectangle → Rectangle → Rectangle
-cut_of a b =
+abbrev pub intersection_of : Rectangle → Rectangle → Rectangle
+intersection_of a b =
     if do_meet a b then record {
       x = max a.x b.x;
       y = max a.y b.y;

@@ -1,7 +1,7 @@
 //! Rectangles as sets of points, and sizes.
 
 ghost use Rattle.std.specs.Prelude.{◌≡◌, ℕ, ◌&&◌, ◌↔◌, IsTrue};
-ghost use Rattle.cool_base.specs.Points.{has_point, Meet, do_meet, cut_of, nowhere};
+ghost use Rattle.cool_base.specs.Points.{has_point, Meet, do_meet, intersection_of, nowhere};
 
 use std::marker::Model;
 
@@ -57,10 +57,10 @@ pub fn meets(a: &Rect, b: &Rect) -> bool
 }
 
 /// The common points of the two rectangles, all zero where there is none.
-pub fn cut(a: &Rect, b: &Rect) -> Rect
+pub fn intersection(a: &Rect, b: &Rect) -> Rect
     ensures points { (px py : ℕ) → has_point result px py ≡ (has_point a.now px py && has_point b.now px py) }
     ensures none { ¬ Meet a.now b.now → result ≡ nowhere }
-    ensures corners { result ≡ cut_of a.now b.now }
+    ensures corners { result ≡ intersection_of a.now b.now }
 {
     if !meets(a, b) {
         return Rect {

@@ -6,7 +6,7 @@ ghost use Rattle.cool_words.specs.Words.{cut_at, name_and_value, is_named, value
 
 /// What stands before the first such byte of the line and what stands behind it; None where it has
 /// no such byte.
-pub fn cut(line: &[u8], byte: u8) -> Option<(&[u8], &[u8])>
+pub fn split_once(line: &[u8], byte: u8) -> Option<(&[u8], &[u8])>
     ensures { option_map (λ sides. (sides.0.now, sides.1.now)) result ≡ cut_at byte line.now }
 {
     match place_of(line, byte) {

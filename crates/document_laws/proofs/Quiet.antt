@@ -3,7 +3,7 @@ use Rattle.std.proofs.Common.{◌≡◌, ℕ, ◌+◌, ◌/◌, ◌<◌, ◌≤�
 use Rattle.std.specs.Prelude.{◌⊎◌, nat_lt}
 use Rattle.std.specs.List.{AllByRecursion}
 use Rattle.std.proofs.lemmas.Bool.{cases_Bool, cases_lt, or_parts}
-use Rattle.cool_base.specs.Points.{Rectangle, Extent, cut_of}
+use Rattle.cool_base.specs.Points.{Rectangle, Extent, intersection_of}
 use Rattle.kit_trait.specs.Rules.{Rules, doc, shown}
 use Rattle.kit_trait.specs.declared.values.Input.{Input}
 use Rattle.tile_key.specs.Places.{Place, Scale, is_zoom, same_place}
@@ -33,7 +33,7 @@ pub seen_points : (part : ℕ) (zoom : Scale) (area : Rectangle) (size : Extent)
 unfolding visible_keys
 seen_points part zoom area size passes =
     let z : IsSized zoom = zoom_facts zoom passes in
-    let s : Rectangle = cut_of area (whole_part size) in
+    let s : Rectangle = intersection_of area (whole_part size) in
     all_by HasPoint (visible_keys part zoom area size)
     (rows_all HasPoint part zoom (s.x / zoom.twip_w) (tiles_to s.x (s.x + s.w) zoom.twip_w) (s.y / zoom.twip_h) (tiles_to s.y (s.y + s.h) zoom.twip_h)
     (λ i j across down. (omega (arith, z.twip_w_low), omega (arith, z.twip_h_low))))

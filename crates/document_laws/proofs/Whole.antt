@@ -4,7 +4,7 @@ use Rattle.std.specs.Prelude.{nat_lt}
 use Rattle.std.specs.List.{AllByRecursion}
 use Rattle.std.proofs.lemmas.Bool.{or_parts, ltb-true}
 use Rattle.std.proofs.lemmas.Bool.Decides.{nat_tests}
-use Rattle.cool_base.specs.Points.{Rectangle, Extent, do_meet, cut_of, nowhere}
+use Rattle.cool_base.specs.Points.{Rectangle, Extent, do_meet, intersection_of, nowhere}
 use Rattle.kit_trait.specs.Rules.{Rules}
 use Rattle.kit_trait.specs.declared.values.Input.{Input}
 use Rattle.tile_key.specs.Places.{Place}
@@ -34,7 +34,7 @@ no_meet size = grind (arith, nat_tests)
 sees_none : (size : Extent) → length (visible_keys 0 first_zoom no_area size) ≡ 0
 unfolding visible_keys rows_of
 sees_none size =
-    let cut : cut_of no_area (whole_part size) ≡ nowhere = rw (no_meet size) refl in
+    let cut : intersection_of no_area (whole_part size) ≡ nowhere = rw (no_meet size) refl in
     ap (λ (s : Rectangle). length (rows_of 0 first_zoom (s.x / 3840) (tiles_to s.x (s.x + s.w) 3840) (s.y / 3840) (tiles_to s.y (s.y + s.h) 3840))) cut
 
 -- jobs, all but the one with a ticket

@@ -2,8 +2,8 @@
 use anyhow::Result;
 use cool_base::{FileId, Memory, Token, read_u31, read_u64};
 use cool_words::{
-    count_named, count_parts, cut, first_value, is_command, is_list_31, is_list_64, list_31,
-    list_64, name_and_value, percent_decoded, push_list_31, push_list_64, words,
+    count_named, count_parts, first_value, is_command, is_list_31, is_list_64, list_31, list_64,
+    name_and_value, percent_decoded, push_list_31, push_list_64, words,
 };
 
 /// Prints the number that the text is, in both sizes.
@@ -44,7 +44,7 @@ pub fn show_words(rt: &HostRuntime, text: &str) -> Result<()> {
 pub fn show_parts(rt: &HostRuntime, text: &str) -> Result<()> {
     let sides = name_and_value(text);
     println!(rt; "  {sides:?}")?;
-    let Some((front, behind)) = cut(text.as_bytes(), b'=') else {
+    let Some((front, behind)) = split_once(text.as_bytes(), b'=') else {
         return Ok(());
     };
     show_bytes(rt, front)?;

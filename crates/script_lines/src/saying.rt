@@ -6,7 +6,7 @@ ghost use Rattle.cool_base.specs.Words.{file_id};
 ghost use Rattle.script_lines.specs.Grammar.{split_word, counted, link_of, linked, rights_of, file_part, open_part, say_part, keys_part, leave_part, turn_part, worded_by, line_of, is_comment};
 
 use cool_base::{FileId, ListOf, Memory, read_number};
-use cool_words::cut;
+use cool_words::split_once;
 use std::alloc::Global;
 
 /// What a line says.
@@ -44,7 +44,7 @@ pub fn read_line(alloc: Global, line: &[u8]) -> Result<Option<ScriptLine>, Memor
     if line == b"settle".as_slice() {
         return Ok(Some(ScriptLine::Settle));
     }
-    let Some((word, rest)) = cut(line, b' ') else {
+    let Some((word, rest)) = split_once(line, b' ') else {
         return Ok(None);
     };
     worded(alloc, word, rest)
@@ -97,7 +97,7 @@ fn counted(word: &[u8], limit: u32) -> Option<u32>
 fn linked(rest: &[u8]) -> Option<(u32, &[u8])>
     ensures { option_map (λ part. (part.0, part.1.now)) result ≡ linked rest.now }
 {
-    let (word, rest) = cut(rest, b' ')?;
+    let (word, rest) = split_once(rest, b' ')?;
     let link = counted(word, 65_535)?;
     Some((link, rest))
 }
@@ -153,7 +153,7 @@ fn leave_part(rest: &[u8]) -> Option<ScriptLine>
 fn turn_part(rest: &[u8]) -> Option<ScriptLine>
     ensures { result ≡ turn_part (split_word rest.now) }
 {
-    let (poll, count) = cut(rest, b' ')?;
+    let (poll, count) = split_once(rest, b' ')?;
     if read_number(poll, 70_000, 0).is_none() {
         return None;
     }
@@ -170,7 +170,7 @@ fn open_part(rest: &[u8]) -> Option<ScriptLine>
 fn file_part(link: u32, rest: &[u8]) -> Option<ScriptLine>
     ensures { result ≡ file_part link (split_word rest.now) }
 {
-    let (file, rights) = cut(rest, b' ')?;
+    let (file, rights) = split_once(rest, b' ')?;
     let writes = rights_of(rights)?;
     Some(ScriptLine::Open(link, file_of(file)?, writes))
 }

@@ -6,7 +6,7 @@ ghost use Rattle.sheet_cells.specs.Cells.{IsCell, IsRaw, is_raw, is_raw_byte};
 ghost use Rattle.sheet_file.specs.Lines.{has_leading_zero, plain_number, some_parts, parts_in, parts_of_text, place_named, raw_written, cell_by, cell_of_text};
 
 use cool_base::read_number;
-use cool_words::cut;
+use cool_words::split_once;
 use sheet_calc::is_raw;
 use sheet_cells::{CellRef, read_ref};
 
@@ -16,7 +16,7 @@ pub fn parts_of_text(text: &[u8]) -> Option<u32>
     ensures some { IfSome result (λ parts. 1 ≤ parts) }
     ensures few { IfSome result (λ parts. parts ≤ 16) }
 {
-    let (word, rest) = cut(text, b' ')?;
+    let (word, rest) = split_once(text, b' ')?;
     if word != b"parts".as_slice() {
         return None;
     }
@@ -34,8 +34,8 @@ fn some_parts(count: u32) -> Option<u32>
 pub fn cell_of_text(parts: u32, text: &[u8]) -> Option<(CellRef, &str)>
     ensures { option_map (λ cell. (cell.0, cell.1.now)) result ≡ cell_of_text parts text.now }
 {
-    let (part, behind) = cut(text, b' ')?;
-    let (name, raw) = cut(behind, b' ')?;
+    let (part, behind) = split_once(text, b' ')?;
+    let (name, raw) = split_once(behind, b' ')?;
     let part = plain_number(part, parts.saturating_sub(1))?;
     let (row, col) = place_named(name)?;
     let raw = raw_written(raw)?;

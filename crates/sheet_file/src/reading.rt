@@ -9,7 +9,7 @@ ghost use Rattle.sheet_file.specs.BookFile.{comes_after, with_lines, parts_read,
 
 use crate::fault::BookFault;
 use crate::lines::{cell_of_text, parts_of_text};
-use cool_words::cut;
+use cool_words::split_once;
 use sheet_calc::{Book, BookDraft};
 use sheet_cells::CellRef;
 use std::alloc::Global;
@@ -36,7 +36,7 @@ fn read_draft(alloc: Global, file: &[u8]) -> Result<BookDraft, BookFault>
     if file.is_empty() {
         return Ok(BookDraft::new(alloc, 1)?);
     }
-    match cut(file, b'\n') {
+    match split_once(file, b'\n') {
         Some((line, behind)) => behind_header(alloc, line, behind),
         None => Err(cut_off(file)),
     }
@@ -72,7 +72,7 @@ fn read_parts(alloc: Global, lines: &[u8]) -> Result<BookDraft, BookFault>
     ensures ok { IfOk result (λ draft. parts_read (lines_of lines.now) ≡ Ok draft) }
     ensures refused { IfErr result (λ fault. fault ≢ Memory → parts_read (lines_of lines.now) ≡ Err fault) }
 {
-    let Some((text, behind)) = cut(lines, b'\n') else {
+    let Some((text, behind)) = split_once(lines, b'\n') else {
         return Err(BookFault::BadLine(2));
     };
     let Some(parts) = parts_of_text(text) else {
@@ -125,7 +125,7 @@ fn next_cell<'a>(parts: u32, lines: &'a [u8]) -> Option<(CellRef, &'a str, &'a [
     ensures cell { IfSome result (λ found. IsCell parts found.0) }
     ensures valid { IfSome result (λ found. IsRaw found.1.now) }
 {
-    let (text, behind) = cut(lines, b'\n')?;
+    let (text, behind) = split_once(lines, b'\n')?;
     let (at, raw) = cell_of_text(parts, text)?;
     Some((at, raw, behind))
 }

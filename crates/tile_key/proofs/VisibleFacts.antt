@@ -4,7 +4,7 @@ use Rattle.std.proofs.lemmas.Bool.{cases_Bool}
 use Rattle.std.proofs.lemmas.Bool.Decides.{nat_tests}
 use Rattle.std.proofs.Math.Nat.{mul-mod_left}
 use Rattle.std.proofs.lemmas.Nat.{div-add-mod'}
-use Rattle.cool_base.specs.Points.{Rectangle, Extent, has_point, do_meet, cut_of, nowhere}
+use Rattle.cool_base.specs.Points.{Rectangle, Extent, has_point, do_meet, intersection_of, nowhere}
 use Rattle.tile_key.specs.Places.{Place, Scale, IsKey, is_zoom, rect_of_place}
 use Rattle.tile_key.specs.Visible.{IsVisible, IsBefore, tile_in, rows_of, tiles_to, visible_keys, whole_part, is_too_large}
 use Rattle.tile_key.proofs.GridFacts.{rows_all, rows_has, rows_length, rows_order}
@@ -83,7 +83,7 @@ record IsCut (a : Rectangle) (size : Extent) (s : Rectangle) : Type 0 where
   to : (px py : ℕ) → IsIn s px py → IsIn a px py × IsIn (whole_part size) px py
   from : (px py : ℕ) → IsIn a px py → IsIn (whole_part size) px py → IsIn s px py
 
-cut_meets : (a : Rectangle) (size : Extent) → do_meet a (whole_part size) ≡ true → IsCut a size (cut_of a (whole_part size))
+cut_meets : (a : Rectangle) (size : Extent) → do_meet a (whole_part size) ≡ true → IsCut a size (intersection_of a (whole_part size))
 cut_meets a size meets =
     let m : MeetBy a (whole_part size) = meet_by a (whole_part size) meets in
     rw meets (record {
@@ -97,7 +97,7 @@ cut_meets a size meets =
 common_meets : (a b : Rectangle) (px py : ℕ) → IsIn a px py → IsIn b px py → do_meet a b ≡ true
 common_meets a b px py i j = by_meet a b (record { across = omega (arith, i.left, i.right, j.left, j.right); down = omega (arith, i.upper, i.lower, j.upper, j.lower) })
 
-cut_misses : (a : Rectangle) (size : Extent) → do_meet a (whole_part size) ≡ false → IsCut a size (cut_of a (whole_part size))
+cut_misses : (a : Rectangle) (size : Extent) → do_meet a (whole_part size) ≡ false → IsCut a size (intersection_of a (whole_part size))
 cut_misses a size misses =
     rw misses (record {
       right = omega arith;
@@ -107,7 +107,7 @@ cut_misses a size misses =
       from = λ px py i j. absurd (let e : do_meet a (whole_part size) ≡ true = common_meets a (whole_part size) px py i j in cc);
     })
 
-cut_is : (a : Rectangle) (size : Extent) → IsCut a size (cut_of a (whole_part size))
+cut_is : (a : Rectangle) (size : Extent) → IsCut a size (intersection_of a (whole_part size))
 cut_is a size = elim (cases_Bool (do_meet a (whole_part size))) [ inl meets ↦ cut_meets a size meets | inr misses ↦ cut_misses a size misses ]
 
 -- a multiple is its quotient as often
@@ -138,7 +138,7 @@ tile_seen part zoom a size s i j passes is w h some_w some_h across down =
 pub visible_all : (part : ℕ) (zoom : Scale) (a : Rectangle) (size : Extent) → is_zoom zoom ≡ true → size.w < 2 ^ 31 → size.h < 2 ^ 31 → All (IsVisible part zoom a size) (visible_keys part zoom a size)
 unfolding visible_keys
 visible_all part zoom a size passes w h =
-    let s : Rectangle = cut_of a (whole_part size) in
+    let s : Rectangle = intersection_of a (whole_part size) in
     let is : IsCut a size s = cut_is a size in
     let z : IsSized zoom = zoom_facts zoom passes in
     rows_all (IsVisible part zoom a size) part zoom (s.x / zoom.twip_w) (tiles_to s.x (s.x + s.w) zoom.twip_w) (s.y / zoom.twip_h) (tiles_to s.y (s.y + s.h) zoom.twip_h)
@@ -151,7 +151,7 @@ visible_all part zoom a size passes w h =
 pub visible_has : (part : ℕ) (zoom : Scale) (a : Rectangle) (size : Extent) (key : Place) → is_zoom zoom ≡ true → IsVisible part zoom a size key → Contains (visible_keys part zoom a size) key
 unfolding visible_keys
 visible_has part zoom a size key passes v =
-    let s : Rectangle = cut_of a (whole_part size) in
+    let s : Rectangle = intersection_of a (whole_part size) in
     let is : IsCut a size s = cut_is a size in
     let z : IsSized zoom = zoom_facts zoom passes in
     let px : ℕ = v.seen.0 in
@@ -178,7 +178,7 @@ visible_each part zoom a size keys passes w h e key =
 pub visible_order : (part : ℕ) (zoom : Scale) (a : Rectangle) (size : Extent) (keys : List Place) → is_zoom zoom ≡ true → keys ≡ visible_keys part zoom a size → AllPairs IsBefore keys
 unfolding visible_keys
 visible_order part zoom a size keys passes e =
-    let s : Rectangle = cut_of a (whole_part size) in
+    let s : Rectangle = intersection_of a (whole_part size) in
     let z : IsSized zoom = zoom_facts zoom passes in
     rw e (rows_order part zoom (s.x / zoom.twip_w) (tiles_to s.x (s.x + s.w) zoom.twip_w) (s.y / zoom.twip_h) (tiles_to s.y (s.y + s.h) zoom.twip_h) (omega (arith, z.twip_w_low)) (omega (arith, z.twip_h_low)))
 
@@ -202,15 +202,15 @@ span_is from length twips first count t same some short small first_is count_is 
       small = rw (f, n) (span_small from (from + length) twips (omega arith) (omega arith) small short);
     }
 
-pub visible_rows : (part : ℕ) (zoom : Scale) (a : Rectangle) (size : Extent) (s : Rectangle) (first columns top rows : ℕ) → s ≡ cut_of a (whole_part size)
+pub visible_rows : (part : ℕ) (zoom : Scale) (a : Rectangle) (size : Extent) (s : Rectangle) (first columns top rows : ℕ) → s ≡ intersection_of a (whole_part size)
     → IsSpan s.x s.w zoom.twip_w first columns → IsSpan s.y s.h zoom.twip_h top rows → rows_of part zoom first columns top rows ≡ visible_keys part zoom a size
 unfolding visible_keys
 visible_rows part zoom a size s first columns top rows e across down = rw (across.first_is, across.count_is, down.first_is, down.count_is, e) refl
 
-pub seen_right : (a : Rectangle) (size : Extent) (s : Rectangle) → s ≡ cut_of a (whole_part size) → s.x + s.w ≤ size.w
+pub seen_right : (a : Rectangle) (size : Extent) (s : Rectangle) → s ≡ intersection_of a (whole_part size) → s.x + s.w ≤ size.w
 seen_right a size s e = rw e (cut_is a size).right
 
-pub seen_lower : (a : Rectangle) (size : Extent) (s : Rectangle) → s ≡ cut_of a (whole_part size) → s.y + s.h ≤ size.h
+pub seen_lower : (a : Rectangle) (size : Extent) (s : Rectangle) → s ≡ intersection_of a (whole_part size) → s.y + s.h ≤ size.h
 seen_lower a size s e = rw e (cut_is a size).lower
 
 -- so many are the listed keys

@@ -1,7 +1,7 @@
 -- Which tiles a view sees.
 use Rattle.std.specs.Prelude.{◌≡◌, ℕ, zero, suc, ◌+◌, ◌-◌, ◌*◌, ◌/◌, ◌^◌, ◌<◌, Bool, ◌&&◌, ◌||◌, nat_lt, List, [], ◌∷◌, ◌++◌, IsTrue}
 use Rattle.std.specs.declared.cmp.Ordering.TheVariants.{Less}
-use Rattle.cool_base.specs.Points.{Rectangle, Extent, has_point, cut_of}
+use Rattle.cool_base.specs.Points.{Rectangle, Extent, has_point, intersection_of}
 use Rattle.tile_key.specs.Places.{Place, Scale, IsKey, tile_at, rect_of_place, key_order}
 
 -- the points of a part
@@ -45,7 +45,7 @@ tiles_to from end twips = (end + twips - 1) / twips - from / twips
 -- the keys that a view sees: the rows and columns of its zoom over its area, cut to the part
 unfoldable pub visible_keys : ℕ → Scale → Rectangle → Extent → List Place
 visible_keys part zoom area size =
-    let seen = cut_of area (whole_part size) in
+    let seen = intersection_of area (whole_part size) in
     rows_of part zoom (seen.x / zoom.twip_w) (tiles_to seen.x (seen.x + seen.w) zoom.twip_w)
     (seen.y / zoom.twip_h) (tiles_to seen.y (seen.y + seen.h) zoom.twip_h)
 

@@ -2,11 +2,11 @@
 ghost use Rattle.std.specs.Prelude.{◌≡◌, ℕ, ◌+◌, ◌*◌, ◌/◌, ◌<◌, ◌≤◌, ◌^◌, ◌↔◌, ◌++◌, true, length, IsTrue, IfOk, OnOk, AllPairs, Contains};
 ghost use Rattle.tile_key.specs.Places.{Place, is_zoom};
 ghost use Rattle.tile_key.specs.Visible.{IsVisible, IsBefore, row_of, rows_of, tiles_to, visible_keys, is_too_large, IsPart};
-ghost use Rattle.cool_base.specs.Points.{cut_of};
+ghost use Rattle.cool_base.specs.Points.{intersection_of};
 
 use crate::keys::TileKey;
 use crate::zooms::Zoom;
-use cool_base::{Memory, Rect, Size, cut};
+use cool_base::{Memory, Rect, Size, intersection};
 use std::alloc::{AllocError, AllocFailed, Global};
 use thiserror::Error;
 
@@ -86,7 +86,7 @@ fn grid_of(zoom: &Zoom, area: &Rect, size: &Size) -> Grid
         w: size.w,
         h: size.h,
     };
-    let seen = cut(area, &part);
+    let seen = intersection(area, &part);
     let across = zoom.twip_w();
     let down = zoom.twip_h();
     let first = seen.x / across;

@@ -2,7 +2,7 @@
 use Rattle.std.proofs.Common.{◌≡◌, ◌+◌, ◌||◌, Bool, true, false, min, nat_lt, List, [], ◌∷◌, length, map, refl, ap, subst, ◌∙◌, arith}
 use Rattle.std.proofs.lemmas.Bool.Decides.{nat_tests}
 use Rattle.std.specs.List.{AllByRecursion}
-use Rattle.cool_base.specs.Points.{Extent, cut_of, nowhere}
+use Rattle.cool_base.specs.Points.{Extent, intersection_of, nowhere}
 use Rattle.tile_key.specs.Places.{Place, Scale}
 use Rattle.tile_key.specs.Visible.{IsBefore, rows_of, visible_keys, whole_part, is_too_large}
 use Rattle.document_machine.specs.Keys.{Pairwise}
@@ -75,7 +75,7 @@ whole_opening rights zoom size slots keys asked window z k s a w =
     }
 
 -- an area of no point shows nothing
-nothing_seen : (size : Extent) → cut_of no_area (whole_part size) ≡ nowhere
+nothing_seen : (size : Extent) → intersection_of no_area (whole_part size) ≡ nowhere
 nothing_seen size =
     let none : nat_lt 0 (min 0 (0 + size.w)) ≡ false = grind (arith, nat_tests) in
     rw none refl

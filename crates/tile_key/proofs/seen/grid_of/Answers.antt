@@ -1,5 +1,5 @@
 use Rattle.std.proofs.Common.{◌≡◌, ◌≤◌, ◌<◌, ◌+◌, ◌-◌, ◌/◌, ◌^◌, ◌∙◌, refl, ap, arith}
-use Rattle.cool_base.specs.Points.{Rectangle, Extent, cut_of}
+use Rattle.cool_base.specs.Points.{Rectangle, Extent, intersection_of}
 use Rattle.tile_key.specs.Visible.{IsPart, visible_keys, whole_part}
 use Rattle.tile_key.proofs.VisibleFacts.{visible_rows, seen_right, seen_lower, span_is, IsSpan, IsSized, zoom_facts}
 use Rattle.tile_key.proofs.seen.grid_of.Goals as goal
@@ -9,7 +9,7 @@ returns c =
     let z : IsSized c.args.zoom.now = zoom_facts c.args.zoom.now c.twip_w-across.ensures.form in
     let size : Extent = record { w = c.size.inside.w; h = c.size.inside.h } in
     let s : Rectangle = record { x = c.seen.inside.x; y = c.seen.inside.y; w = c.seen.inside.w; h = c.seen.inside.h } in
-    let e : s ≡ cut_of c.args.area.now (whole_part size) = c.seen.view_is ∙ c.cut-seen.ensures.corners in
+    let e : s ≡ intersection_of c.args.area.now (whole_part size) = c.seen.view_is ∙ c.cut-seen.ensures.corners in
     let right : c.seen.inside.x + c.seen.inside.w ≤ c.size.inside.w = seen_right c.args.area.now size s e in
     let lower : c.seen.inside.y + c.seen.inside.h ≤ c.size.inside.h = seen_lower c.args.area.now size s e in
     let wide : c.size.inside.w < 2 ^ 31 = c.size.invariant.0 in
