@@ -1,18 +1,13 @@
-//! Reads lines, and prints what documents, views and windows make of them. `begin patch`, `begin sheet`,
-//! `begin view` and `begin window` begin with a new one; the lines behind are what is done to it (`Stage::act`,
-//! `Viewed::act`, `Windowed::act`), up to `end`, where all that it gave out is printed. Other lines with a `#`
-//! at their head are printed as they are.
+//! Reads lines, and prints what documents make of them. `begin patch` and `begin sheet` begin with a new one;
+//! the lines behind are what is done to it (`Stage::act`), up to `end`, where all that it gave out is printed.
+//! Lines with a `#` at their head are printed as they are.
 #![tactic(auto)]
 
 mod client;
 mod stage;
 mod texts;
-mod viewed;
-mod windowed;
 
 use crate::stage::Stage;
-use crate::viewed::Viewed;
-use crate::windowed::Windowed;
 use cool_base::Memory;
 use kit_trait::PatchKit;
 use sheet_kit::SheetKit;
@@ -28,8 +23,6 @@ enum Subject {
     Nothing,
     Patch(Stage<PatchKit>),
     Sheet(Stage<SheetKit>),
-    View(Viewed),
-    Window(Windowed),
 }
 
 impl Subject {
@@ -38,8 +31,6 @@ impl Subject {
         match kind {
             "patch" => Ok(Subject::Patch(Stage::new(alloc, b"", true)?)),
             "sheet" => Ok(Subject::Sheet(Stage::new(alloc, BOOK, false)?)),
-            "view" => Ok(Subject::View(Viewed::new(alloc)?)),
-            "window" => Ok(Subject::Window(Windowed::new(alloc))),
             _ => Ok(Subject::Nothing),
         }
     }
@@ -50,8 +41,6 @@ impl Subject {
             Subject::Nothing => Ok(()),
             Subject::Patch(stage) => stage.act(alloc, line),
             Subject::Sheet(stage) => stage.act(alloc, line),
-            Subject::View(view) => view.act(alloc, line),
-            Subject::Window(window) => window.act(alloc, line),
         }
     }
 
@@ -61,8 +50,6 @@ impl Subject {
             Subject::Nothing => "",
             Subject::Patch(stage) => stage.text(),
             Subject::Sheet(stage) => stage.text(),
-            Subject::View(view) => view.text(),
-            Subject::Window(window) => window.text(),
         }
     }
 }

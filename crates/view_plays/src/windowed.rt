@@ -1,5 +1,5 @@
 //! `Windowed`: a window, and what it answered.
-use crate::texts::{at, numbers};
+use crate::words::{at, numbers};
 use cool_base::{Memory, Wid};
 use send_window::Window;
 use std::alloc::Global;

@@ -1,5 +1,5 @@
 //! `Viewed`: a view that sees tiles of 3,840 twips in parts of 64 by 64 of them, and what it answered.
-use crate::texts::{at, numbers};
+use crate::words::{at, numbers};
 use cool_base::{Memory, Rect, Size, Token, Wid};
 use std::alloc::Global;
 use tile_key::{TileKey, TileWords, Zoom, key_of};
