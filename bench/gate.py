@@ -4,7 +4,9 @@ minutes by kind of work and the ten costliest crates, as the tables of docs/benc
 
     bench/gate.py                     runs rt ci; its lines are shown as they come and kept in gate.log
     bench/gate.py --anew              the same with nothing kept from earlier runs: this is the figure to compare
-    bench/gate.py --table gate.times  prints the tables again of a run whose times were kept
+    bench/gate.py NAME..              the same for these crates and those below them
+    bench/gate.py --table FILE..      prints the tables of runs whose times were kept (gate.times), added up: a gate that
+                                      was run in parts, of which each kept what it passed, costs their sum
     bench/gate.py --cases             counts the cases that the repository has: tests, data, scripts, wrong bodies
 
 A process that ends between two looks is counted up to the last of them; what that leaves out stands as `the rest`,
@@ -127,8 +129,10 @@ def main():
     if words == ["--cases"]:
         return cases()
     if words[:1] == ["--table"]:
-        kept = [line.rstrip("\n").split("\t") for line in open(words[1])]
-        return tables([(kind, crate, float(seconds)) for kind, crate, seconds in kept[1:]], float(kept[0][2]))
+        kept = [line.rstrip("\n").split("\t") for file in words[1:] for line in open(file)]
+        times = [(kind, crate, float(seconds)) for kind, crate, seconds in kept]
+        whole = sum(seconds for kind, _, seconds in times if kind == "whole")
+        return tables([each for each in times if each[0] != "whole"], whole)
     times, whole, status = watched(["rt", "ci", *words])
     with open(f"{TOP}/gate.times", "w") as file:
         for kind, crate, seconds in [("whole", "all", whole), *times]:
