@@ -5,12 +5,12 @@ use Rattle.std.proofs.lemmas.Bool.{eqb-true}
 use Rattle.std.proofs.lemmas.List.{append-nil}
 use Rattle.hall_machine.specs.declared.words.Label.{Label}
 use Rattle.hall_machine.specs.declared.words.Ground.{Ground}
-use Rattle.hall_machine.specs.declared.words.Act.{Act}
-use Rattle.hall_machine.specs.declared.words.Act.TheVariants.{Enter, Post, Collect, Depart, Arrive, Close}
+use Rattle.hall_machine.specs.declared.words.HallAct.{HallAct}
+use Rattle.hall_machine.specs.declared.words.HallAct.TheVariants.{Enter, Post, Collect, Depart, Arrive, Close}
 use Rattle.hall_machine.specs.declared.words.Entry.{Entry}
 use Rattle.hall_machine.specs.Machine.{Stage, empty, place_of}
 use Rattle.hall_machine.specs.Ids.{Rises}
-use Rattle.hall_machine.specs.Book.{after, after_at, run, stage_of, IsMade, IsLegalFrom, IsLegal, entry}
+use Rattle.hall_machine.specs.Entries.{after, after_at, run, stage_of, IsMade, IsLegalFrom, IsLegal, entry}
 use Rattle.hall_machine.proofs.Rising.{rising_after}
 use Rattle.hall_laws.specs.History.{place_in, place_from, place_told, IsAllowed, mails_in, label_of, posted, count_of, taken, id_of, given, CountUp, IsMove}
 use Rattle.hall_laws.proofs.Steps.{acted, new_id, collected_number}
@@ -19,7 +19,7 @@ run_snoc : (s : Stage) (es : List Entry) (e : Entry) → run s (es ++ e ∷ []) 
 run_snoc s [] e = refl
 run_snoc s (x ∷ es) e = run_snoc (after x s) es e
 
-next_at : (who : ℕ) (act : Act) (p : Option ℕ) (s : Stage) → s.next ≡ (after_at who act p s).next
+next_at : (who : ℕ) (act : HallAct) (p : Option ℕ) (s : Stage) → s.next ≡ (after_at who act p s).next
 next_at who act None s = refl
 next_at who (Enter file) (Some i) s = refl
 next_at who (Post label urgent) (Some i) s = refl
@@ -53,7 +53,7 @@ allowed g before rest e h =
     let a = acted g (stage_of before) e.who e.doc e.act c.2 c.1 in
     subst (λ w. IsAllowed e.who e.act w) (places_told g before c.0 e.doc) a.allowed
 
-counts_at : (g : Ground) (s : Stage) (who doc : ℕ) (act : Act) (n : ℕ) → n ≡ s.next → IsMade g s who doc act → (xs : List ℕ) → ((m : ℕ) → m ≡ (after (record { who = who; doc = doc; act = act }) s).next → CountUp m xs) → CountUp n (id_of doc act ++ xs)
+counts_at : (g : Ground) (s : Stage) (who doc : ℕ) (act : HallAct) (n : ℕ) → n ≡ s.next → IsMade g s who doc act → (xs : List ℕ) → ((m : ℕ) → m ≡ (after (record { who = who; doc = doc; act = act }) s).next → CountUp m xs) → CountUp n (id_of doc act ++ xs)
 counts_at g s who doc (Enter file) n is made xs h = (new_id g s doc file made ∙ sym is, h (n + 1) (ap (λ k. k + 1) is))
 counts_at g s who doc (Post label urgent) n is made xs h = h n (is ∙ next_at who (Post label urgent) (place_of doc s.desks) s)
 counts_at g s who doc (Collect k) n is made xs h = h n (is ∙ next_at who (Collect k) (place_of doc s.desks) s)
@@ -105,7 +105,7 @@ oldest g before rest who doc n h =
     let c = cut g empty before rest (entry who doc (Collect n)) rises_empty h in
     collected_number g (stage_of before) who doc n c.1 ∙ ap (λ ms. min 64 (length ms)) (waits g before c.0 doc)
 
-still : (act : Act) → IsMove act → (ms : List Label) → drop (count_of act) (ms ++ label_of act) ≡ ms
+still : (act : HallAct) → IsMove act → (ms : List Label) → drop (count_of act) (ms ++ label_of act) ≡ ms
 still (Depart to) m ms = append-nil ms
 still Arrive m ms = append-nil ms
 still (Enter file) m ms = absurd m

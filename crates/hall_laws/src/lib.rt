@@ -4,10 +4,10 @@
 
 ghost use Rattle.std.specs.Prelude.{◌≡◌, ℕ, ◌≤◌, min, List, [], ◌∷◌, ◌++◌, length, drop};
 ghost use Rattle.hall_machine.specs.declared.words.Ground.{Ground};
-ghost use Rattle.hall_machine.specs.declared.words.Act.TheVariants.{Collect};
+ghost use Rattle.hall_machine.specs.declared.words.HallAct.TheVariants.{Collect};
 ghost use Rattle.hall_machine.specs.declared.words.Entry.{Entry};
-ghost use Rattle.hall_machine.specs.declared.words.Opened.{Opened};
-ghost use Rattle.hall_machine.specs.Book.{stage_of, IsLegal, entry};
+ghost use Rattle.hall_machine.specs.declared.words.OpenDocument.{OpenDocument};
+ghost use Rattle.hall_machine.specs.Entries.{stage_of, IsLegal, entry};
 ghost use Rattle.hall_laws.specs.History.{place_in, place_told, IsAllowed, mails_in, posted, taken, given, CountUp, IsMove};
 ghost use Rattle.hall_laws.specs.Parcels.{Deed, departed, arrived, Runs, Leaves, AreSorted};
 
@@ -41,5 +41,5 @@ pub fn moves_keep_mail()
 /// What an `arrive` of a `HallState` gives is the very parcel that the last `depart` of that document left, and it is given to the
 /// poll that the document departed to.
 pub fn parcels_arrive<P: Drop, M: Labelled>()
-    ensures { (old new : List (Opened P M)) (doc to who : ℕ) (left given : P) (between : List (Deed P M)) → AreSorted M.tag old → Runs M.tag old (departed doc to left ∷ (between ++ arrived who doc given ∷ [])) new → Leaves doc between → (given ≡ left) × (who ≡ to) }
+    ensures { (old new : List (OpenDocument P M)) (doc to who : ℕ) (left given : P) (between : List (Deed P M)) → AreSorted M.tag old → Runs M.tag old (departed doc to left ∷ (between ++ arrived who doc given ∷ [])) new → Leaves doc between → (given ≡ left) × (who ≡ to) }
 {}

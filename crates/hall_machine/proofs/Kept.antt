@@ -10,14 +10,14 @@ use Rattle.std.proofs.Math.Seq.{take-append_seam}
 use Rattle.std.proofs.lemmas.Option.{slice_get_within}
 use Rattle.hall_machine.specs.declared.words.Label.{Label}
 use Rattle.hall_machine.specs.declared.words.Ground.{Ground}
-use Rattle.hall_machine.specs.declared.words.Act.{Act}
-use Rattle.hall_machine.specs.declared.words.Act.TheVariants.{Enter, Post}
+use Rattle.hall_machine.specs.declared.words.HallAct.{HallAct}
+use Rattle.hall_machine.specs.declared.words.HallAct.TheVariants.{Enter, Post}
 use Rattle.hall_machine.specs.declared.words.Entry.{Entry}
-use Rattle.hall_machine.specs.declared.words.Opened.{Opened}
-use Rattle.hall_machine.specs.declared.words.Place.TheVariants.{At}
+use Rattle.hall_machine.specs.declared.words.OpenDocument.{OpenDocument}
+use Rattle.hall_machine.specs.declared.words.Holder.TheVariants.{At}
 use Rattle.hall_machine.specs.Machine.{at as owned_by, Desk, Stage, empty, nobody, weight, owed, place_of, desk_at, post_answer, enter_answer}
 use Rattle.hall_machine.specs.declared.words.Entered.TheVariants.{Fresh}
-use Rattle.hall_machine.specs.Book.{desk_after, with_desk, after_at, after_act, after, run, IsMade, IsLegalFrom, entry}
+use Rattle.hall_machine.specs.Entries.{desk_after, with_desk, after_at, after_act, after, run, IsMade, IsLegalFrom, entry}
 use Rattle.hall_machine.specs.States.{where_of, sight, sights, staged, IsKept, Changes}
 use Rattle.hall_machine.proofs.Places.{desk_seen}
 
@@ -30,7 +30,7 @@ legal_snoc g s [] e h made = (made, tt)
 legal_snoc g s (x ∷ es) e h made = (h.0, legal_snoc g (after x s) es e h.1 made)
 
 -- a state with one entry more
-pub grown : {P M : Type 0} (tag : M → Label) (g : Ground) (next next' : ℕ) (opens opens' : List (Opened P M)) (due due' : ℕ) (entries : List Entry) (capacity : ℕ) (e : Entry)
+pub grown : {P M : Type 0} (tag : M → Label) (g : Ground) (next next' : ℕ) (opens opens' : List (OpenDocument P M)) (due due' : ℕ) (entries : List Entry) (capacity : ℕ) (e : Entry)
     → IsKept tag g next opens due entries capacity → IsMade g (staged tag next opens (length entries)) e.who e.doc e.act
     → after e (staged tag next opens (length entries)) ≡ staged tag next' opens' (length entries + 1)
     → due' ≡ owed (sights tag opens') → (length entries + 1) + due' ≤ g.room → next' ≤ length entries + 1 → length opens' ≤ 64
@@ -50,7 +50,7 @@ grown tag g next next' opens opens' due due' entries capacity e k made changes o
     }
 
 -- a state in which one open document changed: by a post, a collect, a depart or an arrive
-pub changed : {P M : Type 0} (tag : M → Label) (g : Ground) (next : ℕ) (opens : List (Opened P M)) (due due' : ℕ) (entries : List Entry) (capacity who doc at : ℕ) (act : Act) (o o' : Opened P M)
+pub changed : {P M : Type 0} (tag : M → Label) (g : Ground) (next : ℕ) (opens : List (OpenDocument P M)) (due due' : ℕ) (entries : List Entry) (capacity who doc at : ℕ) (act : HallAct) (o o' : OpenDocument P M)
     → IsKept tag g next opens due entries capacity → IsMade g (staged tag next opens (length entries)) who doc act
     → ((s : Stage) → after_act who doc act s ≡ after_at who act (place_of doc s.desks) s)
     → ((s : Stage) (i : ℕ) → after_at who act (Some i) s ≡ with_desk i (desk_after who act (desk_at s.desks i)) s)
@@ -77,14 +77,14 @@ pub whole : {A : Type 0} (n : ℕ) (xs ys : List A) → length ys ≡ n → take
 whole n xs ys e = subst (λ k. take k (ys ++ drop (length ys) xs) ≡ ys) e (take-append_seam ys (drop (length ys) xs))
 
 -- the document at its place has its id
-pub id_there : {P M : Type 0} (tag : M → Label) (opens : List (Opened P M)) (doc at : ℕ) (o : Opened P M) → place_of doc (sights tag opens) ≡ Some at → slice_get opens at ≡ Some o → o.doc ≡ doc
+pub id_there : {P M : Type 0} (tag : M → Label) (opens : List (OpenDocument P M)) (doc at : ℕ) (o : OpenDocument P M) → place_of doc (sights tag opens) ≡ Some at → slice_get opens at ≡ Some o → o.doc ≡ doc
 id_there tag opens doc at o place there =
     let h = position-Some (λ (x : Desk). eqb x.doc doc) (sights tag opens) at nobody place in
     let e : desk_at (sights tag opens) at ≡ sight tag o = desk_seen tag opens at o there in
     eqb-true o.doc doc (ap (λ (x : Desk). eqb x.doc doc) (sym e) ∙ h.1)
 
 -- one open document changed
-pub change : {P M : Type 0} (tag : M → Label) (opens old new : List (Opened P M)) (doc at : ℕ) (o o' : Opened P M) → old ≡ opens → new ≡ set opens at o' → place_of doc (sights tag opens) ≡ Some at → slice_get opens at ≡ Some o → Changes doc old new o o'
+pub change : {P M : Type 0} (tag : M → Label) (opens old new : List (OpenDocument P M)) (doc at : ℕ) (o o' : OpenDocument P M) → old ≡ opens → new ≡ set opens at o' → place_of doc (sights tag opens) ≡ Some at → slice_get opens at ≡ Some o → Changes doc old new o o'
 change tag opens old new doc at o o' e f place there = record {
   place = at;
   was = ap (λ os. slice_get os at) e ∙ there;
@@ -93,17 +93,17 @@ change tag opens old new doc at o o' e f place there = record {
 }
 
 -- a state after a post
-pub posted : {P M : Type 0} (tag : M → Label) (g : Ground) (next : ℕ) (opens : List (Opened P M)) (due : ℕ) (entries : List Entry) (capacity who doc at : ℕ) (mail : M) (urgent : Bool) (o : Opened P M)
+pub posted : {P M : Type 0} (tag : M → Label) (g : Ground) (next : ℕ) (opens : List (OpenDocument P M)) (due : ℕ) (entries : List Entry) (capacity who doc at : ℕ) (mail : M) (urgent : Bool) (o : OpenDocument P M)
     → IsKept tag g next opens due entries capacity → post_answer g (staged tag next opens (length entries)) doc urgent ≡ Ok tt → place_of doc (sights tag opens) ≡ Some at → slice_get opens at ≡ Some o → (length entries + due) + 2 ≤ g.room
     → IsKept tag g next (set opens at (record o { mails = o.mails ++ mail ∷ [] })) (due + 1) (entries ++ entry who doc (Post (tag mail) urgent) ∷ []) capacity
 posted tag g next opens due entries capacity who doc at mail urgent o k made place there fits =
     let more : length (map tag (o.mails ++ mail ∷ [])) ≡ length (map tag o.mails) + 1 = ap length (map-append tag o.mails (mail ∷ [])) ∙ length-append (map tag o.mails) (tag mail ∷ []) in
     changed tag g next opens due (due + 1) entries capacity who doc at (Post (tag mail) urgent) o (record o { mails = o.mails ++ mail ∷ [] }) k made (λ s. refl) (λ s i. refl) place there
-    (ap (λ ms. record { doc = o.doc; file = o.file; place = where_of o.place; mails = ms }) (map-append tag o.mails (mail ∷ [])))
+    (ap (λ ms. record { doc = o.doc; file = o.file; holder = where_of o.holder; mails = ms }) (map-append tag o.mails (mail ∷ [])))
     (omega arith) (omega arith)
 
 -- the same where the facts were found over equal lists
-pub posted_at : {P M : Type 0} (tag : M → Label) (g : Ground) (next : ℕ) (opens seen : List (Opened P M)) (due : ℕ) (entries : List Entry) (n capacity who doc at : ℕ) (mail : M) (urgent : Bool) (o : Opened P M)
+pub posted_at : {P M : Type 0} (tag : M → Label) (g : Ground) (next : ℕ) (opens seen : List (OpenDocument P M)) (due : ℕ) (entries : List Entry) (n capacity who doc at : ℕ) (mail : M) (urgent : Bool) (o : OpenDocument P M)
     → IsKept tag g next opens due entries capacity → seen ≡ opens → n ≡ length entries
     → post_answer g (staged tag next seen n) doc urgent ≡ Ok tt → place_of doc (sights tag seen) ≡ Some at → slice_get opens at ≡ Some o → (n + due) + 2 ≤ g.room
     → IsKept tag g next (set opens at (record o { mails = o.mails ++ mail ∷ [] })) (due + 1) (entries ++ entry who doc (Post (tag mail) urgent) ∷ []) capacity
@@ -113,20 +113,20 @@ posted_at tag g next opens seen due entries n capacity who doc at mail urgent o 
     (subst (λ os. place_of doc (sights tag os) ≡ Some at) e place) there (let r = fits in omega arith)
 
 -- a state after an enter that opened a new document
-pub fresh : {P M : Type 0} (tag : M → Label) (g : Ground) (next : ℕ) (opens seen : List (Opened P M)) (due : ℕ) (entries : List Entry) (n capacity who doc : ℕ) (file : List ℕ)
+pub fresh : {P M : Type 0} (tag : M → Label) (g : Ground) (next : ℕ) (opens seen : List (OpenDocument P M)) (due : ℕ) (entries : List Entry) (n capacity who doc : ℕ) (file : List ℕ)
     → IsKept tag g next opens due entries capacity → seen ≡ opens → n ≡ length entries
     → enter_answer g (staged tag next seen n) file ≡ Ok (Fresh (record { 0 = doc })) → doc ≡ next → length seen < 64 → (n + due) + 2 ≤ g.room
-    → IsKept tag g (next + 1) (opens ++ record { doc = doc; file = file; place = At who; mails = [] } ∷ []) (due + 1) (entries ++ entry who doc (Enter file) ∷ []) capacity
+    → IsKept tag g (next + 1) (opens ++ record { doc = doc; file = file; holder = At who; mails = [] } ∷ []) (due + 1) (entries ++ entry who doc (Enter file) ∷ []) capacity
 fresh {P} {M} tag g next opens seen due entries n capacity who doc file k e f made is few fits =
     let made' : enter_answer g (staged tag next opens (length entries)) file ≡ Ok (Fresh (record { 0 = doc })) =
     subst (λ os. enter_answer g (staged tag next os (length entries)) file ≡ Ok (Fresh (record { 0 = doc }))) e (subst (λ m. enter_answer g (staged tag next seen m) file ≡ Ok (Fresh (record { 0 = doc }))) f made) in
-    let one : Opened P M = record { doc = doc; file = file; place = At who; mails = [] } in
+    let one : OpenDocument P M = record { doc = doc; file = file; holder = At who; mails = [] } in
     let seen_more : sights tag (opens ++ one ∷ []) ≡ sights tag opens ++ sight tag one ∷ [] = map-append (sight tag) opens (one ∷ []) in
     let sum : owed (sights tag opens ++ sight tag one ∷ []) ≡ owed (sights tag opens) + weight (sight tag one) = sum_by_push weight (sights tag opens) (sight tag one) in
     let moved : owed (sights tag (opens ++ one ∷ [])) ≡ owed (sights tag opens ++ sight tag one ∷ []) = ap owed seen_more in
     let due_is : due ≡ owed (sights tag opens) = k.due_is in
     let same : length seen ≡ length opens = ap length e in
     grown tag g next (next + 1) opens (opens ++ one ∷ []) due (due + 1) entries capacity (entry who doc (Enter file)) k made'
-    (ap (λ d. record { next = next + 1; desks = sights tag opens ++ record { doc = d; file = file; place = owned_by who; mails = [] } ∷ []; entries = length entries + 1 }) (sym is) ∙ ap (λ ds. record { next = next + 1; desks = ds; entries = length entries + 1 }) (sym seen_more))
+    (ap (λ d. record { next = next + 1; desks = sights tag opens ++ record { doc = d; file = file; holder = owned_by who; mails = [] } ∷ []; entries = length entries + 1 }) (sym is) ∙ ap (λ ds. record { next = next + 1; desks = ds; entries = length entries + 1 }) (sym seen_more))
     (omega arith) (let r = fits in omega arith) (let i = k.ids in omega arith)
     (let l : length (opens ++ one ∷ []) ≡ length opens + 1 = length-append opens (one ∷ []) in omega arith)

@@ -27,19 +27,19 @@ depart_none g s None h = refl
 depart_none g s (Some p) h = cc
 
 -- only the owner departs
-pub departs_owned : (g : Ground) (s : Stage) (who doc i : ℕ) → depart_answer g s who doc ≡ Ok tt → place_of doc s.desks ≡ Some i → (desk_at s.desks i).place ≡ at who
+pub departs_owned : (g : Ground) (s : Stage) (who doc i : ℕ) → depart_answer g s who doc ≡ Ok tt → place_of doc s.desks ≡ Some i → (desk_at s.desks i).holder ≡ at who
 departs_owned g s who doc i h place =
-    owned who (desk_at s.desks i).place (depart_none g s (other_than who (desk_at s.desks i).place) (subst (λ (p : Option ℕ). depart_at g s who p ≡ Ok tt) place h))
+    owned who (desk_at s.desks i).holder (depart_none g s (other_than who (desk_at s.desks i).holder) (subst (λ (p : Option ℕ). depart_at g s who p ≡ Ok tt) place h))
 
 collect_none : (x : Desk) (o : Option ℕ) (n : ℕ) → collect_by x o ≡ Ok n → (o ≡ None) × (n ≡ min 64 (length x.mails))
 collect_none x None n h = (refl, cc)
 collect_none x (Some p) n h = cc
 
 -- only the owner collects, the oldest mails, at most 64
-pub collects_owned : (s : Stage) (who doc i n : ℕ) → collect_answer s who doc ≡ Ok n → place_of doc s.desks ≡ Some i → ((desk_at s.desks i).place ≡ at who) × (n ≡ min 64 (length (desk_at s.desks i).mails))
+pub collects_owned : (s : Stage) (who doc i n : ℕ) → collect_answer s who doc ≡ Ok n → place_of doc s.desks ≡ Some i → ((desk_at s.desks i).holder ≡ at who) × (n ≡ min 64 (length (desk_at s.desks i).mails))
 collects_owned s who doc i n h place =
-    let r = collect_none (desk_at s.desks i) (other_than who (desk_at s.desks i).place) n (subst (λ (p : Option ℕ). collect_at s who p ≡ Ok n) place h) in
-    (owned who (desk_at s.desks i).place r.0, r.1)
+    let r = collect_none (desk_at s.desks i) (other_than who (desk_at s.desks i).holder) n (subst (λ (p : Option ℕ). collect_at s who p ≡ Ok n) place h) in
+    (owned who (desk_at s.desks i).holder r.0, r.1)
 
 nil_of : {A : Type 0} (xs : List A) → length xs ≡ 0 → xs ≡ []
 nil_of [] h = refl
@@ -57,10 +57,10 @@ close_none x (Some p) h = cc
 close_none x None h = (refl, no_mails (Waiting (length x.mails)) x.mails (ltb 0 (length x.mails)) refl h)
 
 -- only the owner closes, and no mail waits
-pub closes_owned : (s : Stage) (who doc i : ℕ) → close_answer s who doc ≡ Ok tt → place_of doc s.desks ≡ Some i → ((desk_at s.desks i).place ≡ at who) × ((desk_at s.desks i).mails ≡ [])
+pub closes_owned : (s : Stage) (who doc i : ℕ) → close_answer s who doc ≡ Ok tt → place_of doc s.desks ≡ Some i → ((desk_at s.desks i).holder ≡ at who) × ((desk_at s.desks i).mails ≡ [])
 closes_owned s who doc i h place =
-    let r = close_none (desk_at s.desks i) (other_than who (desk_at s.desks i).place) (subst (λ (p : Option ℕ). close_at s who p ≡ Ok tt) place h) in
-    (owned who (desk_at s.desks i).place r.0, r.1)
+    let r = close_none (desk_at s.desks i) (other_than who (desk_at s.desks i).holder) (subst (λ (p : Option ℕ). close_at s who p ≡ Ok tt) place h) in
+    (owned who (desk_at s.desks i).holder r.0, r.1)
 
 -- one open document owes no more than all
 pub weight_within : (desks : List Desk) (i : ℕ) → i < length desks → weight (desk_at desks i) ≤ owed desks
@@ -89,8 +89,8 @@ first_least desks = record {
 }
 
 -- what is found of a parcel in transit
-pub arrives : (s : Stage) (who i doc : ℕ) → place_bound_to who s.desks ≡ Some i → doc ≡ (desk_at s.desks i).doc → (arrive_answer s who ≡ Some doc) × (is_bound_to who (desk_at s.desks i).place ≡ true) × (1 ≤ owed s.desks)
+pub arrives : (s : Stage) (who i doc : ℕ) → place_bound_to who s.desks ≡ Some i → doc ≡ (desk_at s.desks i).doc → (arrive_answer s who ≡ Some doc) × (is_bound_to who (desk_at s.desks i).holder ≡ true) × (1 ≤ owed s.desks)
 arrives s who i doc first id =
-    let p = position-Some (λ (x : Desk). is_bound_to who x.place) s.desks i nobody first in
+    let p = position-Some (λ (x : Desk). is_bound_to who x.holder) s.desks i nobody first in
     let w = weight_within s.desks i p.0 in
     (ap (arrive_at s) first ∙ ap (λ d. Some d) (sym id), p.1, omega arith)

@@ -5,7 +5,7 @@ use Rattle.std.specs.Option.{option_map}
 use Rattle.std.proofs.lemmas.List.{length-map, drop_min, take_min}
 use Rattle.std.proofs.lemmas.Option.{slice_get-map, get_or_from_slice_get}
 use Rattle.hall_machine.specs.declared.words.Label.{Label}
-use Rattle.hall_machine.specs.declared.words.Opened.{Opened}
+use Rattle.hall_machine.specs.declared.words.OpenDocument.{OpenDocument}
 use Rattle.hall_machine.specs.Machine.{desk_at, nobody}
 use Rattle.hall_machine.specs.States.{sight, sights}
 
@@ -19,7 +19,7 @@ module _ {A B : Type 0} (f : A → B) (p : B → Bool) where
   position_seen xs = ap (λ n. cond (ltb n (length (map f xs))) (Some n) None) (first_seen xs) ∙ ap (λ m. cond (ltb (prefix_len (λ x. not (p (f x))) xs) m) (Some (prefix_len (λ x. not (p (f x))) xs)) None) (length-map xs f)
 
 -- the desk of an open document
-pub desk_seen : {P M : Type 0} (tag : M → Label) (opens : List (Opened P M)) (i : ℕ) (o : Opened P M) → slice_get opens i ≡ Some o → desk_at (sights tag opens) i ≡ sight tag o
+pub desk_seen : {P M : Type 0} (tag : M → Label) (opens : List (OpenDocument P M)) (i : ℕ) (o : OpenDocument P M) → slice_get opens i ≡ Some o → desk_at (sights tag opens) i ≡ sight tag o
 desk_seen tag opens i o e = get_or_from_slice_get (sights tag opens) i (sight tag o) nobody (slice_get-map (sight tag) opens i ∙ ap (option_map (sight tag)) e)
 
 -- the oldest, at most 64

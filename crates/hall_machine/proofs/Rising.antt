@@ -2,12 +2,12 @@
 use Rattle.std.proofs.Common.{◌≡◌, ℕ, zero, suc, ◌+◌, ◌<◌, ◌≤◌, true, false, not, None, Some, List, [], ◌∷◌, ◌++◌, length, set, eqb, ltb, refl, sym, subst, arith}
 use Rattle.std.specs.Prelude.{Option}
 use Rattle.std.specs.List.{prefix_len, remove}
-use Rattle.hall_machine.specs.declared.words.Act.{Act}
-use Rattle.hall_machine.specs.declared.words.Act.TheVariants.{Enter, Post, Collect, Depart, Arrive, Close}
+use Rattle.hall_machine.specs.declared.words.HallAct.{HallAct}
+use Rattle.hall_machine.specs.declared.words.HallAct.TheVariants.{Enter, Post, Collect, Depart, Arrive, Close}
 use Rattle.hall_machine.specs.declared.words.Entry.{Entry}
 use Rattle.hall_machine.specs.Machine.{Desk, Stage, empty, desk_at, place_of}
 use Rattle.hall_machine.specs.Ids.{AreRising, Rises}
-use Rattle.hall_machine.specs.Book.{desk_after, after_at, after_act, after, run, stage_of}
+use Rattle.hall_machine.specs.Entries.{desk_after, after_at, after_act, after, run, stage_of}
 
 rising_lower : (low low' : ℕ) (xs : List Desk) (high : ℕ) → low' ≤ low → AreRising low xs high → AreRising low' xs high
 rising_lower low low' [] high le h = omega (arith, le, h)
@@ -29,7 +29,7 @@ rising_remove low [] (suc i) high h = h
 rising_remove low (x ∷ xs) zero high h = rising_lower (x.doc + 1) low xs high (omega (arith, h.0)) h.1
 rising_remove low (x ∷ xs) (suc i) high h = (h.0, rising_remove (x.doc + 1) xs i high h.1)
 
-rising_at : (who : ℕ) (act : Act) (place : Option ℕ) (s : Stage) → Rises s → Rises (after_at who act place s)
+rising_at : (who : ℕ) (act : HallAct) (place : Option ℕ) (s : Stage) → Rises s → Rises (after_at who act place s)
 rising_at who act None s h = h
 rising_at who (Enter file) (Some i) s h = h
 rising_at who (Post label urgent) (Some i) s h = rising_set 0 s.desks i (desk_after who (Post label urgent) (desk_at s.desks i)) s.next refl h
@@ -39,7 +39,7 @@ rising_at who Arrive (Some i) s h = rising_set 0 s.desks i (desk_after who Arriv
 rising_at who Close (Some i) s h = rising_remove 0 s.desks i s.next h
 
 -- one entry leaves the ids rising
-pub rising_after : (who doc : ℕ) (act : Act) (s : Stage) → Rises s → Rises (after_act who doc act s)
+pub rising_after : (who doc : ℕ) (act : HallAct) (s : Stage) → Rises s → Rises (after_act who doc act s)
 rising_after who doc (Enter file) s h = rising_push 0 s.desks s.next _ refl h
 rising_after who doc (Post label urgent) s h = rising_at who (Post label urgent) (place_of doc s.desks) s h
 rising_after who doc (Collect n) s h = rising_at who (Collect n) (place_of doc s.desks) s h

@@ -22,7 +22,7 @@ pub data Where : Type 0 where
 pub record Desk : Type 0 where
   pub doc : ℕ
   pub file : List ℕ
-  pub place : Where
+  pub holder : Where
   pub mails : List Label
 
 -- a state: the next id, the open documents in the order of their ids, and the number of entries of the book
@@ -36,7 +36,7 @@ abbrev pub empty : Stage
 empty = record { next = 0; desks = []; entries = 0 }
 
 abbrev pub nobody : Desk
-nobody = record { doc = 0; file = []; place = at 0; mails = [] }
+nobody = record { doc = 0; file = []; holder = at 0; mails = [] }
 
 -- whether a parcel is in transit
 abbrev pub is_bound : Where → Bool
@@ -60,7 +60,7 @@ other_than who (bound p) = Some p
 
 -- a document owes the book one entry for itself, one for each mail that waits, and one for a parcel in transit
 abbrev pub weight : Desk → ℕ
-weight x = (1 + length x.mails) + (if is_bound x.place then 1 else 0)
+weight x = (1 + length x.mails) + (if is_bound x.holder then 1 else 0)
 
 -- how many entries are owed: one for each open document, waiting mail and parcel in transit
 abbrev pub owed : List Desk → ℕ
@@ -76,7 +76,7 @@ place_of_file file desks = position (λ x. pointwise nat_eq x.file file) desks
 
 -- where among the open documents the first stands whose parcel is in transit to this poll
 abbrev pub place_bound_to : ℕ → List Desk → Option ℕ
-place_bound_to who desks = position (λ x. is_bound_to who x.place) desks
+place_bound_to who desks = position (λ x. is_bound_to who x.holder) desks
 
 abbrev pub desk_at : List Desk → ℕ → Desk
 desk_at desks i = slice_index_or desks i nobody
@@ -119,7 +119,7 @@ module _ (g : Ground) (s : Stage) where
 
   abbrev pub depart_at : ℕ → Option ℕ → Result (Unit {0}) HallFault
   depart_at who None = Err Gone
-  depart_at who (Some i) = depart_by (other_than who (desk_at s.desks i).place)
+  depart_at who (Some i) = depart_by (other_than who (desk_at s.desks i).holder)
 
   abbrev pub depart_answer : ℕ → ℕ → Result (Unit {0}) HallFault
   depart_answer who doc = depart_at who (place_of doc s.desks)
@@ -135,7 +135,7 @@ collect_by x None = Ok (min 64 (length x.mails))
 
 abbrev pub collect_at : Stage → ℕ → Option ℕ → Result ℕ Owner
 collect_at s who None = Err OwnerGone
-collect_at s who (Some i) = collect_by (desk_at s.desks i) (other_than who (desk_at s.desks i).place)
+collect_at s who (Some i) = collect_by (desk_at s.desks i) (other_than who (desk_at s.desks i).holder)
 
 abbrev pub collect_answer : Stage → ℕ → ℕ → Result ℕ Owner
 collect_answer s who doc = collect_at s who (place_of doc s.desks)
@@ -147,7 +147,7 @@ close_by x None = if nat_lt 0 (length x.mails) then Err (Waiting (length x.mails
 
 abbrev pub close_at : Stage → ℕ → Option ℕ → Result (Unit {0}) CloseFault
 close_at s who None = Err CloseGone
-close_at s who (Some i) = close_by (desk_at s.desks i) (other_than who (desk_at s.desks i).place)
+close_at s who (Some i) = close_by (desk_at s.desks i) (other_than who (desk_at s.desks i).holder)
 
 abbrev pub close_answer : Stage → ℕ → ℕ → Result (Unit {0}) CloseFault
 close_answer s who doc = close_at s who (place_of doc s.desks)
@@ -166,7 +166,7 @@ find_answer s file = arrive_at s (place_of_file file s.desks)
 
 -- how many documents a poll owns or are on their way to it
 abbrev pub load_of : ℕ → List Desk → ℕ
-load_of p desks = count_by (λ x. poll_of x.place == p) desks
+load_of p desks = count_by (λ x. poll_of x.holder == p) desks
 
 -- advise: the poll with the fewest documents, the lowest of several
 pub record IsLeast (polls : ℕ) (desks : List Desk) (p : ℕ) : Type 0 where

@@ -6,41 +6,41 @@ ghost use Rattle.std.specs.Prelude.{◌==◌, nat_eq};
 ghost use Rattle.hall_machine.specs.Machine.{place_of, place_of_file, place_bound_to, is_bound_to, desk_at, other_than, owed, enter_answer, post_answer, depart_answer, collect_answer, close_answer, depart_by, close_by, hall_fault, close_fault};
 ghost use Rattle.hall_machine.specs.States.{sights, staged, where_of};
 
-use crate::words::{Entered, Ground, HallFault, Labelled, Opened, Owner, Place};
+use crate::words::{Entered, Ground, HallFault, Holder, Labelled, OpenDocument, Owner};
 use cool_base::{DocId, FileId};
 
-fn find_doc<P: Drop, M: Labelled>(opens: &[Opened<P, M>], doc: u32) -> Option<usize>
+fn find_doc<P: Drop, M: Labelled>(opens: &[OpenDocument<P, M>], doc: u32) -> Option<usize>
     ensures place { result ≡ position (λ o. o.doc == doc) opens.now }
     ensures within { IfSome result (λ i. i < length opens.now) }
 {
     opens.iter().position(|o| o.doc == doc)
 }
 
-fn find_file<P: Drop, M: Labelled>(opens: &[Opened<P, M>], file: &FileId) -> Option<usize>
+fn find_file<P: Drop, M: Labelled>(opens: &[OpenDocument<P, M>], file: &FileId) -> Option<usize>
     ensures place { result ≡ position (λ o. pointwise nat_eq o.file file.now) opens.now }
     ensures within { IfSome result (λ i. i < length opens.now) }
 {
     opens.iter().position(|o| o.file.text() == file.text())
 }
 
-fn is_on_its_way<P>(place: &Place<P>, who: u32) -> bool
-    ensures { result ≡ is_bound_to who (where_of place.now) }
+fn is_on_its_way<P>(holder: &Holder<P>, who: u32) -> bool
+    ensures { result ≡ is_bound_to who (where_of holder.now) }
 {
-    match place {
-        Place::At(_) => false,
-        Place::To(poll, _) => *poll == who,
+    match holder {
+        Holder::At(_) => false,
+        Holder::To(poll, _) => *poll == who,
     }
 }
 
-fn find_bound<P: Drop, M: Labelled>(opens: &[Opened<P, M>], who: u32) -> Option<usize>
-    ensures place { result ≡ position (λ o. is_bound_to who (where_of o.place)) opens.now }
+fn find_bound<P: Drop, M: Labelled>(opens: &[OpenDocument<P, M>], who: u32) -> Option<usize>
+    ensures place { result ≡ position (λ o. is_bound_to who (where_of o.holder)) opens.now }
     ensures within { IfSome result (λ i. i < length opens.now) }
 {
-    opens.iter().position(|o| is_on_its_way(&o.place, who))
+    opens.iter().position(|o| is_on_its_way(&o.holder, who))
 }
 
 /// Where the document stands among the open ones.
-pub fn place_of<P: Drop, M: Labelled>(opens: &[Opened<P, M>], doc: u32) -> Option<usize>
+pub fn place_of<P: Drop, M: Labelled>(opens: &[OpenDocument<P, M>], doc: u32) -> Option<usize>
     ensures place { result ≡ place_of doc (sights M.tag opens.now) }
     ensures within { IfSome result (λ i. i < length opens.now) }
 {
@@ -48,7 +48,10 @@ pub fn place_of<P: Drop, M: Labelled>(opens: &[Opened<P, M>], doc: u32) -> Optio
 }
 
 /// Where the document of the file stands among the open ones.
-pub fn place_of_file<P: Drop, M: Labelled>(opens: &[Opened<P, M>], file: &FileId) -> Option<usize>
+pub fn place_of_file<P: Drop, M: Labelled>(
+    opens: &[OpenDocument<P, M>],
+    file: &FileId,
+) -> Option<usize>
     ensures place { result ≡ place_of_file file.now (sights M.tag opens.now) }
     ensures within { IfSome result (λ i. i < length opens.now) }
 {
@@ -56,7 +59,7 @@ pub fn place_of_file<P: Drop, M: Labelled>(opens: &[Opened<P, M>], file: &FileId
 }
 
 /// Where the first document stands whose parcel is in transit to the poll.
-pub fn place_bound_to<P: Drop, M: Labelled>(opens: &[Opened<P, M>], who: u32) -> Option<usize>
+pub fn place_bound_to<P: Drop, M: Labelled>(opens: &[OpenDocument<P, M>], who: u32) -> Option<usize>
     ensures place { result ≡ place_bound_to who (sights M.tag opens.now) }
     ensures within { IfSome result (λ i. i < length opens.now) }
 {
@@ -71,26 +74,26 @@ pub struct Seen {
     pub mails: usize,
 }
 
-fn other_poll<P>(place: &Place<P>, who: u32) -> Option<u32>
-    ensures { result ≡ other_than who (where_of place.now) }
+fn other_poll<P>(holder: &Holder<P>, who: u32) -> Option<u32>
+    ensures { result ≡ other_than who (where_of holder.now) }
 {
-    match place {
-        Place::At(poll) => { if *poll == who { None } else { Some(*poll) } }
-        Place::To(poll, _) => Some(*poll),
+    match holder {
+        Holder::At(poll) => { if *poll == who { None } else { Some(*poll) } }
+        Holder::To(poll, _) => Some(*poll),
     }
 }
 
 /// What a call needs to know of the document there.
-pub fn see<P: Drop, M: Labelled>(opens: &[Opened<P, M>], at: usize, who: u32) -> Seen
+pub fn see<P: Drop, M: Labelled>(opens: &[OpenDocument<P, M>], at: usize, who: u32) -> Seen
     requires { at < length opens.now }
     ensures doc { result.doc ≡ (desk_at (sights M.tag opens.now) at).doc }
-    ensures other { result.other ≡ other_than who (desk_at (sights M.tag opens.now) at).place }
+    ensures other { result.other ≡ other_than who (desk_at (sights M.tag opens.now) at).holder }
     ensures mails { result.mails ≡ length (desk_at (sights M.tag opens.now) at).mails }
 {
     let o = &opens[at];
     Seen {
         doc: o.doc,
-        other: other_poll(&o.place, who),
+        other: other_poll(&o.holder, who),
         mails: o.mails.len(),
     }
 }
@@ -99,7 +102,7 @@ pub fn see<P: Drop, M: Labelled>(opens: &[Opened<P, M>], at: usize, who: u32) ->
 pub fn check_enter<P: Drop, M: Labelled>(
     ground: Ground,
     next: u32,
-    opens: &[Opened<P, M>],
+    opens: &[OpenDocument<P, M>],
     entries: u64,
     due: u64,
     file: &FileId,
@@ -130,7 +133,7 @@ pub fn check_enter<P: Drop, M: Labelled>(
 pub fn check_post<P: Drop, M: Labelled>(
     ground: Ground,
     next: u32,
-    opens: &[Opened<P, M>],
+    opens: &[OpenDocument<P, M>],
     entries: u64,
     due: u64,
     doc: u32,
@@ -164,7 +167,7 @@ pub fn check_post<P: Drop, M: Labelled>(
 pub fn check_owner<P: Drop, M: Labelled>(
     ground: Ground,
     next: u32,
-    opens: &[Opened<P, M>],
+    opens: &[OpenDocument<P, M>],
     entries: u64,
     who: u32,
     doc: u32,
@@ -188,7 +191,7 @@ pub fn check_owner<P: Drop, M: Labelled>(
 pub fn check_depart<P: Drop, M: Labelled>(
     ground: Ground,
     next: u32,
-    opens: &[Opened<P, M>],
+    opens: &[OpenDocument<P, M>],
     entries: u64,
     due: u64,
     who: u32,

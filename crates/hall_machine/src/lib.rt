@@ -15,6 +15,6 @@ mod words;
 pub use bag::MailBag;
 pub use state::HallState;
 pub use words::{
-    Act, CloseFault, Entered, Entry, Filed, Ground, HallFault, Label, Labelled, Opened, Owner,
-    Place, Refused,
+    CloseFault, Entered, Entry, Filed, Ground, HallAct, HallFault, Holder, Label, Labelled,
+    OpenDocument, Owner, Refused,
 };

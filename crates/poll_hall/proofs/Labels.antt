@@ -6,7 +6,7 @@ use Rattle.std.proofs.lemmas.List.{length-map, take-map}
 use Rattle.std.proofs.lemmas.Option.{slice_get_within}
 use Rattle.hall_machine.specs.declared.words.Label.{Label}
 use Rattle.hall_machine.specs.declared.words.Owner.{Owner}
-use Rattle.hall_machine.specs.declared.words.Opened.{Opened}
+use Rattle.hall_machine.specs.declared.words.OpenDocument.{OpenDocument}
 use Rattle.hall_machine.specs.Machine.{Desk, Stage, desk_at, place_of}
 use Rattle.hall_machine.specs.Ids.{AreRising, Rises}
 use Rattle.hall_machine.specs.States.{sight, sights, Collects}
@@ -15,9 +15,9 @@ use Rattle.hall_machine.proofs.Rising.{found_there}
 use Rattle.hall_laws.specs.History.{desk_of, mails_at, mails_in}
 use Rattle.hall_laws.proofs.Lookups.{lookup_at, place_facts}
 
-module _ {P M : Type 0} (tag : M → Label) (s : Stage) (opens new : List (Opened P M)) (same : s.desks ≡ sights tag opens) (rises : Rises s) (doc : ℕ) where
+module _ {P M : Type 0} (tag : M → Label) (s : Stage) (opens new : List (OpenDocument P M)) (same : s.desks ≡ sights tag opens) (rises : Rises s) (doc : ℕ) where
   -- the mails of an open document, by their labels
-  mails_seen : (i : ℕ) (o : Opened P M) → slice_get opens i ≡ Some o → o.doc ≡ doc → mails_in doc s ≡ map tag o.mails
+  mails_seen : (i : ℕ) (o : OpenDocument P M) → slice_get opens i ≡ Some o → o.doc ≡ doc → mails_in doc s ≡ map tag o.mails
   mails_seen i o there id =
       let seen : desk_at (sights tag opens) i ≡ sight tag o = desk_seen tag opens i o there in
       let within : i < length opens = slice_get_within opens i o there in
@@ -36,7 +36,7 @@ module _ {P M : Type 0} (tag : M → Label) (s : Stage) (opens new : List (Opene
       (h.0, ap (map tag) took.2 ∙ (sym (take-map tag 64 took.0.mails) ∙ ap (take 64) (sym (mails_seen took.1.place took.0 took.1.was took.1.id))))
   labels_taken (Err why) bag h = h.0
 
-pub values_taken : {P M : Type 0} (doc : ℕ) (old new : List (Opened P M)) (r : Result ℕ Owner) (bag : List M)
+pub values_taken : {P M : Type 0} (doc : ℕ) (old new : List (OpenDocument P M)) (r : Result ℕ Owner) (bag : List M)
     → MatchResult r (λ n. (n ≡ length bag) × Collects doc bag old new) (λ _. (bag ≡ []) × (new ≡ old))
     → MatchResult r (λ _. Collects doc bag old new) (λ _. new ≡ old)
 values_taken doc old new (Ok n) bag h = h.1

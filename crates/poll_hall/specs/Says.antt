@@ -4,7 +4,7 @@ use Rattle.std.specs.Option.{option_map}
 use Rattle.cool_base.specs.declared.ids.DocId.{DocId}
 use Rattle.hall_machine.specs.declared.words.Label.{Label}
 use Rattle.hall_machine.specs.declared.words.Ground.{Ground}
-use Rattle.hall_machine.specs.declared.words.Act.TheVariants.{Post, Depart, Close}
+use Rattle.hall_machine.specs.declared.words.HallAct.TheVariants.{Post, Depart, Close}
 use Rattle.hall_machine.specs.declared.words.Entry.{Entry}
 use Rattle.hall_machine.specs.declared.words.Entered.{Entered}
 use Rattle.hall_machine.specs.declared.words.HallFault.{HallFault}
@@ -13,17 +13,17 @@ use Rattle.hall_machine.specs.declared.words.Owner.{Owner}
 use Rattle.hall_machine.specs.declared.words.CloseFault.{CloseFault}
 use Rattle.hall_machine.specs.declared.words.Refused.{Refused}
 use Rattle.hall_machine.specs.Machine.{enter_answer, post_answer, collect_answer, depart_answer, arrive_answer, close_answer, spare_answer, find_answer, IsLeast}
-use Rattle.hall_machine.specs.Book.{stage_of, IsLegal, entry, written, entered, collected, arrived}
+use Rattle.hall_machine.specs.Entries.{stage_of, IsLegal, entry, written, entered, collected, arrived}
 use Rattle.hall_laws.specs.History.{mails_in}
-use Rattle.hall_machine.specs.States.{Answers, AnswersOrWants, with_value, refused}
+use Rattle.hall_machine.specs.States.{Answers, AnswersOrMemory, with_value, refused}
 
 abbrev pub EnterSays : ℕ → List ℕ → Ground → List Entry → Result Entered HallFault → List Entry → Type 0
-EnterSays who file g found result left = AnswersOrWants g found (enter_answer g (stage_of found) file) (entered who file (enter_answer g (stage_of found) file) found) (Err Memory) result left
+EnterSays who file g found result left = AnswersOrMemory g found (enter_answer g (stage_of found) file) (entered who file (enter_answer g (stage_of found) file) found) (Err Memory) result left
 
 -- a refused mail comes back as the same value
 abbrev pub PostSays : {M : Type 0} → (M → Label) → ℕ → ℕ → M → Bool → Ground → List Entry → Result (Unit {0}) (Refused M) → List Entry → Type 0
 PostSays {M} tag who doc mail urgent g found result left =
-    AnswersOrWants g found (with_value mail (post_answer g (stage_of found) doc urgent)) (written (post_answer g (stage_of found) doc urgent) (entry who doc (Post (tag mail) urgent)) found) (Err (refused Memory mail)) result left
+    AnswersOrMemory g found (with_value mail (post_answer g (stage_of found) doc urgent)) (written (post_answer g (stage_of found) doc urgent) (entry who doc (Post (tag mail) urgent)) found) (Err (refused Memory mail)) result left
 
 -- the bag has as many mails as is answered, with the labels of those that waited longest, in order; after a refusal it is empty
 pub record CollectSays {M : Type 0} (tag : M → Label) (who doc : ℕ) (g : Ground) (found : List Entry) (result : Result ℕ Owner × List M) (left : List Entry) : Type 0 where

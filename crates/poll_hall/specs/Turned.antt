@@ -4,7 +4,7 @@ use Rattle.turn_lock.specs.Lists.{IsPrefix}
 use Rattle.turn_lock.specs.Seats.{Known, own_after}
 use Rattle.hall_machine.specs.declared.words.Ground.{Ground}
 use Rattle.hall_machine.specs.declared.words.Entry.{Entry}
-use Rattle.hall_machine.specs.Book.{IsLegal}
+use Rattle.hall_machine.specs.Entries.{IsLegal}
 
 -- the call found a history over the seat's ground that begins with all that the seat had seen; over it the answer and the history
 -- that is left are what `says` says; it was one turn of the seat, which has then seen the history that is left, in which an entry that

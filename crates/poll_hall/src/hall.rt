@@ -7,7 +7,6 @@ ghost use Rattle.poll_hall.specs.Turned.{Turned};
 use crate::turns::collect_turn;
 use cool_base::{DocId, FileId};
 use hall_machine::{CloseFault, Entered, HallFault, HallState, Labelled, MailBag, Owner, Refused};
-use std::alloc::Global;
 use std::sync::Wait;
 use turn_lock::{Booked, Seat, TurnLock};
 
@@ -24,7 +23,6 @@ impl<P: Drop, M: Labelled> Hall<P, M> {
     pub fn enter<R: Wait>(
         &self,
         rt: &R,
-        alloc: Global,
         seat: &mut Seat<HallState<P, M>>,
         who: u32,
         file: &FileId,
@@ -33,7 +31,7 @@ impl<P: Drop, M: Labelled> Hall<P, M> {
         ensures { Turned seat.old (EnterSays who file.now) result.0 result.1 seat.new }
     {
         self.lock.with(rt, seat, |hall: &mut HallState<P, M>| {
-            let answer = hall.enter(alloc, who, file);
+            let answer = hall.enter(who, file);
             hall.is_reached();
             (answer, hall.count())
         })
@@ -44,7 +42,6 @@ impl<P: Drop, M: Labelled> Hall<P, M> {
     pub fn post<R: Wait>(
         &self,
         rt: &R,
-        alloc: Global,
         seat: &mut Seat<HallState<P, M>>,
         who: u32,
         doc: DocId,
@@ -55,7 +52,7 @@ impl<P: Drop, M: Labelled> Hall<P, M> {
         ensures { Turned seat.old (PostSays M.tag who doc.0 mail urgent) result.0 result.1 seat.new }
     {
         self.lock.with(rt, seat, |hall: &mut HallState<P, M>| {
-            let answer = hall.post(alloc, who, doc, mail, urgent);
+            let answer = hall.post(who, doc, mail, urgent);
             hall.is_reached();
             (answer, hall.count())
         })

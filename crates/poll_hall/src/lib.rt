@@ -13,6 +13,9 @@ mod shared;
 mod turns;
 
 pub use hall::Hall;
+pub use hall_machine::{
+    CloseFault, Entered, HallFault, HallState, Label, Labelled, MailBag, Owner, Refused,
+};
 pub use local::LocalPort;
 pub use port::Port;
 pub use shared::HallPort;

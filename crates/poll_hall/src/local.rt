@@ -8,7 +8,6 @@ use crate::port::Port;
 use crate::turns::collect_turn;
 use cool_base::{DocId, FileId};
 use hall_machine::{CloseFault, Entered, HallFault, HallState, Labelled, MailBag, Owner, Refused};
-use std::alloc::Global;
 
 /// A port over a plain state, for one thread. It waits for nobody, and tells the state.
 #[derive(Drop)]
@@ -20,12 +19,12 @@ pub struct LocalPort<'a, P: Drop, M: Labelled> {
 impl<'a, P: Drop, M: Labelled> Port<P, M> for LocalPort<'a, P, M> {
     ghost view = { λ p. local_view p.hall.now p.who };
 
-    fn enter(&mut self, alloc: Global, file: &FileId) -> Result<Entered, HallFault> {
-        self.hall.enter(alloc, self.who, file)
+    fn enter(&mut self, file: &FileId) -> Result<Entered, HallFault> {
+        self.hall.enter(self.who, file)
     }
 
-    fn post(&mut self, alloc: Global, doc: DocId, mail: M, urgent: bool) -> Result<(), Refused<M>> {
-        self.hall.post(alloc, self.who, doc, mail, urgent)
+    fn post(&mut self, doc: DocId, mail: M, urgent: bool) -> Result<(), Refused<M>> {
+        self.hall.post(self.who, doc, mail, urgent)
     }
 
     fn collect(&mut self, doc: DocId, bag: MailBag<M>) -> (Result<u32, Owner>, MailBag<M>)

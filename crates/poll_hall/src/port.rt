@@ -6,18 +6,17 @@ ghost use Rattle.poll_hall.specs.Ports.{PortView, Finds, Stays};
 
 use cool_base::{DocId, FileId};
 use hall_machine::{CloseFault, Entered, HallFault, Labelled, MailBag, Owner, Refused};
-use std::alloc::Global;
 
 /// A hall as one poll sees it: each call is the one of `HallState` of its name, with its condition and refusals, made for that poll.
 pub trait Port<P: Drop, M: Labelled> {
     ghost view: { Self → PortView P M };
 
     /// Opens the file: `There`, `HallFull`, `BookFull` or `Fresh`, in this order.
-    fn enter(&mut self, alloc: Global, file: &FileId) -> Result<Entered, HallFault>
+    fn enter(&mut self, file: &FileId) -> Result<Entered, HallFault>
         ensures { Finds (view self.old) (EnterSays (view self.old).who file.now) (λ old new. MatchResult result (λ e. EntersOne (view self.old).who file.now e old new) (λ _. Stays old new)) result (view self.new) };
 
     /// Posts a mail: `Gone`, `MailFull` or `BookFull`, in this order, with the mail.
-    fn post(&mut self, alloc: Global, doc: DocId, mail: M, urgent: bool) -> Result<(), Refused<M>>
+    fn post(&mut self, doc: DocId, mail: M, urgent: bool) -> Result<(), Refused<M>>
         ensures { Finds (view self.old) (PostSays M.tag (view self.old).who doc.0 mail urgent) (λ old new. MatchResult result (λ _. Posts doc.0 mail old new) (λ _. Stays old new)) result (view self.new) };
 
     /// The mails that waited longest, at most 64, in the bag, which is empty at first: `Gone` or `NotHere`.

@@ -5,7 +5,7 @@ use Rattle.net_traits.specs.declared.nets.Given.TheVariants.{Sent, Failed}
 use Rattle.net_traits.specs.declared.nets.Taken.{Taken}
 use Rattle.net_traits.specs.declared.nets.Taken.TheVariants as taken
 use Rattle.poll_machine.specs.Words.{Ways}
-use Rattle.poll_machine.specs.House.{Slot, Act, Happens, Ticks, Takes, Calls, Reads, OfDoc, Shows, Frees, Posted, Adopted, House, HouseStep, DocStep, SlotStep, slot_of, after_take, after_show, after_post}
+use Rattle.poll_machine.specs.House.{Slot, SlotAct, Happens, Ticks, Takes, Calls, Reads, OfDoc, Shows, Frees, Posted, Adopted, House, HouseStep, DocStep, SlotStep, slot_of, after_take, after_show, after_post}
 use Rattle.poll_machine.specs.Project.{act_of, acts_of}
 use Rattle.poll_machine.specs.Runs.{Run}
 use Rattle.poll_machine.proofs.Runs.{runs}
@@ -29,7 +29,7 @@ post_keeps link None h = refl
 post_keeps link (Some carried) h = refl
 
 -- what is done to a document is its own step, and leaves any other as it is
-of_doc : {D J P L : Type 0} (w : Ways D J P) (id : ℕ) (old : House D J P L) (x moment : ℕ) (act : Act D J P L) (new : House D J P L) (here : Bool)
+of_doc : {D J P L : Type 0} (w : Ways D J P) (id : ℕ) (old : House D J P L) (x moment : ℕ) (act : SlotAct D J P L) (new : House D J P L) (here : Bool)
     → nat_eq x id ≡ here → DocStep w old x moment act new
     → Run (SlotStep w) (slot_of id old.docs) (act_of id (OfDoc x moment act)) (slot_of id new.docs)
 of_doc w id old x moment act new true e step =

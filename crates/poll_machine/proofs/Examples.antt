@@ -5,8 +5,8 @@ use Rattle.cool_frame.specs.declared.kind.ErrorKind.TheVariants.{BadUrl}
 use Rattle.net_traits.specs.declared.nets.Given.TheVariants.{Sent, Failed}
 use Rattle.net_traits.specs.declared.nets.Taken.TheVariants as taken
 use Rattle.poll_machine.specs.Words.{Event, Joined, Left, Said, Turned, Painted, PutAnswered, Work, Paint, Outs, nothing, Ways}
-use Rattle.poll_machine.specs.Agenda.{Held, Seat, Here, Did, Gives, Leaves, Frees as FreesHere, Releases, HeldStep}
-use Rattle.poll_machine.specs.House.{Slot, Live, House, Happens, Ticks, Takes, Calls, OfDoc, Shows, Frees, Act, At, Arrives, HouseStep}
+use Rattle.poll_machine.specs.Agenda.{HeldDocument, ViewLink, Here, Did, Gives, Leaves, Frees as FreesHere, Releases, HeldStep}
+use Rattle.poll_machine.specs.House.{Slot, Live, House, Happens, Ticks, Takes, Calls, OfDoc, Shows, Frees, SlotAct, At, Arrives, HouseStep}
 use Rattle.poll_machine.specs.Lobby.{loads, refusal_bytes}
 use Rattle.poll_machine.specs.Turn.{Outcome, Worked, Idle, NetFault, outcome}
 use Rattle.poll_machine.specs.Project.{acts_of, moves_of, frames_of, HeldMove}
@@ -34,16 +34,16 @@ counting = record {
 }
 
 -- a held document with two views
-abbrev held : ℕ → List Seat → List (ℕ × ℕ) → Held ℕ ℕ ℕ ℕ
-held doc seats packed = record { file = 7 ∷ []; doc = doc; seats = seats; packed = packed; lock = None; todo = [] }
+abbrev held : ℕ → List ViewLink → List (ℕ × ℕ) → HeldDocument ℕ ℕ ℕ ℕ
+held doc views packed = record { file = 7 ∷ []; doc = doc; views = views; packed = packed; lock = None; todo = [] }
 
-abbrev first : Seat
+abbrev first : ViewLink
 first = record { view = 0; link = 10 }
 
-abbrev second : Seat
+abbrev second : ViewLink
 second = record { view = 1; link = 11 }
 
-abbrev two : Held ℕ ℕ ℕ ℕ
+abbrev two : HeldDocument ℕ ℕ ℕ ℕ
 two = held 3 (first ∷ second ∷ []) []
 
 -- a view says something, and the give of its frame fails: it leaves before anything else, and its link is released; its frame counts as
@@ -75,7 +75,7 @@ a_net_fails : outcome {D = ℕ} {J = ℕ} {P = ℕ} {L = ℕ} (Ticks 5 ∷ Calls
 a_net_fails = refl
 
 -- a house with two documents and a link in its lobby
-abbrev house : Held ℕ ℕ ℕ ℕ → Held ℕ ℕ ℕ ℕ → House ℕ ℕ ℕ ℕ
+abbrev house : HeldDocument ℕ ℕ ℕ ℕ → HeldDocument ℕ ℕ ℕ ℕ → House ℕ ℕ ℕ ℕ
 house a b = record { me = 0; spread = false; docs = (0, Live a) ∷ (1, Live b) ∷ []; lobby = 9 ∷ []; lost = []; opened = 5; ended = 0; moment = 5 }
 
 -- the second makes a turn; the first is as it was, and was done nothing

@@ -2,7 +2,7 @@
 use Rattle.std.proofs.Common.{◌≡◌, ℕ, List, [], ◌∷◌, ◌++◌, refl, subst, sym, ap}
 use Rattle.poll_machine.specs.Words.{Ways}
 use Rattle.poll_machine.specs.House.{House, Happens, HouseStep}
-use Rattle.poll_machine.specs.Turn.{a_turn, IsTurn, End, Budget, Rested, Fault, Wants, Polls}
+use Rattle.poll_machine.specs.Turn.{a_turn, IsTurn, End, Budget, Rested, Fault, OutOfMemory, Polls}
 use Rattle.poll_machine.specs.Runs.{Run, all_events}
 use Rattle.poll_machine.proofs.Runs.{runs, follows_is_run}
 
@@ -23,5 +23,5 @@ polls_run w given Rested old turns rest new h =
     runs (HouseStep w) old (all_events turns) rest h.mid new (rounds w old turns h.mid h.rounds.run) (follows_is_run (HouseStep w) (a_turn w) h.mid rest new h.last)
 polls_run w given Fault old turns rest new h =
     runs (HouseStep w) old (all_events turns) rest h.mid new (rounds w old turns h.mid h.rounds.run) (follows_is_run (HouseStep w) (a_turn w) h.mid rest new h.last)
-polls_run w given Wants old turns rest new h =
+polls_run w given OutOfMemory old turns rest new h =
     runs (HouseStep w) old (all_events turns) rest h.mid new (rounds w old turns h.mid h.rounds.run) h.cut

@@ -9,7 +9,7 @@ use Rattle.outside.specs.declared.faults.StoreFault.{StoreFault}
 use Rattle.poll_machine.specs.Words.{Event, Joined, Left, Said, Turned, Painted, PutAnswered, Work, Paint, Put, Outs, nothing, Answer, PaintDone, PutDone, event_of, Ways}
 
 -- a view and its link
-pub record Seat : Type 0 where
+pub record ViewLink : Type 0 where
   pub view : ℕ
   pub link : ℕ
 
@@ -32,36 +32,36 @@ pub data Todo (J P : Type 0) : Type 0 where
 
 -- a document that a poll holds: its file, its state, its views with their links, the views whose links are on their way
 -- (each with its link), its lock, and what is owed to it
-pub record Held (D J P L : Type 0) : Type 0 where
+pub record HeldDocument (D J P L : Type 0) : Type 0 where
   pub file : List ℕ
   pub doc : D
-  pub seats : List Seat
+  pub views : List ViewLink
   pub packed : List (ℕ × L)
   pub lock : Option Lock
   pub todo : List (Todo J P)
 
 -- what is owed for what an event gave out: its frames in order, and then its works
-abbrev pub owed : {J P : Type 0} → Outs J → List (Todo J P)
-owed outs = map (λ p. Give p.0 p.1) outs.frames ++ map (λ work. Offer work) outs.works
+abbrev pub todo_of : {J P : Type 0} → Outs J → List (Todo J P)
+todo_of outs = map (λ p. Give p.0 p.1) outs.frames ++ map (λ work. Offer work) outs.works
 
 -- the link of a view
-abbrev pub link_of : List Seat → ℕ → Option ℕ
+abbrev pub link_of : List ViewLink → ℕ → Option ℕ
 link_of [] view = None
-link_of (s ∷ seats) view = if s.view == view then Some s.link else link_of seats view
+link_of (s ∷ views) view = if s.view == view then Some s.link else link_of views view
 
 -- the view of a link
-abbrev pub view_of : List Seat → ℕ → Option ℕ
+abbrev pub view_of : List ViewLink → ℕ → Option ℕ
 view_of [] link = None
-view_of (s ∷ seats) link = if s.link == link then Some s.view else view_of seats link
+view_of (s ∷ views) link = if s.link == link then Some s.view else view_of views link
 
 -- the views but this one
-abbrev pub without_view : List Seat → ℕ → List Seat
-without_view seats view = filter (λ s. not (s.view == view)) seats
+abbrev pub without_view : List ViewLink → ℕ → List ViewLink
+without_view views view = filter (λ s. not (s.view == view)) views
 
--- the views after an event: one that left has its seat no longer
-abbrev pub seats_after : {P : Type 0} → Event P → List Seat → List Seat
-seats_after (Left view) seats = without_view seats view
-seats_after _ seats = seats
+-- the views after an event: one that left is among them no longer
+abbrev pub views_after : {P : Type 0} → Event P → List ViewLink → List ViewLink
+views_after (Left view) views = without_view views view
+views_after _ views = views
 
 -- only a join adds a view
 abbrev pub is_join : {P : Type 0} → Event P → Bool
@@ -106,27 +106,27 @@ pub data Here (J P L : Type 0) : Type 0 where
 
 -- the document once a view's link was released for a departure: the link is packed, or, where the net had it no longer, the
 -- view is to leave
-abbrev pub released : {D J P L : Type 0} → Held D J P L → ℕ → Option L → Held D J P L
-released h view (Some carried) = record h { seats = without_view h.seats view; packed = h.packed ++ (view, carried) ∷ [] }
+abbrev pub released : {D J P L : Type 0} → HeldDocument D J P L → ℕ → Option L → HeldDocument D J P L
+released h view (Some carried) = record h { views = without_view h.views view; packed = h.packed ++ (view, carried) ∷ [] }
 released h view None = record h { todo = Leave view ∷ [] }
 
 -- one step of a held document. What comes to it, and what is done for it, wants that nothing is owed; what is owed is done
 -- from the front
-abbrev pub HeldStep : {D J P L : Type 0} → Ways D J P → ℕ → Held D J P L → Here J P L → Held D J P L → Type 0
+abbrev pub HeldStep : {D J P L : Type 0} → Ways D J P → ℕ → HeldDocument D J P L → Here J P L → HeldDocument D J P L → Type 0
 HeldStep {D} {J} {P} {L} w now old (Joins link rights outs) new =
     (doc : D) × (old.todo ≡ []) × (w.is_full old.doc ≡ false) × w.Steps old.doc (Joined rights) outs doc
-    × (new ≡ record old { doc = doc; seats = old.seats ++ record { view = w.next_view old.doc; link = link } ∷ []; todo = owed outs })
+    × (new ≡ record old { doc = doc; views = old.views ++ record { view = w.next_view old.doc; link = link } ∷ []; todo = todo_of outs })
 HeldStep {D} {J} {P} {L} w now old (Did event outs) new =
     (doc : D) × (old.todo ≡ []) × (is_join event ≡ false) × w.Steps old.doc event outs doc
-    × (new ≡ record old { doc = doc; seats = seats_after event old.seats; lock = lock_after w now old.doc event old.lock; todo = owed outs })
+    × (new ≡ record old { doc = doc; views = views_after event old.views; lock = lock_after w now old.doc event old.lock; todo = todo_of outs })
 HeldStep {D} {J} {P} {L} w now old (Gives view link frame given) new =
-    (rest : List (Todo J P)) × (old.todo ≡ Give view frame ∷ rest) × (link_of old.seats view ≡ Some link)
+    (rest : List (Todo J P)) × (old.todo ≡ Give view frame ∷ rest) × (link_of old.views view ≡ Some link)
     × (new ≡ record old { todo = after_give given view link rest })
 HeldStep {D} {J} {P} {L} w now old (Skips view frame) new =
-    (rest : List (Todo J P)) × (old.todo ≡ Give view frame ∷ rest) × (link_of old.seats view ≡ None) × (new ≡ record old { todo = rest })
+    (rest : List (Todo J P)) × (old.todo ≡ Give view frame ∷ rest) × (link_of old.views view ≡ None) × (new ≡ record old { todo = rest })
 HeldStep {D} {J} {P} {L} w now old (Leaves view) new =
     (rest : List (Todo J P)) × (doc : D) × (old.todo ≡ Leave view ∷ rest) × w.Steps old.doc (Left view) nothing doc
-    × (new ≡ record old { doc = doc; seats = without_view old.seats view; todo = rest })
+    × (new ≡ record old { doc = doc; views = without_view old.views view; todo = rest })
 HeldStep {D} {J} {P} {L} w now old (Frees link gave) new =
     (rest : List (Todo J P)) × (old.todo ≡ LetGo link ∷ rest) × (new ≡ record old { todo = rest })
 HeldStep {D} {J} {P} {L} w now old (Asks spare) new =
@@ -140,7 +140,7 @@ HeldStep {D} {J} {P} {L} w now old (Puts errand answer) new =
     (rest : List (Todo J P)) × (old.todo ≡ Do (Put errand) ∷ rest) × (new ≡ record old { todo = Take (PutDone errand.ticket.0 answer) ∷ rest })
 HeldStep {D} {J} {P} {L} w now old (Takes answer outs) new =
     (rest : List (Todo J P)) × (doc : D) × (old.todo ≡ Take answer ∷ rest) × w.Steps old.doc (event_of answer) outs doc
-    × (new ≡ record old { doc = doc; lock = lock_after w now old.doc (event_of answer) old.lock; todo = owed outs ++ rest })
+    × (new ≡ record old { doc = doc; lock = lock_after w now old.doc (event_of answer) old.lock; todo = todo_of outs ++ rest })
 HeldStep {D} {J} {P} {L} w now old (Refreshes file token answer) new =
     (moment : ℕ) × (old.todo ≡ []) × (file ≡ old.file) × (old.lock ≡ Some (record { token = token; moment = moment }))
     × (new ≡ record old { lock = Some (record { token = token; moment = now }) })
@@ -148,7 +148,7 @@ HeldStep {D} {J} {P} {L} w now old (Unlocks file token answer) new =
     (moment : ℕ) × (old.todo ≡ []) × (file ≡ old.file) × (old.lock ≡ Some (record { token = token; moment = moment }))
     × (new ≡ record old { lock = None })
 HeldStep {D} {J} {P} {L} w now old (Releases view link gave) new =
-    (old.todo ≡ []) × (link_of old.seats view ≡ Some link) × (new ≡ released old view gave)
+    (old.todo ≡ []) × (link_of old.views view ≡ Some link) × (new ≡ released old view gave)
 HeldStep {D} {J} {P} {L} w now old (Adopts view carried link) new =
     (rest : List (ℕ × L)) × (old.todo ≡ []) × (old.packed ≡ (view, carried) ∷ rest)
-    × (new ≡ record old { packed = rest; seats = old.seats ++ record { view = view; link = link } ∷ [] })
+    × (new ≡ record old { packed = rest; views = old.views ++ record { view = view; link = link } ∷ [] })

@@ -14,7 +14,7 @@ use Rattle.net_traits.specs.declared.nets.Taken.{Taken}
 use Rattle.net_traits.specs.declared.nets.Taken.TheVariants as taken
 use Rattle.outside.specs.Stores.{StoreCall}
 use Rattle.poll_machine.specs.Words.{Answer, Ways}
-use Rattle.poll_machine.specs.Agenda.{Seat, Lock, Held, view_of, Here, Joins, Gives, Releases, HeldStep}
+use Rattle.poll_machine.specs.Agenda.{ViewLink, Lock, HeldDocument, view_of, Here, Joins, Gives, Releases, HeldStep}
 
 -- the answer to a load that was refused: its kind, and its code where it has one
 pub record Refusal : Type 0 where
@@ -23,7 +23,7 @@ pub record Refusal : Type 0 where
 
 -- what is held under an id: a document, or a file whose load was refused, with the answer that it keeps
 pub data Slot (D J P L : Type 0) : Type 0 where
-  Live : (held : Held D J P L) → Slot D J P L
+  Live : (held : HeldDocument D J P L) → Slot D J P L
   Refused : (file : List ℕ) (refusal : Refusal) → Slot D J P L
 
 -- a document on its way from one poll to another: its file, its state, its views with their links, its lock
@@ -54,14 +54,14 @@ pub data PortCall (D P L : Type 0) : Type 0 where
 -- what is done to one document: what happens to a held one; a file that was fetched is opened, with its lock; a refused
 -- one is held, since the hall didn't close it; its mails are collected; it arrives; it departs, with the hall's answer; it is
 -- closed, with the hall's answer
-pub data Act (D J P L : Type 0) : Type 0 where
-  At : (here : Here J P L) → Act D J P L
-  Opens : (file bytes : List ℕ) (lock : Option Lock) → Act D J P L
-  Keeps : (file : List ℕ) (refusal : Refusal) (why : CloseFault) → Act D J P L
-  Gets : (answer : Result ℕ Owner) (bag : List (Mail P L)) → Act D J P L
-  ComesIn : (parcel : Parcel D L) → Act D J P L
-  GoesTo : (to : ℕ) (parcel : Parcel D L) (answer : Result (Unit {0}) HallFault) → Act D J P L
-  Ends : (answer : Result (Unit {0}) CloseFault) → Act D J P L
+pub data SlotAct (D J P L : Type 0) : Type 0 where
+  At : (here : Here J P L) → SlotAct D J P L
+  Opens : (file bytes : List ℕ) (lock : Option Lock) → SlotAct D J P L
+  Keeps : (file : List ℕ) (refusal : Refusal) (why : CloseFault) → SlotAct D J P L
+  Gets : (answer : Result ℕ Owner) (bag : List (Mail P L)) → SlotAct D J P L
+  ComesIn : (parcel : Parcel D L) → SlotAct D J P L
+  GoesTo : (to : ℕ) (parcel : Parcel D L) (answer : Result (Unit {0}) HallFault) → SlotAct D J P L
+  Ends : (answer : Result (Unit {0}) CloseFault) → SlotAct D J P L
 
 -- what happens in a house, one event for each call on the clock, the net, the port, the store, the yard and on a document:
 -- the clock tells the moment; the net is asked for an event; the port, or the store, is called for no held document;
@@ -72,7 +72,7 @@ pub data Happens (D J P L : Type 0) : Type 0 where
   Takes : (taken : Taken) → Happens D J P L
   Calls : (call : PortCall D P L) → Happens D J P L
   Reads : (call : StoreCall) → Happens D J P L
-  OfDoc : (id moment : ℕ) (act : Act D J P L) → Happens D J P L
+  OfDoc : (id moment : ℕ) (act : SlotAct D J P L) → Happens D J P L
   Shows : (link : ℕ) (frame : List ℕ) (given : Given) → Happens D J P L
   Frees : (link : ℕ) (gave : Option L) → Happens D J P L
   Posted : (link : ℕ) (gave : Option L) → Happens D J P L
@@ -107,15 +107,15 @@ Rises (p ∷ []) = ⊤
 Rises (p ∷ q ∷ docs) = (p.0 < q.0) × Rises (q ∷ docs)
 
 -- a document as it is opened over the bytes of its file
-abbrev pub opened_over : {D J P L : Type 0} → List ℕ → D → Option Lock → Held D J P L
-opened_over file doc lock = record { file = file; doc = doc; seats = []; packed = []; lock = lock; todo = [] }
+abbrev pub opened_over : {D J P L : Type 0} → List ℕ → D → Option Lock → HeldDocument D J P L
+opened_over file doc lock = record { file = file; doc = doc; views = []; packed = []; lock = lock; todo = [] }
 
 -- a document as it comes in: its links are still to be adopted
-abbrev pub come_in : {D J P L : Type 0} → Parcel D L → Held D J P L
-come_in parcel = record { file = parcel.file; doc = parcel.doc; seats = []; packed = parcel.links; lock = parcel.lock; todo = [] }
+abbrev pub come_in : {D J P L : Type 0} → Parcel D L → HeldDocument D J P L
+come_in parcel = record { file = parcel.file; doc = parcel.doc; views = []; packed = parcel.links; lock = parcel.lock; todo = [] }
 
 -- the parcel of a document whose links are all packed
-abbrev pub parcel_of : {D J P L : Type 0} → Held D J P L → Parcel D L
+abbrev pub parcel_of : {D J P L : Type 0} → HeldDocument D J P L → Parcel D L
 parcel_of h = record { file = h.file; doc = h.doc; links = h.packed; lock = h.lock }
 
 -- what is held after the hall answered: nothing more, or the same where it refused
@@ -135,9 +135,9 @@ is_free (Some (Refused file refusal)) = true
 is_free (Some (Live h)) = elim h.todo [ [] ↦ true | t ∷ rest ↦ false ]
 
 -- one step of what is held under one id, if anything, at a moment
-abbrev pub SlotStep : {D J P L : Type 0} → Ways D J P → Option (Slot D J P L) → ℕ × Act D J P L → Option (Slot D J P L) → Type 0
+abbrev pub SlotStep : {D J P L : Type 0} → Ways D J P → Option (Slot D J P L) → ℕ × SlotAct D J P L → Option (Slot D J P L) → Type 0
 SlotStep {D} {J} {P} {L} w old (moment, At here) new =
-    (h : Held D J P L) × (z : Held D J P L) × (old ≡ Some (Live h)) × HeldStep w moment h here z × (new ≡ Some (Live z))
+    (h : HeldDocument D J P L) × (z : HeldDocument D J P L) × (old ≡ Some (Live h)) × HeldStep w moment h here z × (new ≡ Some (Live z))
 SlotStep {D} {J} {P} {L} w old (moment, Opens file bytes lock) new =
     (doc : D) × (old ≡ None) × (w.opening bytes ≡ Some doc) × (new ≡ Some (Live (opened_over file doc lock)))
 SlotStep {D} {J} {P} {L} w old (moment, Keeps file refusal why) new = (old ≡ None) × (new ≡ Some (Refused file refusal))
@@ -145,7 +145,7 @@ SlotStep {D} {J} {P} {L} w old (moment, Gets answer bag) new =
     (slot : Slot D J P L) × (old ≡ Some slot) × (is_free old ≡ true) × (new ≡ old)
 SlotStep {D} {J} {P} {L} w old (moment, ComesIn parcel) new = (old ≡ None) × (new ≡ Some (Live (come_in parcel)))
 SlotStep {D} {J} {P} {L} w old (moment, GoesTo to parcel answer) new =
-    (h : Held D J P L) × (old ≡ Some (Live h)) × (h.todo ≡ []) × (h.seats ≡ []) × (parcel ≡ parcel_of h)
+    (h : HeldDocument D J P L) × (old ≡ Some (Live h)) × (h.todo ≡ []) × (h.views ≡ []) × (parcel ≡ parcel_of h)
     × (new ≡ unless_refused answer (Live h))
 SlotStep {D} {J} {P} {L} w old (moment, Ends answer) new =
     (slot : Slot D J P L) × (old ≡ Some slot) × MayEnd w slot × (new ≡ unless_refused answer slot)
@@ -159,25 +159,25 @@ abbrev pub is_among : ℕ → List ℕ → Bool
 is_among link links = list_any (λ l. l == link) links
 
 -- the document and the view of a link, where it is a view's
-abbrev pub seat_at : {D J P L : Type 0} → ℕ × Slot D J P L → ℕ → Option ℕ
-seat_at (id, Live h) link = view_of h.seats link
-seat_at (id, Refused file refusal) link = None
+abbrev pub view_at : {D J P L : Type 0} → ℕ × Slot D J P L → ℕ → Option ℕ
+view_at (id, Live h) link = view_of h.views link
+view_at (id, Refused file refusal) link = None
 
 abbrev pub found_or : ℕ → Option ℕ → Option (ℕ × ℕ) → Option (ℕ × ℕ)
 found_or id (Some view) later = Some (id, view)
 found_or id None later = later
 
-abbrev pub seat_in : {D J P L : Type 0} → List (ℕ × Slot D J P L) → ℕ → Option (ℕ × ℕ)
-seat_in [] link = None
-seat_in (p ∷ docs) link = found_or p.0 (seat_at p link) (seat_in docs link)
+abbrev pub view_in : {D J P L : Type 0} → List (ℕ × Slot D J P L) → ℕ → Option (ℕ × ℕ)
+view_in [] link = None
+view_in (p ∷ docs) link = found_or p.0 (view_at p link) (view_in docs link)
 
 -- whether the house holds a link
-abbrev pub is_seated : Option (ℕ × ℕ) → Bool
-is_seated (Some seat) = true
-is_seated None = false
+abbrev pub is_view : Option (ℕ × ℕ) → Bool
+is_view (Some found) = true
+is_view None = false
 
 abbrev pub holds : {D J P L : Type 0} → House D J P L → ℕ → Bool
-holds h link = if is_among link h.lobby then true else is_seated (seat_in h.docs link)
+holds h link = if is_among link h.lobby then true else is_view (view_in h.docs link)
 
 -- the house after the net answered: a link that opens is in the lobby; one that leaves is in the lobby no more, and ended,
 -- where it was held. Its view leaves by an event of its document
@@ -189,29 +189,29 @@ after_take taken.Nothing h = h
 after_take taken.Failed h = h
 
 -- the lobby after something was done to a document: a link that joins is there no more
-abbrev pub lobby_after : {D J P L : Type 0} → Act D J P L → List ℕ → List ℕ
+abbrev pub lobby_after : {D J P L : Type 0} → SlotAct D J P L → List ℕ → List ℕ
 lobby_after (At (Joins link rights outs)) lobby = without_link link lobby
 lobby_after _ lobby = lobby
 
 -- a link that joins was in the lobby
-abbrev pub may_join : {D J P L : Type 0} → Act D J P L → List ℕ → Bool
+abbrev pub may_join : {D J P L : Type 0} → SlotAct D J P L → List ℕ → Bool
 may_join (At (Joins link rights outs)) lobby = is_among link lobby
 may_join _ lobby = true
 
 -- how many links ended by it: one whose give failed, and one that the net had no longer at a departure
-abbrev pub ends_by : {D J P L : Type 0} → Act D J P L → ℕ
+abbrev pub ends_by : {D J P L : Type 0} → SlotAct D J P L → ℕ
 ends_by (At (Gives view link frame Failed)) = 1
 ends_by (At (Releases view link None)) = 1
 ends_by _ = 0
 
 -- the lost files after it: a lost document that is closed adds its file
-abbrev pub lost_by : {D J P L : Type 0} → Ways D J P → Option (Slot D J P L) → Act D J P L → List (List ℕ)
+abbrev pub lost_by : {D J P L : Type 0} → Ways D J P → Option (Slot D J P L) → SlotAct D J P L → List (List ℕ)
 lost_by w (Some (Live h)) (Ends (Ok u)) = if w.is_lost h.doc then h.file ∷ [] else []
 lost_by w _ _ = []
 
 -- something is done to one document: it steps, and every other document stays as it is. The order of ids is kept; of
 -- the rest only the lobby, the ended links and the lost files change
-pub record DocStep {D J P L : Type 0} (w : Ways D J P) (old : House D J P L) (id moment : ℕ) (act : Act D J P L) (new : House D J P L) : Type 0 where
+pub record DocStep {D J P L : Type 0} (w : Ways D J P) (old : House D J P L) (id moment : ℕ) (act : SlotAct D J P L) (new : House D J P L) : Type 0 where
   pub now : moment ≡ old.moment
   pub one : SlotStep w (slot_of id old.docs) (moment, act) (slot_of id new.docs)
   pub others : (x : ℕ) → x ≢ id → slot_of x new.docs ≡ slot_of x old.docs

@@ -21,8 +21,8 @@ use Rattle.outside.specs.declared.errands.Admission.{Admission}
 use Rattle.outside.specs.declared.faults.StoreFault.{StoreFault}
 use Rattle.outside.specs.declared.faults.StoreFault.TheVariants.{Memory as NoMemory}
 use Rattle.poll_machine.specs.Words.{Event, Outs, Ways}
-use Rattle.poll_machine.specs.Agenda.{Seat, Lock, Held, Here, Joins as JoinsHere, Did, Releases, Adopts as AdoptsHere}
-use Rattle.poll_machine.specs.House.{Refusal, Slot, Live, Refused, Mail, Join, PortCall, Enters, Posts, Closes, Advises, Act, At, Opens, Keeps, GoesTo, parcel_of, Happens, Calls, Reads, OfDoc, Shows, Frees, Posted, Adopted, House, slot_of, is_free}
+use Rattle.poll_machine.specs.Agenda.{ViewLink, Lock, HeldDocument, Here, Joins as JoinsHere, Did, Releases, Adopts as AdoptsHere}
+use Rattle.poll_machine.specs.House.{Refusal, Slot, Live, Refused, Mail, Join, PortCall, Enters, Posts, Closes, Advises, SlotAct, At, Opens, Keeps, GoesTo, parcel_of, Happens, Calls, Reads, OfDoc, Shows, Frees, Posted, Adopted, House, slot_of, is_free}
 use Rattle.poll_machine.specs.Plans.{Plan, Rests, Never, Makes, Then, Learns, Looks, Until, each, choose}
 
 -- the bytes of a refusal
@@ -57,21 +57,21 @@ abbrev pub happens_to : {D J P L : Type 0} → ℕ → (Outs J → Here J P L) �
 happens_to {D} {J} {P} {L} id what = Learns (λ (outs : Outs J). Then (here_now id (what outs)) (settles id))
 
 -- a link of the lobby joins a held document; where the document has all the views that it may have, it is refused
-abbrev pub joins : {D J P L : Type 0} → Ways D J P → ℕ → ℕ → Rights → Held D J P L → Plan (House D J P L) (Happens D J P L)
+abbrev pub joins : {D J P L : Type 0} → Ways D J P → ℕ → ℕ → Rights → HeldDocument D J P L → Plan (House D J P L) (Happens D J P L)
 joins w id link rights h =
     choose (w.is_full h.doc) (refuses link (record { kind = ViewsFull; code = None })) (happens_to id (λ outs. JoinsHere link rights outs))
 
 -- every packed link of a document is adopted, in order
-abbrev pub adopts : {D J P L : Type 0} → ℕ → Held D J P L → Plan (House D J P L) (Happens D J P L)
+abbrev pub adopts : {D J P L : Type 0} → ℕ → HeldDocument D J P L → Plan (House D J P L) (Happens D J P L)
 adopts id h = each (λ p. Learns (λ (link : ℕ). here_now id (AdoptsHere p.0 p.1 link))) h.packed
 
 -- where a document is held under this id, this is done for it, else nothing
-abbrev pub live : {D J P L : Type 0} → (Held D J P L → Plan (House D J P L) (Happens D J P L)) → Option (Slot D J P L) → Plan (House D J P L) (Happens D J P L)
+abbrev pub live : {D J P L : Type 0} → (HeldDocument D J P L → Plan (House D J P L) (Happens D J P L)) → Option (Slot D J P L) → Plan (House D J P L) (Happens D J P L)
 live plan (Some (Live h)) = plan h
 live plan (Some (Refused file refusal)) = Rests
 live plan None = Rests
 
-abbrev pub for_live : {D J P L : Type 0} → ℕ → (Held D J P L → Plan (House D J P L) (Happens D J P L)) → Plan (House D J P L) (Happens D J P L)
+abbrev pub for_live : {D J P L : Type 0} → ℕ → (HeldDocument D J P L → Plan (House D J P L) (Happens D J P L)) → Plan (House D J P L) (Happens D J P L)
 for_live id plan = Looks (λ h. live plan (slot_of id h.docs))
 
 -- a document departs to a poll: the link of each of its views is released, in order, and a view whose link the net had no longer
@@ -80,14 +80,14 @@ abbrev pub adopted_where : {D J P L : Type 0} → ℕ → Result (Unit {0}) Hall
 adopted_where id (Ok u) = Rests
 adopted_where id (Err why) = for_live id (adopts id)
 
-abbrev pub goes : {D J P L : Type 0} → ℕ → ℕ → Held D J P L → Plan (House D J P L) (Happens D J P L)
+abbrev pub goes : {D J P L : Type 0} → ℕ → ℕ → HeldDocument D J P L → Plan (House D J P L) (Happens D J P L)
 goes id to h =
     Learns (λ (answer : Result (Unit {0}) HallFault).
     Then (Looks (λ now. Makes (OfDoc id now.moment (GoesTo to (parcel_of h) answer)))) (adopted_where id answer))
 
-abbrev pub departs : {D J P L : Type 0} → ℕ → ℕ → Held D J P L → Plan (House D J P L) (Happens D J P L)
+abbrev pub departs : {D J P L : Type 0} → ℕ → ℕ → HeldDocument D J P L → Plan (House D J P L) (Happens D J P L)
 departs {D} {J} {P} {L} id to h =
-    Then (each (λ s. Learns (λ (gave : Option L). Then (here_now id (Releases s.view s.link gave)) (settles id))) h.seats)
+    Then (each (λ s. Learns (λ (gave : Option L). Then (here_now id (Releases s.view s.link gave)) (settles id))) h.views)
     (for_live id (goes id to))
 
 -- a fresh document of a poll that spreads departs to the poll that the hall names, where that is another
@@ -125,7 +125,7 @@ opens w link id file bytes rights (Some doc) =
     Then (Looks (λ h. Makes (OfDoc id h.moment (Opens file bytes (lock_where rights.can_write rights.token h.moment)))))
     (Then (for_live id (joins w id link rights)) (spreads id))
 
--- a fault of the store refuses the load with its code; for want of memory the whole call ends, so that answer goes on in no way
+-- a fault of the store refuses the load with its code; out of memory, the whole call ends, so that answer goes on in no way
 abbrev pub failed : {D J P L : Type 0} → (Refusal → Plan (House D J P L) (Happens D J P L)) → StoreFault → Plan (House D J P L) (Happens D J P L)
 failed plan NoMemory = Never
 failed plan why = plan (record { kind = LoadFailed; code = Some (code_of why) })

@@ -15,7 +15,7 @@ use Rattle.poll_hall.specs.Ports.{PortView, Finds, Stays}
 use Rattle.poll_hall.specs.Says.{EnterSays, PostSays, CollectSays, DepartSays, ArriveSays, CloseSays, AdviseSays, SpareSays, PollsSays}
 use Rattle.poll_machine.specs.Words.{Work, Answer, PaintDone, PutDone, Ways}
 use Rattle.poll_machine.specs.Agenda.{Here, Gives, Frees as FreesHere, Asks, Offers, Puts, Refreshes, Unlocks, Releases, Adopts}
-use Rattle.poll_machine.specs.House.{Parcel, Mail, Join, Answered, Move, PortCall, Enters, Posts, Collects, Departs, Arrives, Closes, Advises, Spares, Counts, Act, At, Opens, Keeps, Gets, ComesIn, GoesTo, Ends, Happens, Ticks, Takes, Calls, Reads, OfDoc, Shows, Frees, Posted, Adopted}
+use Rattle.poll_machine.specs.House.{Parcel, Mail, Join, Answered, Move, PortCall, Enters, Posts, Collects, Departs, Arrives, Closes, Advises, Spares, Counts, SlotAct, At, Opens, Keeps, Gets, ComesIn, GoesTo, Ends, Happens, Ticks, Takes, Calls, Reads, OfDoc, Shows, Frees, Posted, Adopted}
 use Rattle.poll_machine.specs.Runs.{Run}
 
 -- a call on the net with its answer
@@ -33,7 +33,7 @@ net_here (Releases view link gave) = Released link gave ∷ []
 net_here (Adopts view carried link) = Named carried link ∷ []
 net_here _ = []
 
-abbrev pub net_act : {D J P L : Type 0} → Act D J P L → List (NetEntry L)
+abbrev pub net_act : {D J P L : Type 0} → SlotAct D J P L → List (NetEntry L)
 net_act (At here) = net_here here
 net_act _ = []
 
@@ -51,7 +51,7 @@ abbrev pub port_here : {D J P L : Type 0} → Here J P L → List (PortCall D P 
 port_here (Asks spare) = Spares spare ∷ []
 port_here _ = []
 
-abbrev pub port_act : {D J P L : Type 0} → ℕ → Act D J P L → List (PortCall D P L)
+abbrev pub port_act : {D J P L : Type 0} → ℕ → SlotAct D J P L → List (PortCall D P L)
 port_act id (At here) = port_here here
 port_act id (Opens file bytes lock) = []
 port_act id (Keeps file refusal why) = Closes id (Err why) ∷ []
@@ -72,7 +72,7 @@ store_here (Refreshes file token answer) = StoreRefreshes file token answer ∷ 
 store_here (Unlocks file token answer) = StoreUnlocks file token answer ∷ []
 store_here _ = []
 
-abbrev pub store_act : {D J P L : Type 0} → Act D J P L → List StoreCall
+abbrev pub store_act : {D J P L : Type 0} → SlotAct D J P L → List StoreCall
 store_act (At here) = store_here here
 store_act _ = []
 
@@ -91,7 +91,7 @@ abbrev pub yard_here : {J P L : Type 0} → ℕ → Here J P L → List (ℕ × 
 yard_here id (Offers work kept) = (id, work, kept) ∷ []
 yard_here id _ = []
 
-abbrev pub yard_act : {D J P L : Type 0} → ℕ → Act D J P L → List (ℕ × Work J × Bool)
+abbrev pub yard_act : {D J P L : Type 0} → ℕ → SlotAct D J P L → List (ℕ × Work J × Bool)
 yard_act id (At here) = yard_here id here
 yard_act id _ = []
 

@@ -11,8 +11,8 @@ use Rattle.net_traits.specs.declared.nets.Taken.{Taken}
 use Rattle.net_traits.specs.declared.nets.Taken.TheVariants as taken
 use Rattle.outside.specs.declared.faults.StoreFault.{StoreFault}
 use Rattle.poll_machine.specs.Words.{Event, Left, Said, Turned, Outs, Answer, event_of, Ways}
-use Rattle.poll_machine.specs.Agenda.{Seat, Lock, Held, Here, Did, Refreshes, Unlocks}
-use Rattle.poll_machine.specs.House.{Slot, Live, Refused, Parcel, Mail, Join, Answered, Move, PortCall, Arrives, Counts, Act, At, Gets, ComesIn, Ends, Happens, Ticks, Takes, Calls, OfDoc, Adopted, House, HouseStep, slot_of, seat_in, is_among}
+use Rattle.poll_machine.specs.Agenda.{ViewLink, Lock, HeldDocument, Here, Did, Refreshes, Unlocks}
+use Rattle.poll_machine.specs.House.{Slot, Live, Refused, Parcel, Mail, Join, Answered, Move, PortCall, Arrives, Counts, SlotAct, At, Gets, ComesIn, Ends, Happens, Ticks, Takes, Calls, OfDoc, Adopted, House, HouseStep, slot_of, view_in, is_among}
 use Rattle.poll_machine.specs.Lobby.{refuses, here_now, settles, happens_to, joins, adopts, for_live, departs, hears}
 use Rattle.poll_machine.specs.Runs.{Run}
 use Rattle.poll_machine.specs.Plans.{Plan, Rests, Never, Makes, Then, Learns, Looks, Follows, each, choose}
@@ -75,17 +75,17 @@ collects {D} {J} {P} {L} w id =
 -- what the net gave: a link that says something is a view, or in the lobby; a link that leaves makes its view leave; a link that
 -- isn't held changes nothing
 abbrev pub says : {D J P L : Type 0} → Ways D J P → ℕ → List ℕ → Option (ℕ × ℕ) → Plan (House D J P L) (Happens D J P L)
-says w link text (Some seat) = did seat.0 (Said seat.1 text)
+says w link text (Some found) = did found.0 (Said found.1 text)
 says w link text None = Looks (λ h. choose (is_among link h.lobby) (hears w link text (reading text)) Rests)
 
 abbrev pub leaves : {D J P L : Type 0} → Option (ℕ × ℕ) → Plan (House D J P L) (Happens D J P L)
-leaves (Some seat) = did seat.0 (Left seat.1)
+leaves (Some found) = did found.0 (Left found.1)
 leaves None = Rests
 
 abbrev pub handles : {D J P L : Type 0} → Ways D J P → Taken → Plan (House D J P L) (Happens D J P L)
 handles w (taken.Opened link) = Rests
-handles w (taken.Said link bytes) = Looks (λ h. says w link.0 bytes (seat_in h.docs link.0))
-handles w (taken.Left link) = Looks (λ h. leaves (seat_in h.docs link.0))
+handles w (taken.Said link bytes) = Looks (λ h. says w link.0 bytes (view_in h.docs link.0))
+handles w (taken.Left link) = Looks (λ h. leaves (view_in h.docs link.0))
 handles w taken.Nothing = Rests
 handles w taken.Failed = Rests
 
@@ -157,7 +157,7 @@ is_done_here (Refreshes file token answer) = true
 is_done_here (Unlocks file token answer) = true
 is_done_here _ = false
 
-abbrev pub is_done_to : {D J P L : Type 0} → Act D J P L → Bool
+abbrev pub is_done_to : {D J P L : Type 0} → SlotAct D J P L → Bool
 is_done_to (At here) = is_done_here here
 is_done_to (ComesIn parcel) = true
 is_done_to (Gets answer bag) = is_some_mail bag
@@ -184,12 +184,12 @@ pub data Outcome : Type 0 where
 abbrev pub outcome : {D J P L : Type 0} → List (Happens D J P L) → Outcome
 outcome events = if list_any is_fault events then NetFault else if list_any is_work events then Worked else Idle
 
--- how a run of turns ends: all turns that were given were made; a turn was idle; the net failed; or memory was wanting
+-- how a run of turns ends: all turns that were given were made; a turn was idle; the net failed; or it was out of memory
 pub data End : Type 0 where
   Budget : End
   Rested : End
   Fault : End
-  Wants : End
+  OutOfMemory : End
 
 -- all of these turns worked
 abbrev pub AllWorked : {D J P L : Type 0} → List (List (Happens D J P L)) → Type 0
@@ -216,21 +216,21 @@ pub record CutsOff {D J P L : Type 0} (w : Ways D J P) (given : ℕ) (old : Hous
   pub cut : Run (HouseStep w) mid rest new
 
 -- a run of at most so many turns: Budget exactly where so many were made and all worked; it ends at the first that was idle, or at which
--- the net failed; for want of memory what was done so far is a run
+-- the net failed; out of memory, what was done so far is a run
 abbrev pub Polls : {D J P L : Type 0} → Ways D J P → (given : ℕ) → End → House D J P L → List (List (Happens D J P L)) → List (Happens D J P L) → House D J P L → Type 0
 Polls w given Budget old turns rest new = Rounds w old turns new × (length turns ≡ given) × (rest ≡ [])
 Polls w given Rested old turns rest new = EndsWith w given Idle old turns rest new
 Polls w given Fault old turns rest new = EndsWith w given NetFault old turns rest new
-Polls w given Wants old turns rest new = CutsOff w given old turns rest new
+Polls w given OutOfMemory old turns rest new = CutsOff w given old turns rest new
 
--- the house after a call: spent after want of memory
+-- the house after a call: spent once it was out of memory
 abbrev pub left_by : {X : Type 0} → End → X → Option X
-left_by Wants house = None
+left_by OutOfMemory house = None
 left_by Budget house = Some house
 left_by Rested house = Some house
 left_by Fault house = Some house
 
--- a call on a house that may be spent: a spent one wants memory, does nothing and stays spent
+-- a call on a house that may be spent: a spent one is out of memory, does nothing and stays spent
 abbrev pub PollsOn : {D J P L : Type 0} → Ways D J P → (given : ℕ) → End → Option (House D J P L) → List (List (Happens D J P L)) → List (Happens D J P L) → (last : House D J P L) → Option (House D J P L) → Type 0
-PollsOn w given end None turns rest last new = (end ≡ Wants) × (turns ≡ []) × (rest ≡ []) × (new ≡ None)
+PollsOn w given end None turns rest last new = (end ≡ OutOfMemory) × (turns ≡ []) × (rest ≡ []) × (new ≡ None)
 PollsOn w given end (Some old) turns rest last new = Polls w given end old turns rest last × (new ≡ left_by end last)

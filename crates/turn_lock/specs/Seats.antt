@@ -22,8 +22,8 @@ abbrev pub copied : {E G : Type 0} → Known E G → Known E G
 copied k = record k { own = []; turns = 0 }
 
 -- one seat of two: the longer list, the own entries of both, the greater count, the turns of both
-abbrev pub joined : {E G : Type 0} → Known E G → Known E G → Known E G
-joined k other = record k { seen = longer k.seen other.seen; own = k.own ++ other.own; noted = max k.noted other.noted; turns = k.turns + other.turns }
+abbrev pub seat_of_two : {E G : Type 0} → Known E G → Known E G → Known E G
+seat_of_two k other = record k { seen = longer k.seen other.seen; own = k.own ++ other.own; noted = max k.noted other.noted; turns = k.turns + other.turns }
 
 -- a list stays, or has one entry more at its end
 abbrev pub StaysOrAdds : {E : Type 0} → List E → List E → Type 0

@@ -3,11 +3,11 @@ ghost use Rattle.std.specs.Prelude.{◌≡◌, ℕ, ◌≤◌, Some, [], ◌∷�
 ghost use Rattle.std.specs.Fn.{FnOnceReturnsAtMut, FnOnceTakesAtMut};
 ghost use Rattle.atomic_table.specs.Seated.{TableId};
 ghost use Rattle.turn_lock.specs.Lists.{IsPrefix, times};
-ghost use Rattle.turn_lock.specs.Seats.{Known, Meets, MayBecome, StaysOrAdds, after_turn, copied, joined};
+ghost use Rattle.turn_lock.specs.Seats.{Known, Meets, MayBecome, StaysOrAdds, after_turn, copied, seat_of_two};
 
 use crate::booked::Booked;
 use crate::steps::{give_back, take_out, take_turn};
-use crate::turns::{Desk, Divide, Look, Merge, Place, Settle};
+use crate::turns::{Divide, Look, Merge, SeatTable, Settle, TableSeat};
 use cool_base::Memory;
 use std::alloc::Global;
 use std::marker::Model;
@@ -17,7 +17,7 @@ use std::sync::Wait;
 /// A value that one thread at a time has its turn with. It may be shared by threads where the value may cross threads.
 #[derive(Drop)]
 pub struct TurnLock<T: Booked> {
-    table: Desk<T>,
+    table: SeatTable<T>,
 }
 
 impl<T: Booked> Model for TurnLock<T> {
@@ -36,7 +36,7 @@ impl<T: Booked> Model for TurnLock<T> {
 /// What a thread makes its turns with. It may go to another thread.
 #[derive(Drop)]
 pub struct Seat<T: Booked> {
-    place: Place<T>,
+    place: TableSeat<T>,
 }
 
 impl<T: Booked> Model for Seat<T> {
@@ -65,7 +65,7 @@ impl<T: Booked> TurnLock<T> {
         if slots.push(Some(value)).is_err() {
             return Err(Memory);
         }
-        match Desk::<T>::new(alloc, &[0, count], slots, &about) {
+        match SeatTable::<T>::new(alloc, &[0, count], slots, &about) {
             Ok((table, place)) => Ok((TurnLock { table }, Seat { place })),
             Err(_) => Err(Memory),
         }
@@ -113,7 +113,7 @@ impl<T: Booked> TurnLock<T> {
     pub fn join(&self, seat: &mut Seat<T>, other: Seat<T>)
         requires first { seat.old.lock ≡ self.now }
         requires second { other.lock ≡ self.now }
-        ensures both { seat.new ≡ joined seat.old other }
+        ensures both { seat.new ≡ seat_of_two seat.old other }
         ensures prefixes { IsPrefix seat.old.seen seat.new.seen × IsPrefix other.seen seat.new.seen }
         ensures once { (p : ℕ) → times p seat.new.own ≤ 1 }
     {

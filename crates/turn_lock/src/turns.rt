@@ -7,7 +7,7 @@ use atomic_table::{Join, Play, Seat, Shared, Split, Table, TableRule};
 use std::alloc::Global;
 use std::snapshot::Snapshot;
 
-pub type Place<T> = Seat<Option<T>, View<<T as Booked>::Entry, <T as Booked>::Ground>>;
+pub type TableSeat<T> = Seat<Option<T>, View<<T as Booked>::Entry, <T as Booked>::Ground>>;
 
 pub type Top<T> = Shared<
     Option<T>,
@@ -16,7 +16,7 @@ pub type Top<T> = Shared<
     Turns,
 >;
 
-pub type Desk<T> = Table<
+pub type SeatTable<T> = Table<
     Option<T>,
     View<<T as Booked>::Entry, <T as Booked>::Ground>,
     Snapshot<T>,

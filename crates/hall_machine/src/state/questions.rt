@@ -2,7 +2,7 @@
 ghost use Rattle.std.specs.Prelude.{◌≡◌, ◌/◌, length};
 ghost use Rattle.std.specs.Option.{option_map};
 ghost use Rattle.hall_machine.specs.Machine.{IsLeast, spare_answer, find_answer};
-ghost use Rattle.hall_machine.specs.Book.{stage_of, IsLegal};
+ghost use Rattle.hall_machine.specs.Entries.{stage_of, IsLegal};
 ghost use Rattle.hall_machine.specs.Ids.{Rises};
 ghost use Rattle.hall_machine.specs.States.{sights};
 

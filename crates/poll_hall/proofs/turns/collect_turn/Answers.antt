@@ -1,4 +1,4 @@
-use Rattle.hall_machine.specs.Book.{stage_of}
+use Rattle.hall_machine.specs.Entries.{stage_of}
 use Rattle.poll_hall.proofs.Labels.{labels_taken, values_taken}
 use Rattle.poll_hall.proofs.turns.collect_turn.Goals as goal
 
