@@ -1,9 +1,11 @@
 -- What the entries of a history tell by themselves, without the machine.
-use Rattle.std.specs.Prelude.{◌≡◌, ◌≢◌, ℕ, ◌+◌, ◌==◌, Option, None, Some, List, [], ◌∷◌, ◌++◌, if◌then◌else◌}
+use Rattle.std.specs.Prelude.{◌≡◌, ◌≢◌, ℕ, ◌+◌, ◌==◌, Option, None, Some, List, [], ◌∷◌, ◌++◌}
+use Rattle.std.specs.Prelude.{if◌then◌else◌}
 use Rattle.std.specs.Option.{option_map}
 use Rattle.hall_machine.specs.declared.words.Label.{Label}
 use Rattle.hall_machine.specs.declared.words.HallAct.{HallAct}
-use Rattle.hall_machine.specs.declared.words.HallAct.TheVariants.{Enter, Post, Collect, Depart, Arrive, Close}
+use Rattle.hall_machine.specs.declared.words.HallAct.TheVariants.{Enter, Post, Collect, Depart}
+use Rattle.hall_machine.specs.declared.words.HallAct.TheVariants.{Arrive, Close}
 use Rattle.hall_machine.specs.declared.words.Entry.{Entry}
 use Rattle.hall_machine.specs.Machine.{Where, at, bound, Desk, Stage}
 
@@ -24,7 +26,8 @@ mails_at (Some x) = x.mails
 abbrev pub mails_in : ℕ → Stage → List Label
 mails_in doc s = mails_at (desk_of doc s.desks)
 
--- Who has a document, told by the entries: the poll that opened it or at which it arrived last, the poll that it is on its way to; nobody before it was opened and after it was closed
+-- Who has a document, told by the entries: the poll that opened it or at which it arrived last, the
+-- poll that it is on its way to; nobody before it was opened and after it was closed
 abbrev pub turned : ℕ → HallAct → Option Where → Option Where
 turned who (Enter file) w = Some (at who)
 turned who (Post label urgent) w = w
@@ -40,7 +43,9 @@ place_from w doc (e ∷ es) = place_from (if e.doc == doc then turned e.who e.ac
 abbrev pub place_told : ℕ → List Entry → Option Where
 place_told doc book = place_from None doc book
 
--- what may be done by whom: a document is opened where nobody has it; its owner alone collects, departs and closes; it arrives at the poll that it is on its way to; mail is posted where somebody has it
+-- what may be done by whom: a document is opened where nobody has it; its owner alone collects,
+-- departs and closes; it arrives at the poll that it is on its way to; mail is posted where
+-- somebody has it
 abbrev pub IsAllowed : ℕ → HallAct → Option Where → Type 0
 IsAllowed who (Enter file) w = w ≡ None
 IsAllowed who (Post label urgent) w = w ≢ None

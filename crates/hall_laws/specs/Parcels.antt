@@ -16,7 +16,8 @@ pub data Deed (P M : Type 0) : Type 0 where
   closed : ℕ → Deed P M
 
 -- what it did to the open documents
-abbrev pub Does : {P M : Type 0} → Deed P M → List (OpenDocument P M) → List (OpenDocument P M) → Type 0
+abbrev pub Does : {P M : Type 0} → Deed P M → List (OpenDocument P M) → List (OpenDocument P M)
+    → Type 0
 Does (entered who file e) old new = EntersOne who file e old new
 Does (posted doc mail) old new = Posts doc mail old new
 Does (collected doc bag) old new = Collects doc bag old new
@@ -29,9 +30,11 @@ abbrev pub AreSorted : {P M : Type 0} → (M → Label) → List (OpenDocument P
 AreSorted {P} {M} tag opens = (next : ℕ) × AreRising 0 (sights tag opens) next
 
 -- a run of calls
-abbrev pub Runs : {P M : Type 0} → (M → Label) → List (OpenDocument P M) → List (Deed P M) → List (OpenDocument P M) → Type 0
+abbrev pub Runs : {P M : Type 0} → (M → Label) → List (OpenDocument P M) → List (Deed P M)
+    → List (OpenDocument P M) → Type 0
 Runs {P} {M} tag old [] new = new ≡ old
-Runs {P} {M} tag old (d ∷ ds) new = (mid : List (OpenDocument P M)) × Does d old mid × AreSorted tag mid × Runs tag mid ds new
+Runs {P} {M} tag old (d ∷ ds) new = (mid : List (OpenDocument P M)) × Does d old mid
+    × AreSorted tag mid × Runs tag mid ds new
 
 -- none of these calls departs, takes in or closes this document
 abbrev pub Leaves : {P M : Type 0} → ℕ → List (Deed P M) → Type 0

@@ -1,9 +1,13 @@
 //! What the machine answers, decided over the open documents.
-ghost use Rattle.std.specs.Prelude.{◌≡◌, ℕ, ◌+◌, ◌-◌, ◌≤◌, ◌<◌, ◌^◌, Option, None, Some, Result, Ok, Err, length, min, IfOk, IfSome, MatchOption, MatchResult};
+ghost use Rattle.std.specs.Prelude.{◌≡◌, ℕ, ◌+◌, ◌-◌, ◌≤◌, ◌<◌, ◌^◌, Option, None, Some, Result};
+ghost use Rattle.std.specs.Prelude.{Ok, Err, length, min, IfOk, IfSome, MatchOption, MatchResult};
 ghost use Rattle.std.specs.List.{position};
 ghost use Rattle.std.specs.Cmp.Lexicographic.{pointwise};
 ghost use Rattle.std.specs.Prelude.{◌==◌, nat_eq};
-ghost use Rattle.hall_machine.specs.Machine.{place_of, place_of_file, place_bound_to, is_bound_to, desk_at, other_than, owed, enter_answer, post_answer, depart_answer, collect_answer, close_answer, depart_by, close_by, hall_fault, close_fault};
+ghost use Rattle.hall_machine.specs.Machine.{place_of, place_of_file, place_bound_to, is_bound_to};
+ghost use Rattle.hall_machine.specs.Machine.{desk_at, other_than, owed, enter_answer, post_answer};
+ghost use Rattle.hall_machine.specs.Machine.{depart_answer, collect_answer, close_answer};
+ghost use Rattle.hall_machine.specs.Machine.{depart_by, close_by, hall_fault, close_fault};
 ghost use Rattle.hall_machine.specs.States.{sights, staged, where_of};
 
 use crate::words::{Entered, Ground, HallFault, Holder, Labelled, OpenDocument, Owner};
@@ -98,7 +102,8 @@ pub fn see<P: Drop, M: Labelled>(opens: &[OpenDocument<P, M>], at: usize, who: u
     }
 }
 
-/// The answer of `enter`: the document of the file where it is open, or None where a new one is to be opened.
+/// The answer of `enter`: the document of the file where it is open, or None where a new one is to
+/// be opened.
 pub fn check_enter<P: Drop, M: Labelled>(
     ground: Ground,
     next: u32,
@@ -111,8 +116,11 @@ pub fn check_enter<P: Drop, M: Labelled>(
     requires room { (entries + due ≤ ground.room) × (16384 ≤ ground.room) }
     ensures { MatchResult result
         (λ o. MatchOption o
-        ((enter_answer ground (staged M.tag next opens.now entries) file.now ≡ Ok (Entered.Fresh (record { 0 = next }))) × (length opens.now < 64) × ((entries + due) + 2 ≤ ground.room))
-        (λ doc. enter_answer ground (staged M.tag next opens.now entries) file.now ≡ Ok (Entered.There doc)))
+        ((enter_answer ground (staged M.tag next opens.now entries) file.now
+        ≡ Ok (Entered.Fresh (record { 0 = next }))) × (length opens.now < 64)
+        × ((entries + due) + 2 ≤ ground.room))
+        (λ doc. enter_answer ground (staged M.tag next opens.now entries) file.now
+        ≡ Ok (Entered.There doc)))
         (λ why. enter_answer ground (staged M.tag next opens.now entries) file.now ≡ Err why) }
 {
     match place_of_file(opens, file) {
@@ -142,7 +150,9 @@ pub fn check_post<P: Drop, M: Labelled>(
     requires due { due ≡ owed (sights M.tag opens.now) }
     requires room { (entries + due ≤ ground.room) × (16384 ≤ ground.room) }
     ensures { MatchResult result
-        (λ i. (post_answer ground (staged M.tag next opens.now entries) doc urgent ≡ Ok tt) × (place_of doc (sights M.tag opens.now) ≡ Some i) × (i < length opens.now) × ((entries + due) + 2 ≤ ground.room))
+        (λ i. (post_answer ground (staged M.tag next opens.now entries) doc urgent ≡ Ok tt)
+        × (place_of doc (sights M.tag opens.now) ≡ Some i) × (i < length opens.now)
+        × ((entries + due) + 2 ≤ ground.room))
         (λ why. post_answer ground (staged M.tag next opens.now entries) doc urgent ≡ Err why) }
 {
     let Some(at) = place_of(opens, doc) else {
@@ -163,7 +173,8 @@ pub fn check_post<P: Drop, M: Labelled>(
     Ok(at)
 }
 
-/// Where the document stands that the poll owns, the number of mails that wait for it, or why the poll can do nothing with it.
+/// Where the document stands that the poll owns, the number of mails that wait for it, or why the
+/// poll can do nothing with it.
 pub fn check_owner<P: Drop, M: Labelled>(
     ground: Ground,
     next: u32,
@@ -172,10 +183,22 @@ pub fn check_owner<P: Drop, M: Labelled>(
     who: u32,
     doc: u32,
 ) -> Result<(usize, usize), Owner>
-    ensures owned { IfOk result (λ t. (place_of doc (sights M.tag opens.now) ≡ Some t.0) × (t.0 < length opens.now) × (t.1 ≡ length (desk_at (sights M.tag opens.now) t.0).mails)) }
-    ensures collect { MatchResult result (λ t. collect_answer (staged M.tag next opens.now entries) who doc ≡ Ok (min 64 t.1)) (λ why. collect_answer (staged M.tag next opens.now entries) who doc ≡ Err why) }
-    ensures depart { MatchResult result (λ _. depart_answer ground (staged M.tag next opens.now entries) who doc ≡ depart_by ground (staged M.tag next opens.now entries) None) (λ why. depart_answer ground (staged M.tag next opens.now entries) who doc ≡ Err (hall_fault why)) }
-    ensures close { MatchResult result (λ t. close_answer (staged M.tag next opens.now entries) who doc ≡ close_by (desk_at (sights M.tag opens.now) t.0) None) (λ why. close_answer (staged M.tag next opens.now entries) who doc ≡ Err (close_fault why)) }
+    ensures owned { IfOk result
+        (λ t. (place_of doc (sights M.tag opens.now) ≡ Some t.0) × (t.0 < length opens.now)
+        × (t.1 ≡ length (desk_at (sights M.tag opens.now) t.0).mails)) }
+    ensures collect { MatchResult result
+        (λ t. collect_answer (staged M.tag next opens.now entries) who doc ≡ Ok (min 64 t.1))
+        (λ why. collect_answer (staged M.tag next opens.now entries) who doc ≡ Err why) }
+    ensures depart { MatchResult result
+        (λ _. depart_answer ground (staged M.tag next opens.now entries) who doc
+        ≡ depart_by ground (staged M.tag next opens.now entries) None)
+        (λ why. depart_answer ground (staged M.tag next opens.now entries) who doc
+        ≡ Err (hall_fault why)) }
+    ensures close { MatchResult result
+        (λ t. close_answer (staged M.tag next opens.now entries) who doc
+        ≡ close_by (desk_at (sights M.tag opens.now) t.0) None)
+        (λ why. close_answer (staged M.tag next opens.now entries) who doc
+        ≡ Err (close_fault why)) }
 {
     let Some(at) = place_of(opens, doc) else {
         return Err(Owner::Gone);
@@ -200,7 +223,9 @@ pub fn check_depart<P: Drop, M: Labelled>(
     requires due { due ≡ owed (sights M.tag opens.now) }
     requires room { (entries + due ≤ ground.room) × (16384 ≤ ground.room) }
     ensures { MatchResult result
-        (λ i. (depart_answer ground (staged M.tag next opens.now entries) who doc ≡ Ok tt) × (place_of doc (sights M.tag opens.now) ≡ Some i) × (i < length opens.now) × ((entries + due) + 2 ≤ ground.room))
+        (λ i. (depart_answer ground (staged M.tag next opens.now entries) who doc ≡ Ok tt)
+        × (place_of doc (sights M.tag opens.now) ≡ Some i) × (i < length opens.now)
+        × ((entries + due) + 2 ≤ ground.room))
         (λ why. depart_answer ground (staged M.tag next opens.now entries) who doc ≡ Err why) }
 {
     match check_owner(ground, next, opens, entries, who, doc) {

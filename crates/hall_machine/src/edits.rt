@@ -18,7 +18,9 @@ pub fn open_one<P: Drop, M: Labelled>(
     who: u32,
 ) -> Result<Filed, Memory>
     ensures { MatchResult result
-        (λ filed. (filed ≡ file.now) × (opens.new.items ≡ opens.old.items ++ record { doc = doc; file = file.now; holder = At who; mails = [] } ∷ []))
+        (λ filed. (filed ≡ file.now)
+        × (opens.new.items ≡ opens.old.items
+        ++ record { doc = doc; file = file.now; holder = At who; mails = [] } ∷ []))
         (λ _. opens.new.items ≡ opens.old.items) }
 {
     let filed = Filed::of(alloc, file)?;
@@ -39,7 +41,8 @@ pub fn put_mail<P: Drop, M: Labelled>(
 ) -> Result<(), M>
     requires { at < length opens.old }
     ensures { MatchResult result
-        (λ _. (o : OpenDocument P M) × (slice_get opens.old at ≡ Some o) × (opens.new ≡ slice_set opens.old at (record o { mails = o.mails ++ mail ∷ [] })))
+        (λ _. (o : OpenDocument P M) × (slice_get opens.old at ≡ Some o)
+        × (opens.new ≡ slice_set opens.old at (record o { mails = o.mails ++ mail ∷ [] })))
         (λ back. (back ≡ mail) × (opens.new ≡ opens.old)) }
 {
     let o = &mut opens[at];

@@ -34,7 +34,9 @@ pub fn take_mails<P: Drop, M: Labelled>(
 ) -> MailBag<M>
     requires empty { bag ≡ [] }
     requires there { at < length opens.old }
-    ensures { (o : OpenDocument P M) × (slice_get opens.old at ≡ Some o) × (opens.new ≡ slice_set opens.old at (record o { mails = drop 64 o.mails })) × (result ≡ take 64 o.mails) }
+    ensures { (o : OpenDocument P M) × (slice_get opens.old at ≡ Some o)
+        × (opens.new ≡ slice_set opens.old at (record o { mails = drop 64 o.mails }))
+        × (result ≡ take 64 o.mails) }
 {
     let o = &mut opens[at];
     let n = o.mails.len().min(64);
@@ -49,7 +51,8 @@ pub fn send_off<P: Drop, M: Labelled>(
     parcel: P,
 )
     requires { at < length opens.old }
-    ensures { (o : OpenDocument P M) × (slice_get opens.old at ≡ Some o) × (opens.new ≡ slice_set opens.old at (record o { holder = To to parcel })) }
+    ensures { (o : OpenDocument P M) × (slice_get opens.old at ≡ Some o)
+        × (opens.new ≡ slice_set opens.old at (record o { holder = To to parcel })) }
 {
     let o = &mut opens[at];
     o.holder = Holder::To(to, parcel);
@@ -70,7 +73,9 @@ fn unpack<P: Drop>(holder: &mut Holder<P>, who: u32) -> P
 pub fn land<P: Drop, M: Labelled>(opens: &mut [OpenDocument<P, M>], at: usize, who: u32) -> P
     requires there { at < length opens.old }
     requires bound { is_bound_to who (desk_at (sights M.tag opens.old) at).holder ≡ true }
-    ensures { (o : OpenDocument P M) × (slice_get opens.old at ≡ Some o) × (opens.new ≡ slice_set opens.old at (record o { holder = At who })) × (o.holder ≡ To who result) }
+    ensures { (o : OpenDocument P M) × (slice_get opens.old at ≡ Some o)
+        × (opens.new ≡ slice_set opens.old at (record o { holder = At who }))
+        × (o.holder ≡ To who result) }
 {
     let o = &mut opens[at];
     unpack(&mut o.holder, who)

@@ -1,7 +1,10 @@
 //! What is answered from the open documents and changes nothing.
-ghost use Rattle.std.specs.Prelude.{◌≡◌, ◌==◌, ℕ, ◌+◌, ◌≤◌, ◌<◌, count_by, true, None, Some, Ok, Err, length, MatchOption, MatchResult};
+ghost use Rattle.std.specs.Prelude.{◌≡◌, ◌==◌, ℕ, ◌+◌, ◌≤◌, ◌<◌, count_by, true, None, Some, Ok};
+ghost use Rattle.std.specs.Prelude.{Err, length, MatchOption, MatchResult};
 ghost use Rattle.std.specs.Option.{option_map};
-ghost use Rattle.hall_machine.specs.Machine.{poll_of, load_of, IsLeast, place_of, place_bound_to, is_bound_to, desk_at, owed, arrive_answer, find_answer, collect_answer, close_answer};
+ghost use Rattle.hall_machine.specs.Machine.{poll_of, load_of, IsLeast, place_of, place_bound_to};
+ghost use Rattle.hall_machine.specs.Machine.{is_bound_to, desk_at, owed, arrive_answer};
+ghost use Rattle.hall_machine.specs.Machine.{find_answer, collect_answer, close_answer};
 ghost use Rattle.hall_machine.specs.States.{sights, staged, where_of};
 
 use crate::checks::{check_owner, place_bound_to, place_of_file, see};
@@ -54,7 +57,8 @@ pub fn check_find<P: Drop, M: Labelled>(
     entries: u64,
     file: &FileId,
 ) -> Option<DocId>
-    ensures { result ≡ option_map (λ d. record { 0 = d }) (find_answer (staged M.tag next opens.now entries) file.now) }
+    ensures { result ≡ option_map (λ d. record { 0 = d })
+        (find_answer (staged M.tag next opens.now entries) file.now) }
 {
     match place_of_file(opens, file) {
         Some(at) => Some(DocId(see(opens, at, 0).doc)),
@@ -73,7 +77,10 @@ pub fn check_arrive<P: Drop, M: Labelled>(
     requires { due ≡ owed (sights M.tag opens.now) }
     ensures { MatchOption result
         (arrive_answer (staged M.tag next opens.now entries) who ≡ None)
-        (λ t. (arrive_answer (staged M.tag next opens.now entries) who ≡ Some t.1) × (place_bound_to who (sights M.tag opens.now) ≡ Some t.0) × (is_bound_to who (desk_at (sights M.tag opens.now) t.0).holder ≡ true) × (t.0 < length opens.now) × (1 ≤ due)) }
+        (λ t. (arrive_answer (staged M.tag next opens.now entries) who ≡ Some t.1)
+        × (place_bound_to who (sights M.tag opens.now) ≡ Some t.0)
+        × (is_bound_to who (desk_at (sights M.tag opens.now) t.0).holder ≡ true)
+        × (t.0 < length opens.now) × (1 ≤ due)) }
 {
     match place_bound_to(opens, who) {
         Some(at) => Some((at, see(opens, at, 0).doc)),
@@ -93,7 +100,9 @@ pub fn check_collect<P: Drop, M: Labelled>(
 ) -> Result<(usize, u32), Owner>
     requires { due ≡ owed (sights M.tag opens.now) }
     ensures { MatchResult result
-        (λ t. (collect_answer (staged M.tag next opens.now entries) who doc ≡ Ok t.1) × (place_of doc (sights M.tag opens.now) ≡ Some t.0) × (t.0 < length opens.now) × (t.1 ≤ due))
+        (λ t. (collect_answer (staged M.tag next opens.now entries) who doc ≡ Ok t.1)
+        × (place_of doc (sights M.tag opens.now) ≡ Some t.0) × (t.0 < length opens.now)
+        × (t.1 ≤ due))
         (λ why. collect_answer (staged M.tag next opens.now entries) who doc ≡ Err why) }
 {
     match check_owner(ground, next, opens, entries, who, doc) {
@@ -115,7 +124,8 @@ pub fn check_close<P: Drop, M: Labelled>(
     requires due { due ≡ owed (sights M.tag opens.now) }
     requires few { due ≤ 4194304 }
     ensures { MatchResult result
-        (λ i. (close_answer (staged M.tag next opens.now entries) who doc ≡ Ok tt) × (place_of doc (sights M.tag opens.now) ≡ Some i) × (i < length opens.now) × (1 ≤ due))
+        (λ i. (close_answer (staged M.tag next opens.now entries) who doc ≡ Ok tt)
+        × (place_of doc (sights M.tag opens.now) ≡ Some i) × (i < length opens.now) × (1 ≤ due))
         (λ why. close_answer (staged M.tag next opens.now entries) who doc ≡ Err why) }
 {
     match check_owner(ground, next, opens, entries, who, doc) {

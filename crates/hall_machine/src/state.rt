@@ -34,9 +34,16 @@ impl<P: Drop, M: Labelled> Model for HallState<P, M> {
 
     ghost Value = { HallView P M };
 
-    ghost view = { λ s. record { ground_of = record { polls = s.polls; room = s.room }; opens = s.opens.items; book = s.entries.items } };
+    ghost view = { λ s. record {
+      ground_of = record { polls = s.polls; room = s.room };
+      opens =
+          s.opens.items;
+      book = s.entries.items;
+    } };
 
-    ghost invariant = { λ s. IsKept M.tag (record { polls = s.polls; room = s.room }) s.next s.opens.items s.due s.entries.items (vec_capacity s.entries) };
+    ghost invariant = { λ s. IsKept M.tag
+        (record { polls = s.polls; room = s.room }) s.next s.opens.items s.due s.entries.items
+        (vec_capacity s.entries) };
 }
 
 impl<P: Drop, M: Labelled> Booked for HallState<P, M> {
@@ -58,7 +65,13 @@ impl<P: Drop, M: Labelled> HallState<P, M> {
     pub fn new(alloc: Global, polls: u32, room: u32) -> Result<HallState<P, M>, Memory>
         requires polls { (1 ≤ polls) × (polls ≤ 64) }
         requires room { (16384 ≤ room) × (room ≤ 4194304) }
-        ensures { IfOk result (λ h. h ≡ record { ground_of = record { polls = polls; room = room }; opens = []; book = [] }) }
+        ensures { IfOk result
+            (λ h. h ≡ record {
+              ground_of = record { polls = polls; room = room };
+              opens = [];
+              book =
+                  [];
+            }) }
     {
         let entries = Vec::with_capacity(alloc, room as usize)?;
         Ok(HallState {
@@ -71,12 +84,20 @@ impl<P: Drop, M: Labelled> HallState<P, M> {
         })
     }
 
-    /// Opens the file for the poll: `There` exactly where it is open; else `HallFull` exactly where 64 documents are open; else
-    /// `BookFull` exactly where the book is full; else `Fresh` with the next id. After a refusal the state is unchanged.
+    /// Opens the file for the poll: `There` exactly where it is open; else `HallFull` exactly where
+    /// 64 documents are open; else
+    /// `BookFull` exactly where the book is full; else `Fresh` with the next id. After a refusal
+    /// the state is unchanged.
     pub fn enter(&mut self, who: u32, file: &FileId) -> Result<Entered, HallFault>
         ensures ground { self.new.ground_of ≡ self.old.ground_of }
-        ensures answers { AnswersOrMemory self.old.ground_of self.old.book (enter_answer self.old.ground_of (stage_of self.old.book) file.now) (entered who file.now (enter_answer self.old.ground_of (stage_of self.old.book) file.now) self.old.book) (Err HallFault.Memory) result self.new.book }
-        ensures values { MatchResult result (λ e. EntersOne who file.now e self.old.opens self.new.opens) (λ _. self.new.opens ≡ self.old.opens) }
+        ensures answers { AnswersOrMemory self.old.ground_of self.old.book
+            (enter_answer self.old.ground_of (stage_of self.old.book) file.now)
+            (entered who file.now
+            (enter_answer self.old.ground_of (stage_of self.old.book) file.now) self.old.book)
+            (Err HallFault.Memory) result self.new.book }
+        ensures values { MatchResult result
+            (λ e. EntersOne who file.now e self.old.opens self.new.opens)
+            (λ _. self.new.opens ≡ self.old.opens) }
     {
         let ground = Ground {
             polls: self.polls,
@@ -113,13 +134,20 @@ impl<P: Drop, M: Labelled> HallState<P, M> {
         Ok(Entered::Fresh(DocId(doc)))
     }
 
-    /// Posts a mail to the document: `Gone` exactly where it isn't open; else `MailFull` exactly where 2,048 mails of it wait, 4,096
-    /// for an urgent one; else `BookFull` exactly where the book is full for it. After a refusal the mail comes back, and the state
-    /// is unchanged. Who posts is only recorded.
+    /// Posts a mail to the document: `Gone` exactly where it isn't open; else `MailFull` exactly
+    /// where 2,048 mails of it wait, 4,096 for an urgent one; else `BookFull` exactly where the
+    /// book is full for it. After a refusal the mail comes back, and the state is unchanged. Who
+    /// posts is only recorded.
     pub fn post(&mut self, who: u32, doc: DocId, mail: M, urgent: bool) -> Result<(), Refused<M>>
         ensures ground { self.new.ground_of ≡ self.old.ground_of }
-        ensures answers { AnswersOrMemory self.old.ground_of self.old.book (with_value mail (post_answer self.old.ground_of (stage_of self.old.book) doc.0 urgent)) (written (post_answer self.old.ground_of (stage_of self.old.book) doc.0 urgent) (entry who doc.0 (HallAct.Post (M.tag mail) urgent)) self.old.book) (Err (refused HallFault.Memory mail)) result self.new.book }
-        ensures values { MatchResult result (λ _. Posts doc.0 mail self.old.opens self.new.opens) (λ _. self.new.opens ≡ self.old.opens) }
+        ensures answers { AnswersOrMemory self.old.ground_of self.old.book
+            (with_value mail (post_answer self.old.ground_of
+            (stage_of self.old.book) doc.0 urgent))
+            (written (post_answer self.old.ground_of (stage_of self.old.book) doc.0 urgent)
+            (entry who doc.0 (HallAct.Post (M.tag mail) urgent)) self.old.book)
+            (Err (refused HallFault.Memory mail)) result self.new.book }
+        ensures values { MatchResult result (λ _. Posts doc.0 mail self.old.opens self.new.opens)
+            (λ _. self.new.opens ≡ self.old.opens) }
     {
         let ground = Ground {
             polls: self.polls,

@@ -57,8 +57,8 @@ impl Filed {
     }
 }
 
-/// What was done: `enter` opened a new document of a file; `post` with the mail's label and whether it was urgent; `collect` with the number
-/// of mails; `depart` with the target; `arrive`; `close`.
+/// What was done: `enter` opened a new document of a file; `post` with the mail's label and whether
+/// it was urgent; `collect` with the number of mails; `depart` with the target; `arrive`; `close`.
 #[derive(Drop)]
 pub enum HallAct {
     Enter(Filed),
@@ -84,7 +84,8 @@ pub enum Holder<P> {
     To(u32, P),
 }
 
-/// An open document: its id and file, who has it, and the mails that wait for it, in the order in which they were posted.
+/// An open document: its id and file, who has it, and the mails that wait for it, in the order in
+/// which they were posted.
 #[derive(Drop)]
 pub struct OpenDocument<P, M> {
     pub doc: u32,

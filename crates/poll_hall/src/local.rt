@@ -29,7 +29,10 @@ impl<'a, P: Drop, M: Labelled> Port<P, M> for LocalPort<'a, P, M> {
 
     fn collect(&mut self, doc: DocId, bag: MailBag<M>) -> (Result<u32, Owner>, MailBag<M>)
         requires { bag ≡ [] }
-        ensures { Finds (local_view self.old.hall.now self.old.who) (CollectSays M.tag self.old.who doc.0) (λ old new. MatchResult result.0 (λ _. Collects doc.0 result.1 old new) (λ _. Stays old new)) (result.0, result.1) (local_view self.new.hall.now self.new.who) }
+        ensures { Finds (local_view self.old.hall.now self.old.who)
+            (CollectSays M.tag self.old.who doc.0)
+            (λ old new. MatchResult result.0 (λ _. Collects doc.0 result.1 old new)
+            (λ _. Stays old new)) (result.0, result.1) (local_view self.new.hall.now self.new.who) }
     {
         collect_turn(self.hall, self.who, doc, bag)
     }

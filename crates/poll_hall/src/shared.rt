@@ -38,7 +38,11 @@ impl<'a, R: Wait, P: Drop, M: Labelled> Port<P, M> for HallPort<'a, R, P, M> {
 
     fn collect(&mut self, doc: DocId, bag: MailBag<M>) -> (Result<u32, Owner>, MailBag<M>)
         requires { bag ≡ [] }
-        ensures { Finds (seat_view self.old.seat self.old.who) (CollectSays M.tag self.old.who doc.0) (λ (old new : List (OpenDocument P M)). MatchResult result.0 (λ _. Collects doc.0 result.1 old new) (λ _. Stays old new)) (result.0, result.1) (seat_view self.new.seat self.new.who) }
+        ensures { Finds (seat_view self.old.seat self.old.who)
+            (CollectSays M.tag self.old.who doc.0)
+            (λ (old new : List (OpenDocument P M)). MatchResult result.0
+            (λ _. Collects doc.0 result.1 old new) (λ _. Stays old new)) (result.0, result.1)
+            (seat_view self.new.seat self.new.who) }
     {
         let (answer, _count) = self
             .hall

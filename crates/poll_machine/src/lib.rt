@@ -6,7 +6,8 @@
 //! - `Ways`, `Event`, `Outs` (specs/Words): what a poll knows of a kind of document.
 //! - `HeldDocument`, `HeldStep` (specs/Agenda): a held document with what is owed to it, its steps.
 //! - `House`, `HouseStep` (specs/House): all that a poll holds, and what one event does to it.
-//! - `Plan`, `Follows` (specs/Plans): what is done one after the other, as answers and state decide.
+//! - `Plan`, `Follows` (specs/Plans): what is done one after the other, as answers and state
+//!   decide.
 //! - `hears`, `loads` (specs/Lobby): what a link without a document is answered, and how it loads.
 //! - `IsTurn`, `outcome`, `Polls` (specs/Turn): one turn, what it answers, and a run of turns.
 //! - `Hears` (specs/Told): what the outside is told.

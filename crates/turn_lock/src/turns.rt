@@ -1,5 +1,6 @@
 //! The rule of the lock over `atomic_table`, and the kinds of step.
-ghost use Rattle.turn_lock.specs.Turns.{Kept, Takes, Publishes, GivesBack, Looks, Settles, first_view, copy_of, merged, spent};
+ghost use Rattle.turn_lock.specs.Turns.{Kept, Takes, Publishes, GivesBack, Looks, Settles};
+ghost use Rattle.turn_lock.specs.Turns.{first_view, copy_of, merged, spent};
 
 use crate::booked::Booked;
 use crate::view::View;

@@ -29,7 +29,8 @@ pub struct HeldYard<W: Drop> {
 }
 
 impl<W: Drop> HeldYard<W> {
-    ghost use Rattle.std.specs.Prelude.{◌≡◌, ◌==◌, [], None, IfOk, OnOk, OnErr, MatchOption, vec_len};
+    ghost use Rattle.std.specs.Prelude.{◌≡◌, ◌==◌, [], None, IfOk, OnOk, OnErr, MatchOption};
+    ghost use Rattle.std.specs.Prelude.{vec_len};
     ghost use Rattle.std.specs.List.{position};
     ghost use Rattle.yard_traits.specs.Works.{has_room, OutAt};
 
@@ -83,8 +84,8 @@ impl<W: Drop> HeldYard<W> {
         self.held.len() < self.room && self.count < u64::MAX
     }
 
-    /// Takes the work with this number out, which is then no longer held; None exactly where no such
-    /// work is held.
+    /// Takes the work with this number out, which is then no longer held; None exactly where no
+    /// such work is held.
     pub fn take_out(&mut self, number: u64) -> Option<HeldWork<W>>
         ensures held { MatchOption (position (λ work. work.number == number) self.old.held.items)
             ((result ≡ None) × (self.new.held.items ≡ self.old.held.items))
@@ -109,7 +110,8 @@ fn place_of<W>(held: &[HeldWork<W>], number: u64) -> Option<usize>
 }
 
 impl<W: Drop> Yard<W> for HeldYard<W> {
-    ghost use Rattle.std.specs.Prelude.{◌≡◌, ◌≤◌, ◌+◌, ◌-◌, ◌^◌, ◌++◌, ◌∷◌, [], min, true, false, Some, MatchOption, vec_len};
+    ghost use Rattle.std.specs.Prelude.{◌≡◌, ◌≤◌, ◌+◌, ◌-◌, ◌^◌, ◌++◌, ◌∷◌, [], min, true, false};
+    ghost use Rattle.std.specs.Prelude.{Some, MatchOption, vec_len};
     ghost use Rattle.outside.specs.Causes.{Rose};
     ghost use Rattle.yard_traits.specs.Yards.{TookOne};
     ghost use Rattle.yard_traits.specs.Works.{has_room};
@@ -122,18 +124,23 @@ impl<W: Drop> Yard<W> for HeldYard<W> {
         ensures told { MatchOption result
             (TookOne (Some self.old.took.items) doc work (Some self.new.took.items))
             (λ back. (back ≡ work) × (Some self.new.took.items ≡ Some self.old.took.items)) }
-        ensures cause { MatchOption result (self.new.full ≡ self.old.full) (λ _. Rose self.old.full self.new.full) }
+        ensures cause { MatchOption result (self.new.full ≡ self.old.full)
+            (λ _. Rose self.old.full self.new.full) }
         ensures later { self.old.full ≤ self.new.full }
 
-        // It is given back exactly where there is no room for it, and else held with the next number.
+        // It is given back exactly where there is no room for it, and else held with the next
+        // number.
         ensures room { MatchOption result
             (has_room (vec_len self.old.held) self.old.room self.old.count ≡ true)
             (λ _. has_room (vec_len self.old.held) self.old.room self.old.count ≡ false) }
         ensures held { MatchOption result
-            (self.new.held.items ≡ self.old.held.items ++ (record { number = self.old.count + 1; doc = doc; work = work }) ∷ [])
+            (self.new.held.items ≡ self.old.held.items
+            ++ (record { number = self.old.count + 1; doc = doc; work = work }) ∷ [])
             (λ _. self.new.held.items ≡ self.old.held.items) }
-        ensures count { MatchOption result (self.new.count ≡ self.old.count + 1) (λ _. self.new.count ≡ self.old.count) }
-        ensures full { MatchOption result (self.new.full ≡ self.old.full) (λ _. self.new.full ≡ min (self.old.full + 1) (2 ^ 64 - 1)) }
+        ensures count { MatchOption result (self.new.count ≡ self.old.count + 1)
+            (λ _. self.new.count ≡ self.old.count) }
+        ensures full { MatchOption result (self.new.full ≡ self.old.full)
+            (λ _. self.new.full ≡ min (self.old.full + 1) (2 ^ 64 - 1)) }
         ensures stays { self.new.room ≡ self.old.room }
     {
         if !self.has_room() {

@@ -19,6 +19,7 @@ pub trait Yard<W: Drop> {
         ensures told { MatchOption result
             (TookOne (took self.old) doc work (took self.new))
             (λ back. (back ≡ work) × (took self.new ≡ took self.old)) }
-        ensures cause { MatchOption result (full self.new ≡ full self.old) (λ _. Rose (full self.old) (full self.new)) }
+        ensures cause { MatchOption result (full self.new ≡ full self.old)
+            (λ _. Rose (full self.old) (full self.new)) }
         ensures later { full self.old ≤ full self.new };
 }

@@ -12,9 +12,10 @@ use crate::words::{CloseFault, Entry, Ground, HallAct, Labelled, Owner};
 use cool_base::DocId;
 
 impl<P: Drop, M: Labelled> HallState<P, M> {
-    /// Takes the oldest mails of the document, at most 64, and gives the bag back with them, in order, and their number: `Gone`
-    /// exactly where the document isn't open, `NotHere` exactly where the caller isn't its owner. The bag is empty at first; after a
-    /// refusal it comes back empty, and the state is unchanged. It takes no memory.
+    /// Takes the oldest mails of the document, at most 64, and gives the bag back with them, in
+    /// order, and their number: `Gone` exactly where the document isn't open, `NotHere` exactly
+    /// where the caller isn't its owner. The bag is empty at first; after a refusal it comes back
+    /// empty, and the state is unchanged. It takes no memory.
     pub fn collect(
         &mut self,
         who: u32,
@@ -23,8 +24,14 @@ impl<P: Drop, M: Labelled> HallState<P, M> {
     ) -> (Result<u32, Owner>, MailBag<M>)
         requires { bag ≡ [] }
         ensures ground { self.new.ground_of ≡ self.old.ground_of }
-        ensures answers { Answers self.old.ground_of self.old.book (collect_answer (stage_of self.old.book) who doc.0) (collected who doc.0 (collect_answer (stage_of self.old.book) who doc.0) self.old.book) result.0 self.new.book }
-        ensures values { MatchResult result.0 (λ n. (n ≡ length result.1) × Collects doc.0 result.1 self.old.opens self.new.opens) (λ _. (result.1 ≡ []) × (self.new.opens ≡ self.old.opens)) }
+        ensures answers { Answers self.old.ground_of self.old.book
+            (collect_answer (stage_of self.old.book) who doc.0)
+            (collected who doc.0
+            (collect_answer (stage_of self.old.book) who doc.0) self.old.book) result.0
+            self.new.book }
+        ensures values { MatchResult result.0
+            (λ n. (n ≡ length result.1) × Collects doc.0 result.1 self.old.opens self.new.opens)
+            (λ _. (result.1 ≡ []) × (self.new.opens ≡ self.old.opens)) }
     {
         let ground = Ground {
             polls: self.polls,
@@ -56,12 +63,17 @@ impl<P: Drop, M: Labelled> HallState<P, M> {
         (Ok(n), bag)
     }
 
-    /// Closes the document: `Gone` exactly where it isn't open, `NotHere` exactly where the caller isn't its owner, `Waiting` with
-    /// the number of mails that wait for it, where it is above 0. After a refusal the state is unchanged. It takes no memory.
+    /// Closes the document: `Gone` exactly where it isn't open, `NotHere` exactly where the caller
+    /// isn't its owner, `Waiting` with the number of mails that wait for it, where it is above 0.
+    /// After a refusal the state is unchanged. It takes no memory.
     pub fn close(&mut self, who: u32, doc: DocId) -> Result<(), CloseFault>
         ensures ground { self.new.ground_of ≡ self.old.ground_of }
-        ensures answers { Answers self.old.ground_of self.old.book (close_answer (stage_of self.old.book) who doc.0) (written (close_answer (stage_of self.old.book) who doc.0) (entry who doc.0 HallAct.Close) self.old.book) result self.new.book }
-        ensures values { MatchResult result (λ _. Closes doc.0 self.old.opens self.new.opens) (λ _. self.new.opens ≡ self.old.opens) }
+        ensures answers { Answers self.old.ground_of self.old.book
+            (close_answer (stage_of self.old.book) who doc.0)
+            (written (close_answer (stage_of self.old.book) who doc.0)
+            (entry who doc.0 HallAct.Close) self.old.book) result self.new.book }
+        ensures values { MatchResult result (λ _. Closes doc.0 self.old.opens self.new.opens)
+            (λ _. self.new.opens ≡ self.old.opens) }
     {
         let ground = Ground {
             polls: self.polls,
