@@ -2,7 +2,7 @@
 use Rattle.std.specs.Prelude.{◌≡◌, ◌≢◌, ℕ, List, [], ◌∷◌}
 use Rattle.hall_machine.specs.declared.words.Label.{Label}
 use Rattle.hall_machine.specs.declared.words.Entered.{Entered}
-use Rattle.hall_machine.specs.declared.words.Opened.{Opened}
+use Rattle.hall_machine.specs.declared.words.OpenDocument.{OpenDocument}
 use Rattle.hall_machine.specs.Ids.{AreRising}
 use Rattle.hall_machine.specs.States.{sights, EntersOne, Posts, Collects, Departs, Arrives, Closes}
 
@@ -16,7 +16,8 @@ pub data Deed (P M : Type 0) : Type 0 where
   closed : ℕ → Deed P M
 
 -- what it did to the open documents
-abbrev pub Does : {P M : Type 0} → Deed P M → List (Opened P M) → List (Opened P M) → Type 0
+abbrev pub Does : {P M : Type 0} → Deed P M → List (OpenDocument P M) → List (OpenDocument P M)
+    → Type 0
 Does (entered who file e) old new = EntersOne who file e old new
 Does (posted doc mail) old new = Posts doc mail old new
 Does (collected doc bag) old new = Collects doc bag old new
@@ -25,13 +26,15 @@ Does (arrived who doc parcel) old new = Arrives who doc parcel old new
 Does (closed doc) old new = Closes doc old new
 
 -- the ids of the open documents rise, as they do in each state of a hall
-abbrev pub AreSorted : {P M : Type 0} → (M → Label) → List (Opened P M) → Type 0
+abbrev pub AreSorted : {P M : Type 0} → (M → Label) → List (OpenDocument P M) → Type 0
 AreSorted {P} {M} tag opens = (next : ℕ) × AreRising 0 (sights tag opens) next
 
 -- a run of calls
-abbrev pub Runs : {P M : Type 0} → (M → Label) → List (Opened P M) → List (Deed P M) → List (Opened P M) → Type 0
+abbrev pub Runs : {P M : Type 0} → (M → Label) → List (OpenDocument P M) → List (Deed P M)
+    → List (OpenDocument P M) → Type 0
 Runs {P} {M} tag old [] new = new ≡ old
-Runs {P} {M} tag old (d ∷ ds) new = (mid : List (Opened P M)) × Does d old mid × AreSorted tag mid × Runs tag mid ds new
+Runs {P} {M} tag old (d ∷ ds) new = (mid : List (OpenDocument P M)) × Does d old mid
+    × AreSorted tag mid × Runs tag mid ds new
 
 -- none of these calls departs, takes in or closes this document
 abbrev pub Leaves : {P M : Type 0} → ℕ → List (Deed P M) → Type 0

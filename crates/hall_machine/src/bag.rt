@@ -1,5 +1,6 @@
 //! `MailBag`.
-ghost use Rattle.std.specs.Prelude.{◌≡◌, ℕ, ◌≤◌, ◌<◌, List, [], ◌∷◌, ◌++◌, length, IfOk, Option, None, Some, MatchOption, vec_len};
+ghost use Rattle.std.specs.Prelude.{◌≡◌, ℕ, ◌≤◌, ◌<◌, List, [], ◌∷◌, ◌++◌, length, IfOk, Option};
+ghost use Rattle.std.specs.Prelude.{None, Some, MatchOption, vec_len};
 
 use cool_base::Memory;
 use std::alloc::Global;
@@ -36,7 +37,8 @@ impl<M: Drop> MailBag<M> {
 
     /// The first mail, taken out. None exactly where the bag is empty. It takes no memory.
     pub fn take(&mut self) -> Option<M>
-        ensures { MatchOption result ((self.old ≡ []) × (self.new ≡ [])) (λ mail. self.old ≡ mail ∷ self.new) }
+        ensures { MatchOption result ((self.old ≡ []) × (self.new ≡ []))
+            (λ mail. self.old ≡ mail ∷ self.new) }
     {
         if self.mails.is_empty() {
             return None;

@@ -1,7 +1,10 @@
-//! The hall of documents on one thread: which files are open, which poll has each document, and the mail that waits for it.
+//! The hall of documents on one thread: which files are open, which poll has each document, and the
+//! mail that waits for it.
 //!
-//! [`HallState`] is the plain state with its book. Each call that changes something writes one entry, and the state is always
-//! what the machine of `specs/Machine` reaches by the book. The crate takes no lock and starts no thread.
+//! [`HallState`] is the plain state with its book. Each call that changes something writes one
+//! entry, and the state is always
+//! what the machine of `specs/Machine` reaches by the book. The crate takes no lock and starts no
+//! thread.
 #![tactic(auto)]
 
 mod bag;
@@ -15,6 +18,6 @@ mod words;
 pub use bag::MailBag;
 pub use state::HallState;
 pub use words::{
-    Act, CloseFault, Entered, Entry, Filed, Ground, HallFault, Label, Labelled, Opened, Owner,
-    Place, Refused,
+    CloseFault, Entered, Entry, Filed, Ground, HallAct, HallFault, Holder, Label, Labelled,
+    OpenDocument, Owner, Refused,
 };

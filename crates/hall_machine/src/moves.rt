@@ -1,13 +1,13 @@
 //! How mails and parcels leave and reach an open document. Nothing here takes memory.
 ghost use Rattle.std.specs.Prelude.{◌≡◌, ◌≤◌, ◌<◌, true, Some, [], length, take, drop, slice_set};
 ghost use Rattle.std.specs.List.{slice_get};
-ghost use Rattle.hall_machine.specs.declared.words.Opened.{Opened};
-ghost use Rattle.hall_machine.specs.declared.words.Place.TheVariants.{At, To};
+ghost use Rattle.hall_machine.specs.declared.words.OpenDocument.{OpenDocument};
+ghost use Rattle.hall_machine.specs.declared.words.Holder.TheVariants.{At, To};
 ghost use Rattle.hall_machine.specs.Machine.{is_bound_to, desk_at};
 ghost use Rattle.hall_machine.specs.States.{where_of, sights};
 
 use crate::bag::MailBag;
-use crate::words::{Labelled, Opened, Place};
+use crate::words::{Holder, Labelled, OpenDocument};
 use std::collections::LinkedList;
 use std::mem::replace;
 
@@ -28,13 +28,15 @@ fn move_mails<M: Drop>(mails: &mut LinkedList<M>, mut bag: MailBag<M>, n: usize)
 
 /// The oldest mails of the document there, at most 64, in order, in the empty bag.
 pub fn take_mails<P: Drop, M: Labelled>(
-    opens: &mut [Opened<P, M>],
+    opens: &mut [OpenDocument<P, M>],
     at: usize,
     bag: MailBag<M>,
 ) -> MailBag<M>
     requires empty { bag ≡ [] }
     requires there { at < length opens.old }
-    ensures { (o : Opened P M) × (slice_get opens.old at ≡ Some o) × (opens.new ≡ slice_set opens.old at (record o { mails = drop 64 o.mails })) × (result ≡ take 64 o.mails) }
+    ensures { (o : OpenDocument P M) × (slice_get opens.old at ≡ Some o)
+        × (opens.new ≡ slice_set opens.old at (record o { mails = drop 64 o.mails }))
+        × (result ≡ take 64 o.mails) }
 {
     let o = &mut opens[at];
     let n = o.mails.len().min(64);
@@ -42,31 +44,39 @@ pub fn take_mails<P: Drop, M: Labelled>(
 }
 
 /// The parcel, on its way to the poll.
-pub fn send_off<P: Drop, M: Labelled>(opens: &mut [Opened<P, M>], at: usize, to: u32, parcel: P)
+pub fn send_off<P: Drop, M: Labelled>(
+    opens: &mut [OpenDocument<P, M>],
+    at: usize,
+    to: u32,
+    parcel: P,
+)
     requires { at < length opens.old }
-    ensures { (o : Opened P M) × (slice_get opens.old at ≡ Some o) × (opens.new ≡ slice_set opens.old at (record o { place = To to parcel })) }
+    ensures { (o : OpenDocument P M) × (slice_get opens.old at ≡ Some o)
+        × (opens.new ≡ slice_set opens.old at (record o { holder = To to parcel })) }
 {
     let o = &mut opens[at];
-    o.place = Place::To(to, parcel);
+    o.holder = Holder::To(to, parcel);
 }
 
-fn unpack<P: Drop>(place: &mut Place<P>, who: u32) -> P
-    requires { is_bound_to who (where_of place.old) ≡ true }
-    ensures was { place.old ≡ To who result }
-    ensures is { place.new ≡ At who }
+fn unpack<P: Drop>(holder: &mut Holder<P>, who: u32) -> P
+    requires { is_bound_to who (where_of holder.old) ≡ true }
+    ensures was { holder.old ≡ To who result }
+    ensures is { holder.new ≡ At who }
 {
-    match replace(place, Place::At(who)) {
-        Place::To(_, parcel) => parcel,
-        Place::At(_) => unreachable!(),
+    match replace(holder, Holder::At(who)) {
+        Holder::To(_, parcel) => parcel,
+        Holder::At(_) => unreachable!(),
     }
 }
 
 /// The parcel that was on its way to the poll, which owns the document from then on.
-pub fn land<P: Drop, M: Labelled>(opens: &mut [Opened<P, M>], at: usize, who: u32) -> P
+pub fn land<P: Drop, M: Labelled>(opens: &mut [OpenDocument<P, M>], at: usize, who: u32) -> P
     requires there { at < length opens.old }
-    requires bound { is_bound_to who (desk_at (sights M.tag opens.old) at).place ≡ true }
-    ensures { (o : Opened P M) × (slice_get opens.old at ≡ Some o) × (opens.new ≡ slice_set opens.old at (record o { place = At who })) × (o.place ≡ To who result) }
+    requires bound { is_bound_to who (desk_at (sights M.tag opens.old) at).holder ≡ true }
+    ensures { (o : OpenDocument P M) × (slice_get opens.old at ≡ Some o)
+        × (opens.new ≡ slice_set opens.old at (record o { holder = At who }))
+        × (o.holder ≡ To who result) }
 {
     let o = &mut opens[at];
-    unpack(&mut o.place, who)
+    unpack(&mut o.holder, who)
 }

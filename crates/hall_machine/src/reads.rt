@@ -1,37 +1,40 @@
 //! What is answered from the open documents and changes nothing.
-ghost use Rattle.std.specs.Prelude.{◌≡◌, ◌==◌, ℕ, ◌+◌, ◌≤◌, ◌<◌, count_by, true, None, Some, Ok, Err, length, MatchOption, MatchResult};
+ghost use Rattle.std.specs.Prelude.{◌≡◌, ◌==◌, ℕ, ◌+◌, ◌≤◌, ◌<◌, count_by, true, None, Some, Ok};
+ghost use Rattle.std.specs.Prelude.{Err, length, MatchOption, MatchResult};
 ghost use Rattle.std.specs.Option.{option_map};
-ghost use Rattle.hall_machine.specs.Machine.{poll_of, load_of, IsLeast, place_of, place_bound_to, is_bound_to, desk_at, owed, arrive_answer, find_answer, collect_answer, close_answer};
+ghost use Rattle.hall_machine.specs.Machine.{poll_of, load_of, IsLeast, place_of, place_bound_to};
+ghost use Rattle.hall_machine.specs.Machine.{is_bound_to, desk_at, owed, arrive_answer};
+ghost use Rattle.hall_machine.specs.Machine.{find_answer, collect_answer, close_answer};
 ghost use Rattle.hall_machine.specs.States.{sights, staged, where_of};
 
 use crate::checks::{check_owner, place_bound_to, place_of_file, see};
-use crate::words::{CloseFault, Ground, Labelled, Opened, Owner, Place};
+use crate::words::{CloseFault, Ground, Holder, Labelled, OpenDocument, Owner};
 use cool_base::{DocId, FileId};
 
-fn poll_of<P>(place: &Place<P>) -> u32
-    ensures { result ≡ poll_of (where_of place.now) }
+fn poll_of<P>(holder: &Holder<P>) -> u32
+    ensures { result ≡ poll_of (where_of holder.now) }
 {
-    match place {
-        Place::At(poll) => *poll,
-        Place::To(poll, _) => *poll,
+    match holder {
+        Holder::At(poll) => *poll,
+        Holder::To(poll, _) => *poll,
     }
 }
 
-fn count_with<P: Drop, M: Labelled>(opens: &[Opened<P, M>], poll: u32) -> usize
-    ensures { result ≡ count_by (λ o. poll_of (where_of o.place) == poll) opens.now }
+fn count_with<P: Drop, M: Labelled>(opens: &[OpenDocument<P, M>], poll: u32) -> usize
+    ensures { result ≡ count_by (λ o. poll_of (where_of o.holder) == poll) opens.now }
 {
-    opens.iter().filter(|o| poll_of(&o.place) == poll).count()
+    opens.iter().filter(|o| poll_of(&o.holder) == poll).count()
 }
 
 /// How many documents the poll owns or are on their way to it.
-pub fn load_of<P: Drop, M: Labelled>(opens: &[Opened<P, M>], poll: u32) -> usize
+pub fn load_of<P: Drop, M: Labelled>(opens: &[OpenDocument<P, M>], poll: u32) -> usize
     ensures { result ≡ load_of poll (sights M.tag opens.now) }
 {
     count_with(opens, poll)
 }
 
 /// The poll with the fewest documents, the lowest of several.
-pub fn least_loaded<P: Drop, M: Labelled>(opens: &[Opened<P, M>], polls: u32) -> u32
+pub fn least_loaded<P: Drop, M: Labelled>(opens: &[OpenDocument<P, M>], polls: u32) -> u32
     requires { 1 ≤ polls }
     ensures { IsLeast polls (sights M.tag opens.now) result }
 {
@@ -50,11 +53,12 @@ pub fn least_loaded<P: Drop, M: Labelled>(opens: &[Opened<P, M>], polls: u32) ->
 /// The answer of `find`.
 pub fn check_find<P: Drop, M: Labelled>(
     next: u32,
-    opens: &[Opened<P, M>],
+    opens: &[OpenDocument<P, M>],
     entries: u64,
     file: &FileId,
 ) -> Option<DocId>
-    ensures { result ≡ option_map (λ d. record { 0 = d }) (find_answer (staged M.tag next opens.now entries) file.now) }
+    ensures { result ≡ option_map (λ d. record { 0 = d })
+        (find_answer (staged M.tag next opens.now entries) file.now) }
 {
     match place_of_file(opens, file) {
         Some(at) => Some(DocId(see(opens, at, 0).doc)),
@@ -65,7 +69,7 @@ pub fn check_find<P: Drop, M: Labelled>(
 /// The answer of `arrive`, and where the document stands.
 pub fn check_arrive<P: Drop, M: Labelled>(
     next: u32,
-    opens: &[Opened<P, M>],
+    opens: &[OpenDocument<P, M>],
     entries: u64,
     due: u64,
     who: u32,
@@ -73,7 +77,10 @@ pub fn check_arrive<P: Drop, M: Labelled>(
     requires { due ≡ owed (sights M.tag opens.now) }
     ensures { MatchOption result
         (arrive_answer (staged M.tag next opens.now entries) who ≡ None)
-        (λ t. (arrive_answer (staged M.tag next opens.now entries) who ≡ Some t.1) × (place_bound_to who (sights M.tag opens.now) ≡ Some t.0) × (is_bound_to who (desk_at (sights M.tag opens.now) t.0).place ≡ true) × (t.0 < length opens.now) × (1 ≤ due)) }
+        (λ t. (arrive_answer (staged M.tag next opens.now entries) who ≡ Some t.1)
+        × (place_bound_to who (sights M.tag opens.now) ≡ Some t.0)
+        × (is_bound_to who (desk_at (sights M.tag opens.now) t.0).holder ≡ true)
+        × (t.0 < length opens.now) × (1 ≤ due)) }
 {
     match place_bound_to(opens, who) {
         Some(at) => Some((at, see(opens, at, 0).doc)),
@@ -85,7 +92,7 @@ pub fn check_arrive<P: Drop, M: Labelled>(
 pub fn check_collect<P: Drop, M: Labelled>(
     ground: Ground,
     next: u32,
-    opens: &[Opened<P, M>],
+    opens: &[OpenDocument<P, M>],
     entries: u64,
     due: u64,
     who: u32,
@@ -93,7 +100,9 @@ pub fn check_collect<P: Drop, M: Labelled>(
 ) -> Result<(usize, u32), Owner>
     requires { due ≡ owed (sights M.tag opens.now) }
     ensures { MatchResult result
-        (λ t. (collect_answer (staged M.tag next opens.now entries) who doc ≡ Ok t.1) × (place_of doc (sights M.tag opens.now) ≡ Some t.0) × (t.0 < length opens.now) × (t.1 ≤ due))
+        (λ t. (collect_answer (staged M.tag next opens.now entries) who doc ≡ Ok t.1)
+        × (place_of doc (sights M.tag opens.now) ≡ Some t.0) × (t.0 < length opens.now)
+        × (t.1 ≤ due))
         (λ why. collect_answer (staged M.tag next opens.now entries) who doc ≡ Err why) }
 {
     match check_owner(ground, next, opens, entries, who, doc) {
@@ -106,7 +115,7 @@ pub fn check_collect<P: Drop, M: Labelled>(
 pub fn check_close<P: Drop, M: Labelled>(
     ground: Ground,
     next: u32,
-    opens: &[Opened<P, M>],
+    opens: &[OpenDocument<P, M>],
     entries: u64,
     due: u64,
     who: u32,
@@ -115,7 +124,8 @@ pub fn check_close<P: Drop, M: Labelled>(
     requires due { due ≡ owed (sights M.tag opens.now) }
     requires few { due ≤ 4194304 }
     ensures { MatchResult result
-        (λ i. (close_answer (staged M.tag next opens.now entries) who doc ≡ Ok tt) × (place_of doc (sights M.tag opens.now) ≡ Some i) × (i < length opens.now) × (1 ≤ due))
+        (λ i. (close_answer (staged M.tag next opens.now entries) who doc ≡ Ok tt)
+        × (place_of doc (sights M.tag opens.now) ≡ Some i) × (i < length opens.now) × (1 ≤ due))
         (λ why. close_answer (staged M.tag next opens.now entries) who doc ≡ Err why) }
 {
     match check_owner(ground, next, opens, entries, who, doc) {

@@ -2,8 +2,8 @@
 ghost use Rattle.std.specs.Prelude.{◌≡◌, ℕ, ◌≤◌, ◌<◌, [], IfOk, MatchResult, length};
 ghost use Rattle.cool_base.specs.declared.ids.DocId.{DocId};
 ghost use Rattle.hall_machine.specs.Machine.{enter_answer, post_answer};
-ghost use Rattle.hall_machine.specs.Book.{stage_of, IsLegal, entry, written, entered};
-ghost use Rattle.hall_machine.specs.States.{AnswersOrWants, refused, with_value, EntersOne, Posts};
+ghost use Rattle.hall_machine.specs.Entries.{stage_of, IsLegal, entry, written, entered};
+ghost use Rattle.hall_machine.specs.States.{AnswersOrMemory, refused, with_value, EntersOne, Posts};
 
 mod handover;
 mod mails;
@@ -11,7 +11,7 @@ mod questions;
 
 use crate::checks::{check_enter, check_post};
 use crate::edits::{open_one, put_mail};
-use crate::words::{Act, Entered, Entry, Ground, HallFault, Labelled, Opened, Refused};
+use crate::words::{Entered, Entry, Ground, HallAct, HallFault, Labelled, OpenDocument, Refused};
 use cool_base::{DocId, FileId, Memory};
 use std::alloc::Global;
 use std::marker::Model;
@@ -24,19 +24,26 @@ pub struct HallState<P: Drop, M: Labelled> {
     room: u32,
     next: u32,
     due: u64,
-    opens: Vec<Opened<P, M>>,
+    opens: Vec<OpenDocument<P, M>>,
     entries: Vec<Entry>,
 }
 
 impl<P: Drop, M: Labelled> Model for HallState<P, M> {
     ghost use Rattle.std.specs.Vec.{vec_capacity};
-    ghost use Rattle.hall_machine.specs.States.{Shown, IsKept};
+    ghost use Rattle.hall_machine.specs.States.{HallView, IsKept};
 
-    ghost Value = { Shown P M };
+    ghost Value = { HallView P M };
 
-    ghost view = { λ s. record { ground_of = record { polls = s.polls; room = s.room }; opens = s.opens.items; book = s.entries.items } };
+    ghost view = { λ s. record {
+      ground_of = record { polls = s.polls; room = s.room };
+      opens =
+          s.opens.items;
+      book = s.entries.items;
+    } };
 
-    ghost invariant = { λ s. IsKept M.tag (record { polls = s.polls; room = s.room }) s.next s.opens.items s.due s.entries.items (vec_capacity s.entries) };
+    ghost invariant = { λ s. IsKept M.tag
+        (record { polls = s.polls; room = s.room }) s.next s.opens.items s.due s.entries.items
+        (vec_capacity s.entries) };
 }
 
 impl<P: Drop, M: Labelled> Booked for HallState<P, M> {
@@ -58,7 +65,13 @@ impl<P: Drop, M: Labelled> HallState<P, M> {
     pub fn new(alloc: Global, polls: u32, room: u32) -> Result<HallState<P, M>, Memory>
         requires polls { (1 ≤ polls) × (polls ≤ 64) }
         requires room { (16384 ≤ room) × (room ≤ 4194304) }
-        ensures { IfOk result (λ h. h ≡ record { ground_of = record { polls = polls; room = room }; opens = []; book = [] }) }
+        ensures { IfOk result
+            (λ h. h ≡ record {
+              ground_of = record { polls = polls; room = room };
+              opens = [];
+              book =
+                  [];
+            }) }
     {
         let entries = Vec::with_capacity(alloc, room as usize)?;
         Ok(HallState {
@@ -71,12 +84,20 @@ impl<P: Drop, M: Labelled> HallState<P, M> {
         })
     }
 
-    /// Opens the file for the poll: `There` exactly where it is open; else `HallFull` exactly where 64 documents are open; else
-    /// `BookFull` exactly where the book is full; else `Fresh` with the next id. After a refusal the state is unchanged.
-    pub fn enter(&mut self, alloc: Global, who: u32, file: &FileId) -> Result<Entered, HallFault>
+    /// Opens the file for the poll: `There` exactly where it is open; else `HallFull` exactly where
+    /// 64 documents are open; else
+    /// `BookFull` exactly where the book is full; else `Fresh` with the next id. After a refusal
+    /// the state is unchanged.
+    pub fn enter(&mut self, who: u32, file: &FileId) -> Result<Entered, HallFault>
         ensures ground { self.new.ground_of ≡ self.old.ground_of }
-        ensures answers { AnswersOrWants self.old.ground_of self.old.book (enter_answer self.old.ground_of (stage_of self.old.book) file.now) (entered who file.now (enter_answer self.old.ground_of (stage_of self.old.book) file.now) self.old.book) (Err HallFault.Memory) result self.new.book }
-        ensures values { MatchResult result (λ e. EntersOne who file.now e self.old.opens self.new.opens) (λ _. self.new.opens ≡ self.old.opens) }
+        ensures answers { AnswersOrMemory self.old.ground_of self.old.book
+            (enter_answer self.old.ground_of (stage_of self.old.book) file.now)
+            (entered who file.now
+            (enter_answer self.old.ground_of (stage_of self.old.book) file.now) self.old.book)
+            (Err HallFault.Memory) result self.new.book }
+        ensures values { MatchResult result
+            (λ e. EntersOne who file.now e self.old.opens self.new.opens)
+            (λ _. self.new.opens ≡ self.old.opens) }
     {
         let ground = Ground {
             polls: self.polls,
@@ -97,6 +118,7 @@ impl<P: Drop, M: Labelled> HallState<P, M> {
         if let Some(doc) = there {
             return Ok(Entered::There(doc));
         }
+        let alloc = *self.opens.allocator();
         let doc = self.next;
         let filed = match open_one(&mut self.opens, alloc, doc, file, who) {
             Ok(filed) => filed,
@@ -105,27 +127,27 @@ impl<P: Drop, M: Labelled> HallState<P, M> {
         self.entries.push_reserved(Entry {
             who,
             doc,
-            act: Act::Enter(filed),
+            act: HallAct::Enter(filed),
         });
         self.next += 1;
         self.due += 1;
         Ok(Entered::Fresh(DocId(doc)))
     }
 
-    /// Posts a mail to the document: `Gone` exactly where it isn't open; else `MailFull` exactly where 2,048 mails of it wait, 4,096
-    /// for an urgent one; else `BookFull` exactly where the book is full for it. After a refusal the mail comes back, and the state
-    /// is unchanged. Who posts is only recorded.
-    pub fn post(
-        &mut self,
-        _alloc: Global,
-        who: u32,
-        doc: DocId,
-        mail: M,
-        urgent: bool,
-    ) -> Result<(), Refused<M>>
+    /// Posts a mail to the document: `Gone` exactly where it isn't open; else `MailFull` exactly
+    /// where 2,048 mails of it wait, 4,096 for an urgent one; else `BookFull` exactly where the
+    /// book is full for it. After a refusal the mail comes back, and the state is unchanged. Who
+    /// posts is only recorded.
+    pub fn post(&mut self, who: u32, doc: DocId, mail: M, urgent: bool) -> Result<(), Refused<M>>
         ensures ground { self.new.ground_of ≡ self.old.ground_of }
-        ensures answers { AnswersOrWants self.old.ground_of self.old.book (with_value mail (post_answer self.old.ground_of (stage_of self.old.book) doc.0 urgent)) (written (post_answer self.old.ground_of (stage_of self.old.book) doc.0 urgent) (entry who doc.0 (Act.Post (M.tag mail) urgent)) self.old.book) (Err (refused HallFault.Memory mail)) result self.new.book }
-        ensures values { MatchResult result (λ _. Posts doc.0 mail self.old.opens self.new.opens) (λ _. self.new.opens ≡ self.old.opens) }
+        ensures answers { AnswersOrMemory self.old.ground_of self.old.book
+            (with_value mail (post_answer self.old.ground_of
+            (stage_of self.old.book) doc.0 urgent))
+            (written (post_answer self.old.ground_of (stage_of self.old.book) doc.0 urgent)
+            (entry who doc.0 (HallAct.Post (M.tag mail) urgent)) self.old.book)
+            (Err (refused HallFault.Memory mail)) result self.new.book }
+        ensures values { MatchResult result (λ _. Posts doc.0 mail self.old.opens self.new.opens)
+            (λ _. self.new.opens ≡ self.old.opens) }
     {
         let ground = Ground {
             polls: self.polls,
@@ -154,7 +176,7 @@ impl<P: Drop, M: Labelled> HallState<P, M> {
         self.entries.push_reserved(Entry {
             who,
             doc: doc.0,
-            act: Act::Post(label, urgent),
+            act: HallAct::Post(label, urgent),
         });
         self.due += 1;
         Ok(())

@@ -57,10 +57,10 @@ impl Filed {
     }
 }
 
-/// What was done: `enter` opened a new document of a file; `post` with the mail's label and whether it was urgent; `collect` with the number
-/// of mails; `depart` with the target; `arrive`; `close`.
+/// What was done: `enter` opened a new document of a file; `post` with the mail's label and whether
+/// it was urgent; `collect` with the number of mails; `depart` with the target; `arrive`; `close`.
 #[derive(Drop)]
-pub enum Act {
+pub enum HallAct {
     Enter(Filed),
     Post(Label, bool),
     Collect(u32),
@@ -74,22 +74,23 @@ pub enum Act {
 pub struct Entry {
     pub who: u32,
     pub doc: u32,
-    pub act: Act,
+    pub act: HallAct,
 }
 
 /// Which poll has a document: its owner, or the poll that its parcel is on its way to.
 #[derive(Drop)]
-pub enum Place<P> {
+pub enum Holder<P> {
     At(u32),
     To(u32, P),
 }
 
-/// An open document: its id and file, who has it, and the mails that wait for it, in the order in which they were posted.
+/// An open document: its id and file, who has it, and the mails that wait for it, in the order in
+/// which they were posted.
 #[derive(Drop)]
-pub struct Opened<P, M> {
+pub struct OpenDocument<P, M> {
     pub doc: u32,
     pub file: FileId,
-    pub place: Place<P>,
+    pub holder: Holder<P>,
     pub mails: LinkedList<M>,
 }
 

@@ -4,7 +4,6 @@ ghost use Rattle.std.specs.Prelude.{◌≡◌};
 use cool_base::{DocId, FileId};
 use hall_machine::{Entered, HallFault, HallState, Label, Labelled, Refused};
 use poll_hall::{Hall, HallPort, Port};
-use std::alloc::Global;
 use std::sync::Wait;
 use std::test::Fail;
 use turn_lock::{Seat, TurnLock};
@@ -29,20 +28,13 @@ type TheHall = Hall<u32, Note>;
 type TheSeat = Seat<HallState<u32, Note>>;
 
 // Posts so many mails to document 0. How many were taken.
-fn post_many<R: Wait>(
-    rt: &R,
-    alloc: Global,
-    hall: &TheHall,
-    seat: &mut TheSeat,
-    count: u32,
-    urgent: bool,
-) -> u64
+fn post_many<R: Wait>(rt: &R, hall: &TheHall, seat: &mut TheSeat, count: u32, urgent: bool) -> u64
     requires { seat.old.lock ≡ hall.now.lock }
     ensures { seat.new.lock ≡ hall.now.lock }
 {
     let mut done: u64 = 0;
     for k in 0..count {
-        let (answer, _) = hall.post(rt, alloc, seat, 0, DocId(0), Note(u64::from(k)), urgent);
+        let (answer, _) = hall.post(rt, seat, 0, DocId(0), Note(u64::from(k)), urgent);
         if answer.is_ok() {
             done = done.saturating_add(1);
         }
@@ -71,16 +63,13 @@ fn a_mailbox_is_full(rt: HostRuntime) -> Result<(), Fail> {
     let (lock, mut seat) = TurnLock::new(alloc, state)?;
     let hall = Hall { lock };
     let file = FileId::read("d").expect(&rt, "a file id");
-    let (answer, _) = hall.enter(&rt, alloc, &mut seat, 0, &file);
+    let (answer, _) = hall.enter(&rt, &mut seat, 0, &file);
     assert!(rt; matches!(answer, Ok(Entered::Fresh(DocId(0)))));
-    assert_eq!(rt;
-        post_many(&rt, alloc, &hall, &mut seat, 2_048, false),
-        2_048
-    );
-    let (answer, count) = hall.post(&rt, alloc, &mut seat, 0, DocId(0), Note(9), false);
+    assert_eq!(rt; post_many(&rt, &hall, &mut seat, 2_048, false), 2_048);
+    let (answer, count) = hall.post(&rt, &mut seat, 0, DocId(0), Note(9), false);
     assert!(rt; matches!(why(answer, 9), Some(HallFault::MailFull)) && count == 2_049);
-    assert_eq!(rt; post_many(&rt, alloc, &hall, &mut seat, 2_048, true), 2_048);
-    let (answer, count) = hall.post(&rt, alloc, &mut seat, 0, DocId(0), Note(8), true);
+    assert_eq!(rt; post_many(&rt, &hall, &mut seat, 2_048, true), 2_048);
+    let (answer, count) = hall.post(&rt, &mut seat, 0, DocId(0), Note(8), true);
     assert!(rt; matches!(why(answer, 8), Some(HallFault::MailFull)) && count == 4_097);
     Ok(())
 }
@@ -93,13 +82,13 @@ fn a_book_is_full(rt: HostRuntime) -> Result<(), Fail> {
     let hall = Hall { lock };
     for name in ["a", "b"] {
         let file = FileId::read(name).expect(&rt, "a file id");
-        let (answer, _) = hall.enter(&rt, alloc, &mut seat, 0, &file);
+        let (answer, _) = hall.enter(&rt, &mut seat, 0, &file);
         assert!(rt; answer.is_ok());
     }
     let file = FileId::read("c").expect(&rt, "a file id");
-    let (answer, count) = hall.enter(&rt, alloc, &mut seat, 0, &file);
+    let (answer, count) = hall.enter(&rt, &mut seat, 0, &file);
     assert!(rt; matches!(answer, Err(HallFault::BookFull)) && count == 2);
-    let (answer, _) = hall.post(&rt, alloc, &mut seat, 0, DocId(7), Note(5), false);
+    let (answer, _) = hall.post(&rt, &mut seat, 0, DocId(7), Note(5), false);
     assert!(rt; matches!(why(answer, 5), Some(HallFault::Gone)));
     Ok(())
 }
@@ -120,7 +109,7 @@ fn a_read_is_fresh(rt: HostRuntime) -> Result<(), Fail> {
     };
     let file = FileId::read("d").expect(&rt, "a file id");
     assert!(rt; port.find(&file).is_none() && port.open_count() == 0);
-    let (answer, _) = hall.enter(&rt, alloc, &mut other, 0, &file);
+    let (answer, _) = hall.enter(&rt, &mut other, 0, &file);
     assert!(rt; matches!(answer, Ok(Entered::Fresh(DocId(0)))));
     assert!(rt; matches!(port.find(&file), Some(DocId(0))) && port.open_count() == 1);
     let (closed, _) = hall.close(&rt, &mut other, 0, DocId(0));

@@ -29,21 +29,14 @@ type TheHall = Hall<u32, Note>;
 type TheSeat = Seat<HallState<u32, Note>>;
 
 // Ten mails to one document. How many were posted.
-fn post_ten<R: Wait>(
-    rt: &R,
-    alloc: Global,
-    hall: &TheHall,
-    seat: &mut TheSeat,
-    who: u32,
-    doc: DocId,
-) -> u64
+fn post_ten<R: Wait>(rt: &R, hall: &TheHall, seat: &mut TheSeat, who: u32, doc: DocId) -> u64
     requires { seat.old.lock ≡ hall.now.lock }
     ensures lock { seat.new.lock ≡ hall.now.lock }
     ensures few { result ≤ 10 }
 {
     let mut done = 0;
     for k in 0..10 {
-        let (answer, _) = hall.post(rt, alloc, seat, who, doc, Note(k), false);
+        let (answer, _) = hall.post(rt, seat, who, doc, Note(k), false);
         if answer.is_ok() {
             done += 1;
         }
@@ -68,9 +61,9 @@ fn enter_ten<R: Wait>(
         let Some(file) = named(alloc, letter, digit) else {
             return done;
         };
-        let (answer, _) = hall.enter(rt, alloc, seat, who, &file);
+        let (answer, _) = hall.enter(rt, seat, who, &file);
         if let Ok(Entered::Fresh(doc)) = answer {
-            let posted = post_ten(rt, alloc, hall, seat, who, doc);
+            let posted = post_ten(rt, hall, seat, who, doc);
             done = done.saturating_add(posted + 1);
         }
     }
@@ -170,7 +163,7 @@ fn a_look_is_fresh(rt: HostRuntime) -> Result<(), Fail> {
     assert!(rt; hall.lock.look(&mut seat) == 0);
     let mut other = hall.lock.split(&mut seat);
     let file = FileId::read("d").expect(&rt, "a file id");
-    let (answer, count) = hall.enter(&rt, rt.alloc(), &mut other, 0, &file);
+    let (answer, count) = hall.enter(&rt, &mut other, 0, &file);
     assert!(rt; matches!(answer, Ok(Entered::Fresh(DocId(0)))) && count == 1);
     assert!(rt; hall.lock.look(&mut seat) == 1);
     hall.lock.join(&mut seat, other);

@@ -36,7 +36,8 @@ impl Slate {
         self.lines.push(line).is_ok()
     }
 
-    // The lines of one writer, whose numbers begin at `first`, stand in the order in which it wrote them, each once.
+    // The lines of one writer, whose numbers begin at `first`, stand in the order in which it wrote
+    // them, each once.
     fn is_in_order(&self, first: u64, count: u64) -> bool {
         let mut next = 0;
         for line in &self.lines {

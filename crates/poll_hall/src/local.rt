@@ -8,7 +8,6 @@ use crate::port::Port;
 use crate::turns::collect_turn;
 use cool_base::{DocId, FileId};
 use hall_machine::{CloseFault, Entered, HallFault, HallState, Labelled, MailBag, Owner, Refused};
-use std::alloc::Global;
 
 /// A port over a plain state, for one thread. It waits for nobody, and tells the state.
 #[derive(Drop)]
@@ -20,17 +19,20 @@ pub struct LocalPort<'a, P: Drop, M: Labelled> {
 impl<'a, P: Drop, M: Labelled> Port<P, M> for LocalPort<'a, P, M> {
     ghost view = { λ p. local_view p.hall.now p.who };
 
-    fn enter(&mut self, alloc: Global, file: &FileId) -> Result<Entered, HallFault> {
-        self.hall.enter(alloc, self.who, file)
+    fn enter(&mut self, file: &FileId) -> Result<Entered, HallFault> {
+        self.hall.enter(self.who, file)
     }
 
-    fn post(&mut self, alloc: Global, doc: DocId, mail: M, urgent: bool) -> Result<(), Refused<M>> {
-        self.hall.post(alloc, self.who, doc, mail, urgent)
+    fn post(&mut self, doc: DocId, mail: M, urgent: bool) -> Result<(), Refused<M>> {
+        self.hall.post(self.who, doc, mail, urgent)
     }
 
     fn collect(&mut self, doc: DocId, bag: MailBag<M>) -> (Result<u32, Owner>, MailBag<M>)
         requires { bag ≡ [] }
-        ensures { Finds (local_view self.old.hall.now self.old.who) (CollectSays M.tag self.old.who doc.0) (λ old new. MatchResult result.0 (λ _. Collects doc.0 result.1 old new) (λ _. Stays old new)) (result.0, result.1) (local_view self.new.hall.now self.new.who) }
+        ensures { Finds (local_view self.old.hall.now self.old.who)
+            (CollectSays M.tag self.old.who doc.0)
+            (λ old new. MatchResult result.0 (λ _. Collects doc.0 result.1 old new)
+            (λ _. Stays old new)) (result.0, result.1) (local_view self.new.hall.now self.new.who) }
     {
         collect_turn(self.hall, self.who, doc, bag)
     }

@@ -1,6 +1,6 @@
 //! `HallPort`.
 ghost use Rattle.std.specs.Prelude.{◌≡◌, List, [], MatchResult};
-ghost use Rattle.hall_machine.specs.declared.words.Opened.{Opened};
+ghost use Rattle.hall_machine.specs.declared.words.OpenDocument.{OpenDocument};
 ghost use Rattle.hall_machine.specs.States.{Collects};
 ghost use Rattle.poll_hall.specs.Says.{CollectSays};
 ghost use Rattle.poll_hall.specs.Ports.{Finds, Stays, seat_view};
@@ -9,7 +9,6 @@ use crate::hall::Hall;
 use crate::port::Port;
 use cool_base::{DocId, FileId};
 use hall_machine::{CloseFault, Entered, HallFault, HallState, Labelled, MailBag, Owner, Refused};
-use std::alloc::Global;
 use std::sync::Wait;
 use turn_lock::Seat;
 
@@ -26,28 +25,24 @@ pub struct HallPort<'a, R: Wait, P: Drop, M: Labelled> {
 impl<'a, R: Wait, P: Drop, M: Labelled> Port<P, M> for HallPort<'a, R, P, M> {
     ghost view = { λ p. seat_view p.seat p.who };
 
-    fn enter(&mut self, alloc: Global, file: &FileId) -> Result<Entered, HallFault> {
-        self.hall
-            .enter(self.rt, alloc, &mut self.seat, self.who, file)
-            .0
+    fn enter(&mut self, file: &FileId) -> Result<Entered, HallFault> {
+        self.hall.enter(self.rt, &mut self.seat, self.who, file).0
     }
 
-    fn post(&mut self, alloc: Global, doc: DocId, mail: M, urgent: bool) -> Result<(), Refused<M>> {
-        let (answer, _count) = self.hall.post(
-            self.rt,
-            alloc,
-            &mut self.seat,
-            self.who,
-            doc,
-            mail,
-            urgent,
-        );
+    fn post(&mut self, doc: DocId, mail: M, urgent: bool) -> Result<(), Refused<M>> {
+        let (answer, _count) = self
+            .hall
+            .post(self.rt, &mut self.seat, self.who, doc, mail, urgent);
         answer
     }
 
     fn collect(&mut self, doc: DocId, bag: MailBag<M>) -> (Result<u32, Owner>, MailBag<M>)
         requires { bag ≡ [] }
-        ensures { Finds (seat_view self.old.seat self.old.who) (CollectSays M.tag self.old.who doc.0) (λ (old new : List (Opened P M)). MatchResult result.0 (λ _. Collects doc.0 result.1 old new) (λ _. Stays old new)) (result.0, result.1) (seat_view self.new.seat self.new.who) }
+        ensures { Finds (seat_view self.old.seat self.old.who)
+            (CollectSays M.tag self.old.who doc.0)
+            (λ (old new : List (OpenDocument P M)). MatchResult result.0
+            (λ _. Collects doc.0 result.1 old new) (λ _. Stays old new)) (result.0, result.1)
+            (seat_view self.new.seat self.new.who) }
     {
         let (answer, _count) = self
             .hall

@@ -16,8 +16,11 @@ pub fn collect_turn<P: Drop, M: Labelled>(
 ) -> (Result<u32, Owner>, MailBag<M>)
     requires { bag ≡ [] }
     ensures ground { hall.new.ground_of ≡ hall.old.ground_of }
-    ensures says { CollectSays M.tag who doc.0 hall.old.ground_of hall.old.book (result.0, result.1) hall.new.book }
-    ensures values { MatchResult result.0 (λ _. Collects doc.0 result.1 hall.old.opens hall.new.opens) (λ _. hall.new.opens ≡ hall.old.opens) }
+    ensures says { CollectSays M.tag who doc.0 hall.old.ground_of hall.old.book
+        (result.0, result.1) hall.new.book }
+    ensures values { MatchResult result.0
+        (λ _. Collects doc.0 result.1 hall.old.opens hall.new.opens)
+        (λ _. hall.new.opens ≡ hall.old.opens) }
 {
     hall.is_reached();
     hall.collect(who, doc, bag)

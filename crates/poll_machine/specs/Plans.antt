@@ -27,11 +27,14 @@ Follows {X} {E} Step Never old events new = ⊥
 Follows {X} {E} Step (Makes event) old events new = (events ≡ event ∷ []) × Step old event new
 Follows {X} {E} Step (Then first later) old events new =
     (mid : X) × (before : List E) × (behind : List E)
-    × (events ≡ before ++ behind) × Follows Step first old before mid × Follows Step later mid behind new
-Follows {X} {E} Step (Learns {A} next) old events new = (answer : A) × Follows Step (next answer) old events new
+    × (events ≡ before ++ behind) × Follows Step first old before mid
+    × Follows Step later mid behind new
+Follows {X} {E} Step (Learns {A} next) old events new = (answer : A)
+    × Follows Step (next answer) old events new
 Follows {X} {E} Step (Looks next) old events new = Follows Step (next old) old events new
 Follows {X} {E} Step (Until kind passes) old events new =
-    AllByRecursion (λ event. kind event ≡ true) events × Run Step old events new × (passes new ≡ true)
+    AllByRecursion (λ event. kind event ≡ true) events × Run Step old events new
+    × (passes new ≡ true)
 
 -- each of these things in order, by its own plan
 abbrev pub each : {X E A : Type 0} → (A → Plan X E) → List A → Plan X E

@@ -3,17 +3,19 @@ use Rattle.std.specs.Prelude.{◌≡◌, ℕ, nat_eq, List, [], ◌∷◌, ◌++
 use Rattle.document_machine.specs.declared.rights.Rights.{Rights}
 use Rattle.net_traits.specs.Nets.{LinkEvent}
 use Rattle.poll_machine.specs.Words.{Event, Joined, Left, Outs, nothing, event_of, Ways, Moves}
-use Rattle.poll_machine.specs.Agenda.{Held, Todo, Give, Leave, LetGo, Offer, Hand, Do, Take, Here, Joins, Did, Gives, Skips, Leaves, Takes, HeldStep}
-use Rattle.poll_machine.specs.House.{Slot, Act, Happens, OfDoc, House, HouseStep, SlotStep, slot_of}
+use Rattle.poll_machine.specs.Agenda.{HeldDocument, Todo, Give, Leave, LetGo, Offer, Hand, Do, Take}
+use Rattle.poll_machine.specs.Agenda.{Here, Joins, Did, Gives, Skips, Leaves, Takes, HeldStep}
+use Rattle.poll_machine.specs.House.{Slot, SlotAct, Happens, OfDoc, House, HouseStep, SlotStep}
+use Rattle.poll_machine.specs.House.{slot_of}
 use Rattle.poll_machine.specs.Told.{Heard, Hears}
 use Rattle.poll_machine.specs.Runs.{Run}
 
 -- what is done to one document by an event, and by many
-abbrev pub act_of : {D J P L : Type 0} → ℕ → Happens D J P L → List (ℕ × Act D J P L)
+abbrev pub act_of : {D J P L : Type 0} → ℕ → Happens D J P L → List (ℕ × SlotAct D J P L)
 act_of id (OfDoc x moment act) = if nat_eq x id then (moment, act) ∷ [] else []
 act_of id _ = []
 
-abbrev pub acts_of : {D J P L : Type 0} → ℕ → List (Happens D J P L) → List (ℕ × Act D J P L)
+abbrev pub acts_of : {D J P L : Type 0} → ℕ → List (Happens D J P L) → List (ℕ × SlotAct D J P L)
 acts_of id [] = []
 acts_of id (event ∷ events) = act_of id event ++ acts_of id events
 
@@ -65,12 +67,17 @@ frames_out [] = []
 frames_out (move ∷ moves) = move.1.frames ++ frames_out moves
 
 -- a step of a held document at its moment
-abbrev pub HeldMove : {D J P L : Type 0} → Ways D J P → Held D J P L → ℕ × Here J P L → Held D J P L → Type 0
+abbrev pub HeldMove : {D J P L : Type 0} → Ways D J P → HeldDocument D J P L → ℕ × Here J P L
+    → HeldDocument D J P L → Type 0
 HeldMove w old move new = HeldStep w move.0 old move.1 new
 
--- the headline: from one house the events lead to another; for each document, taken alone, what was done to it leads from what was
--- held of it, if anything, to what is held of it; and the outside was called for exactly these events
-pub record Headline {D J P L : Type 0} (w : Ways D J P) (carries : L → List LinkEvent) (old : House D J P L) (before : Heard D J P L) (events : List (Happens D J P L)) (new : House D J P L) (after : Heard D J P L) : Type 0 where
+-- the headline: from one house the events lead to another; for each document, taken alone, what was
+-- done to it leads from what was held of it, if anything, to what is held of it; and the outside
+-- was called for exactly these events
+pub record Headline {D J P L : Type 0} (w : Ways D J P) (carries : L → List LinkEvent)
+    (old : House D J P L) (before : Heard D J P L) (events : List (Happens D J P L))
+    (new : House D J P L) (after : Heard D J P L) : Type 0 where
   pub run : Run (HouseStep w) old events new
-  pub each : (id : ℕ) → Run (SlotStep w) (slot_of id old.docs) (acts_of id events) (slot_of id new.docs)
+  pub each : (id : ℕ) → Run (SlotStep w) (slot_of id old.docs) (acts_of id events)
+      (slot_of id new.docs)
   pub told : Hears w carries before events after

@@ -5,7 +5,8 @@ use Rattle.outside.specs.declared.errands.Errand.{Errand}
 use Rattle.outside.specs.declared.errands.Receipt.{Receipt}
 use Rattle.outside.specs.declared.faults.StoreFault.{StoreFault}
 
--- the events of one document, where P is what a painter gives back; a turn tells whether it did a work
+-- the events of one document, where P is what a painter gives back; a turn tells whether it did a
+-- work
 pub data Event (P : Type 0) : Type 0 where
   Joined : (rights : Rights) → Event P
   Left : (view : ℕ) → Event P
@@ -38,10 +39,10 @@ abbrev pub event_of : {P : Type 0} → Answer P → Event P
 event_of (PaintDone result) = Painted result
 event_of (PutDone ticket answer) = PutAnswered ticket answer
 
--- a kind of document: how an address names a file and a token; the document as it is loaded, where the file is
--- accepted; its steps; what painting a job gives, and its ticket; the id of the next view; whether it has all the
--- views that it may have; whether it is done, and lost where it is; and the token of the lock that an answer to its put
--- gives it, where it takes a receipt
+-- a kind of document: how an address names a file and a token; the document as it is loaded, where
+-- the file is accepted; its steps; what painting a job gives, and its ticket; the id of the next
+-- view; whether it has all the views that it may have; whether it is done, and lost where it is;
+-- and the token of the lock that an answer to its put gives it, where it takes a receipt
 pub record Ways (D J P : Type 0) : Type 1 where
   pub address : List ℕ → Option (List ℕ × List ℕ)
   pub opening : List ℕ → Option D

@@ -1,6 +1,7 @@
 -- The rule of the lock: what holds between any two atomic steps, and what each kind of step does.
 -- Word 0 is the turn, word 1 the count, and the one slot holds the value.
-use Rattle.std.specs.Prelude.{◌≡◌, ℕ, ◌+◌, ◌≤◌, true, false, ◌⊎◌, max, Option, None, Some, List, [], ◌∷◌, ◌++◌, length}
+use Rattle.std.specs.Prelude.{◌≡◌, ℕ, ◌+◌, ◌≤◌, true, false, ◌⊎◌, max, Option, None, Some, List, []}
+use Rattle.std.specs.Prelude.{◌∷◌, ◌++◌, length}
 use mathlib.Core.Option.{none, some}
 use lib.ListN.{get_elem?}
 use Rattle.atomic_table.specs.Table.{State, Me}
@@ -11,9 +12,17 @@ use Rattle.turn_lock.specs.Seats.{Known, own_after}
 
 -- what a caller sees of a view
 abbrev pub known : {E G : Type 0} → TableId → View E G → Known E G
-known z v = record { lock = z; footing = v.footing; seen = v.seen; own = v.own; noted = v.noted; turns = v.turns }
+known z v = record {
+  lock = z;
+  footing = v.footing;
+  seen = v.seen;
+  own = v.own;
+  noted = v.noted;
+  turns = v.turns;
+}
 
--- a seat between two calls: it has no slot and not the turn, knows its ground, and has told nothing that it hasn't taken in
+-- a seat between two calls: it has no slot and not the turn, knows its ground, and has told nothing
+-- that it hasn't taken in
 pub record IsIdle {T E G : Type 0} (me : Me (Option T) (View E G)) : Type 0 where
   pub no_slot : me.1 ≡ []
   pub no_turn : me.0.holds ≡ false
@@ -22,11 +31,28 @@ pub record IsIdle {T E G : Type 0} (me : Me (Option T) (View E G)) : Type 0 wher
 
 -- the view of a lock's first seat
 abbrev pub first_view : {E G : Type 0} → G → List E → View E G
-first_view g log = record { holds = false; footing = Some g; seen = log; told = []; own = []; noted = 0; turns = 0 }
+first_view g log = record {
+  holds = false;
+  footing = Some g;
+  seen = log;
+  told = [];
+  own = [];
+  noted
+      = 0;
+  turns = 0;
+}
 
 -- the view of a seat that was joined to another
 abbrev pub spent : {E G : Type 0} → View E G
-spent {E} {G} = record { holds = false; footing = None; seen = []; told = []; own = []; noted = 0; turns = 0 }
+spent {E} {G} = record {
+  holds = false;
+  footing = None;
+  seen = [];
+  told = [];
+  own = [];
+  noted = 0;
+  turns = 0;
+}
 
 -- How each kind of step changes the view of the seat that steps
 
@@ -52,7 +78,12 @@ copy_of v = record v { own = []; turns = 0 }
 
 -- join: both seats' own entries and turns and the greater count, and it is told of the other's list
 abbrev pub merged : {E G : Type 0} → View E G → View E G → View E G
-merged v w = record v { told = w.seen; own = v.own ++ w.own; noted = max v.noted w.noted; turns = v.turns + w.turns }
+merged v w = record v {
+  told = w.seen;
+  own = v.own ++ w.own;
+  noted = max v.noted w.noted;
+  turns = v.turns + w.turns;
+}
 
 -- settle, the second step of a join: keeps the longer of the two lists
 abbrev pub settled_view : {E G : Type 0} → View E G → View E G
@@ -61,14 +92,19 @@ settled_view v = record v { seen = longer v.seen v.told; told = [] }
 module _ {T E G : Type 0} (footing_of : T → G) (book_of : T → List E) where
   -- The facts of the rule
 
-  -- where the turn is 0 the value is at home, with this list and this ground; where it is 1 the value is out
+  -- where the turn is 0 the value is at home, with this list and this ground; where it is 1 the
+  -- value is out
   abbrev pub Homes : ℕ → List E → G → State (Option T) (View E G) → Type 0
-  Homes turn log footing s = ((turn ≡ 0) × ((x : T) × (s.homes ≡ some (Some x) ∷ []) × (book_of x ≡ log) × (footing_of x ≡ footing)))
+  Homes turn log footing s =
+      ((turn ≡ 0) × ((x : T) × (s.homes ≡ some (Some x) ∷ []) × (book_of x ≡ log)
+      × (footing_of x ≡ footing)))
       ⊎ ((turn ≡ 1) × (s.homes ≡ none ∷ []))
 
-  -- a view fits: its ground is that of the value, its lists are prefixes of the list, its count is not above the list's length, each own entry stands in a list at its place;
-  -- and where it is marked as holder, the turn is 1, it is the keeper, and the list is its own
-  pub record Seated (turn : ℕ) (log : List E) (footing : G) (keeper p : ℕ) (v : View E G) : Type 0 where
+  -- a view fits: its ground is that of the value, its lists are prefixes of the list, its count is
+  -- not above the list's length, each own entry stands in a list at its place; and where it is
+  -- marked as holder, the turn is 1, it is the keeper, and the list is its own
+  pub record Seated (turn : ℕ) (log : List E) (footing : G) (keeper p : ℕ)
+      (v : View E G) : Type 0 where
     pub ground_is : (v.footing ≡ None) ⊎ (v.footing ≡ Some footing)
     pub seen : IsPrefix v.seen log
     pub told : IsPrefix v.told log
@@ -76,8 +112,9 @@ module _ {T E G : Type 0} (footing_of : T → G) (book_of : T → List E) where
     pub places : (n : ℕ) → length v.seen ≤ n → length v.told ≤ n → times n v.own ≡ 0
     pub holder : v.holds ≡ true → (turn ≡ 1) × (p ≡ keeper) × (v.seen ≡ log)
 
-  -- the rule: word 0 is the turn, word 1 the length of the one list; the value is where the turn says; each view fits;
-  -- the turn is 1 exactly where the keeper is marked as holder; and no place is in two views
+  -- the rule: word 0 is the turn, word 1 the length of the one list; the value is where the turn
+  -- says; each view fits; the turn is 1 exactly where the keeper is marked as holder; and no place
+  -- is in two views
   pub record Kept (s : State (Option T) (View E G)) : Type 0 where
     pub turn : ℕ
     pub log : List E
@@ -85,15 +122,21 @@ module _ {T E G : Type 0} (footing_of : T → G) (book_of : T → List E) where
     pub keeper : ℕ
     pub words : s.words ≡ turn ∷ length log ∷ []
     pub homes : Homes turn log footing s
-    pub seated : (p : ℕ) (v : View E G) → get_elem? s.views p ≡ some v → Seated turn log footing keeper p v
-    pub held : (turn ≡ 0) ⊎ ((v : View E G) × (get_elem? s.views keeper ≡ some v) × (v.holds ≡ true))
+    pub seated : (p : ℕ) (v : View E G) → get_elem? s.views p ≡ some v
+        → Seated turn log footing keeper p v
+    pub held : (turn ≡ 0)
+        ⊎ ((v : View E G) × (get_elem? s.views keeper ≡ some v) × (v.holds ≡ true))
     pub once : (p : ℕ) → total (λ (v : View E G). times p v.own) s.views ≤ 1
 
-  -- What each kind of step tells the seat that steps: m is the seat before, n the number found, w the seat after
+  -- What each kind of step tells the seat that steps: m is the seat before, n the number found, w
+  -- the seat after
 
-  -- take and slot out: where the turn was 0 the seat is holder and has the value, whose list begins with all that it had seen; else nothing changed
+  -- take and slot out: where the turn was 0 the seat is holder and has the value, whose list begins
+  -- with all that it had seen; else nothing changed
   abbrev pub Takes : Me (Option T) (View E G) → ℕ → Me (Option T) (View E G) → Type 0
-  Takes m n w = ((n ≡ 0) × ((x : T) × (w ≡ (took m.0 (book_of x), (0, Some x) ∷ [])) × (m.0.footing ≡ Some (footing_of x)) × IsPrefix m.0.seen (book_of x)))
+  Takes m n w = ((n ≡ 0)
+      × ((x : T) × (w ≡ (took m.0 (book_of x), (0, Some x) ∷ []))
+      × (m.0.footing ≡ Some (footing_of x)) × IsPrefix m.0.seen (book_of x)))
       ⊎ ((¬ (n ≡ 0)) × (w ≡ m))
 
   -- publish: word 1 becomes the length of the list of the value that the seat has
@@ -110,4 +153,5 @@ module _ {T E G : Type 0} (footing_of : T → G) (book_of : T → List E) where
 
   -- settle: the one list is a prefix of the other, and no place stands twice among the own entries
   abbrev pub Settles : Me (Option T) (View E G) → ℕ → Me (Option T) (View E G) → Type 0
-  Settles m n w = (w ≡ (settled_view m.0, m.1)) × IsPrefix m.0.seen (longer m.0.seen m.0.told) × IsPrefix m.0.told (longer m.0.seen m.0.told) × ((p : ℕ) → times p m.0.own ≤ 1)
+  Settles m n w = (w ≡ (settled_view m.0, m.1)) × IsPrefix m.0.seen (longer m.0.seen m.0.told)
+      × IsPrefix m.0.told (longer m.0.seen m.0.told) × ((p : ℕ) → times p m.0.own ≤ 1)

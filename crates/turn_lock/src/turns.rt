@@ -1,5 +1,6 @@
 //! The rule of the lock over `atomic_table`, and the kinds of step.
-ghost use Rattle.turn_lock.specs.Turns.{Kept, Takes, Publishes, GivesBack, Looks, Settles, first_view, copy_of, merged, spent};
+ghost use Rattle.turn_lock.specs.Turns.{Kept, Takes, Publishes, GivesBack, Looks, Settles};
+ghost use Rattle.turn_lock.specs.Turns.{first_view, copy_of, merged, spent};
 
 use crate::booked::Booked;
 use crate::view::View;
@@ -7,7 +8,7 @@ use atomic_table::{Join, Play, Seat, Shared, Split, Table, TableRule};
 use std::alloc::Global;
 use std::snapshot::Snapshot;
 
-pub type Place<T> = Seat<Option<T>, View<<T as Booked>::Entry, <T as Booked>::Ground>>;
+pub type TableSeat<T> = Seat<Option<T>, View<<T as Booked>::Entry, <T as Booked>::Ground>>;
 
 pub type Top<T> = Shared<
     Option<T>,
@@ -16,7 +17,7 @@ pub type Top<T> = Shared<
     Turns,
 >;
 
-pub type Desk<T> = Table<
+pub type SeatTable<T> = Table<
     Option<T>,
     View<<T as Booked>::Entry, <T as Booked>::Ground>,
     Snapshot<T>,

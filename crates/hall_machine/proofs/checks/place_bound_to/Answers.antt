@@ -5,4 +5,6 @@ use Rattle.hall_machine.proofs.Places.{position_seen}
 use Rattle.hall_machine.proofs.checks.place_bound_to.Goals as goal
 
 pub returns-clause-place : goal.returns-clause-place
-returns-clause-place g c = c.find_bound.ensures.place ∙ sym (position_seen (sight g.M.Labelled.tag) (λ x. is_bound_to c.args.who x.place) c.args.opens.now)
+returns-clause-place g c = c.find_bound.ensures.place
+    ∙ sym (position_seen (sight g.M.Labelled.tag)
+    (λ x. is_bound_to c.args.who x.holder) c.args.opens.now)

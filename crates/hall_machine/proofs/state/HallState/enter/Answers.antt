@@ -6,6 +6,16 @@ use Rattle.hall_machine.proofs.state.HallState.enter.Goals as goal
 pub invariant_of-self-2 : goal.invariant_of-self-2
 invariant_of-self-2 g c =
     let h = rw c.in_default.is at c.in-Ok.ensures in
-    let k = fresh g.M.Labelled.tag (record { polls = c.self.inside.polls; room = c.self.inside.room }) c.self.inside.next c.self.inside.opens.items c.as_slice.result.now c.self.inside.due c.self.inside.entries.items c.len-entries.result _ c.args.who c.self.inside.next c.args.file.now
-    c.self.invariant c.as_slice.ensures.value (c.len-entries.ensures ∙ c.self.inside.entries.ok.0) h.0 refl h.1 h.2 in
-    rw (c.in-Ok-open_one.ensures.1, c.push_reserved.ensures.items, c.push_reserved.ensures.capacity, c.in-Ok-open_one.ensures.0) k
+    let k = fresh g.M.Labelled.tag
+    (record { polls = c.self.inside.polls; room = c.self.inside.room }) c.self.inside.next
+    c.self.inside.opens.items c.as_slice.result.now c.self.inside.due
+    c.self.inside.entries.items c.len-entries.result _ c.args.who c.self.inside.next
+    c.args.file.now
+    c.self.invariant c.as_slice.ensures.value
+    (c.len-entries.ensures ∙ c.self.inside.entries.ok.0) h.0 refl h.1 h.2 in
+    rw (
+      c.in-Ok-open_one.ensures.1,
+      c.push_reserved.ensures.items,
+      c.push_reserved.ensures.capacity,
+      c.in-Ok-open_one.ensures.0,
+    ) k

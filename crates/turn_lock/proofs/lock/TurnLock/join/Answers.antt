@@ -8,8 +8,15 @@ join_seat-requires g c = (
   search rules,
   c.other.invariant.no_slot,
   omega (arith, c.self.invariant.0),
-  join_keeps g.T.Booked.footing g.T.Booked.book _ _ _ _ c.seat.invariant.no_turn c.other.invariant.no_turn c.seat.invariant.settled c.other.invariant.settled,
+  join_keeps g.T.Booked.footing g.T.Booked.book _ _ _ _ c.seat.invariant.no_turn
+      c.other.invariant.no_turn c.seat.invariant.settled c.other.invariant.settled,
 )
 
 pub load-requires : goal.load-requires
-load-requires g c = (search rules, omega (arith, c.self.invariant.0), settle_keeps g.T.Booked.footing g.T.Booked.book _ _ _ (rw c.join_seat.ensures.2 c.seat.invariant.no_turn))
+load-requires g c = (
+  search rules,
+  omega
+      (arith, c.self.invariant.0),
+  settle_keeps g.T.Booked.footing g.T.Booked.book _ _ _
+      (rw c.join_seat.ensures.2 c.seat.invariant.no_turn),
+)
