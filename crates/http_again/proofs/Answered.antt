@@ -1,12 +1,14 @@
 -- What is said of a front of the whole is what is said of the whole.
-use Rattle.std.proofs.Common.{ℕ, ◌≡◌, Bool, true, false, List, [], ◌++◌, Option, Some, None, Result, Ok, Err, refl, sym, ap, ◌∙◌, subst, append-nil, unwrap_or}
+use Rattle.std.proofs.Common.{ℕ, ◌≡◌, Bool, true, false, List, ◌++◌, Some, Result, Ok, Err, refl, sym, ap, ◌∙◌, subst, append-nil, unwrap_or, ◌||◌}
+use Rattle.std.proofs.lemmas.List.{append_cancel_left}
+use Rattle.outside.specs.Wires.{Talk, with_received}
 use Rattle.outside.specs.declared.faults.WireFault.{WireFault}
 use Rattle.outside.specs.declared.faults.WireFault.TheVariants.{BadHead, HeadTooLong, BodyTooLong, BadChunk, CutOff, ReadFault, WriteFault}
 use Rattle.wire_body.specs.declared.faults.HttpFault.{HttpFault}
 use Rattle.wire_body.specs.declared.faults.HttpFault.TheVariants.{Wire, Memory as NoMemory}
-use Rattle.http_wire.specs.Messages.{Kind, Front, message_said, IsAnswer}
+use Rattle.http_wire.specs.Messages.{Kind, Front, message_said, IsAnswer, ReadsMessage}
 use Rattle.http_laws.proofs.Fronts.{Laws, one_front, front_stays}
-use Rattle.http_again.specs.Given.{IsGiven, IsItself}
+use Rattle.http_again.specs.Given.{IsGiven, GivesFront, IsItself}
 
 -- the bytes say this message, whether the wire ends behind them or not
 pub record Say {P M : Type 0} (k : Kind P M) (m : M) (whole : List ℕ) : Type 0 where
@@ -45,3 +47,15 @@ itself k laws m whole bytes ended (Err (Wire HeadTooLong)) say given (f, said, s
 itself k laws m whole bytes ended (Err (Wire BodyTooLong)) say given (f, said, stops) = absurd (no_fault m BodyTooLong (one_said k laws m whole bytes ended say given f (Err BodyTooLong) said))
 itself k laws m whole bytes ended (Err (Wire BadChunk)) say given (f, said, stops) = absurd (no_fault m BadChunk (one_said k laws m whole bytes ended say given f (Err BadChunk) said))
 itself k laws m whole bytes ended (Err (Wire CutOff)) say given (f, said, stops) = absurd (no_fault m CutOff (one_said k laws m whole bytes ended say given f (Err CutOff) said))
+
+-- what a call received between two talks is a front of what the wire gave between them
+given_between : (whole bytes : List ℕ) (ended : Bool) (old new : Talk) → GivesFront whole old new → new ≡ with_received bytes ended old → IsGiven whole bytes ended
+given_between whole bytes ended old new (front, more, got, is, last) heard =
+    let same : bytes ≡ front = append_cancel_left old.received bytes front (sym (ap (λ t. t.received) heard) ∙ got) in
+    (more, ap (λ xs. xs ++ more) same ∙ is, λ at_end. last (ap (λ t. t.ended) heard ∙ ap (λ b. b || old.ended) at_end))
+
+-- the same of what the call's contract says of its wire
+pub itself_between : {P M : Type 0} (k : Kind P M) (laws : Laws k) (m : M) (whole : List ℕ) (old new : Talk) (result : Result M HttpFault)
+    → Say k m whole → GivesFront whole old new → ReadsMessage k (Some old) (Some new) result → IsItself m result
+itself_between k laws m whole old new result say given (bytes, ended, heard, answer) =
+    itself k laws m whole bytes ended result say (given_between whole bytes ended old new given (some_same new (with_received bytes ended old) heard)) answer

@@ -1,10 +1,9 @@
 -- What is written begins with a whole head within its limit, and says the message.
-use Rattle.std.proofs.Common.{ℕ, ◌≡◌, ◌+◌, ◌≤◌, Bool, true, false, List, [], ◌++◌, length, take, nat_le, Option, Some, None, Result, Ok, Err, refl, sym, ap, ◌∙◌, subst, arith}
+use Rattle.std.proofs.Common.{ℕ, ◌≡◌, ◌+◌, ◌≤◌, Bool, true, false, List, [], ◌++◌, length, nat_le, Some, None, Ok, Err, refl, sym, ap, ◌∙◌, arith}
 use Rattle.std.specs.Prelude.{if◌then◌else◌}
 use Rattle.std.proofs.lemmas.List.{length-append}
 use Rattle.std.proofs.lemmas.Bool.Decides.{nat_tests}
 use Rattle.std.proofs.Math.Seq.{take-append_seam}
-use Rattle.outside.specs.declared.faults.WireFault.{WireFault}
 use Rattle.outside.specs.declared.faults.WireFault.TheVariants.{BodyTooLong, CutOff}
 use Rattle.http_message.specs.declared.Method.{Method}
 use Rattle.http_message.specs.declared.Method.TheVariants.{Get, Post, Other}
@@ -13,13 +12,12 @@ use Rattle.http_message.specs.declared.Response.{Response}
 use Rattle.http_message.specs.Statuses.{is_bodiless}
 use Rattle.http_head.specs.declared.framing.Framing.TheVariants.{Empty, Sized}
 use Rattle.wire_body.specs.Bodies.{body_says, body_of, no_body, body_limit}
-use Rattle.http_wire.specs.Messages.{Front, head_limit, start_of, with_body, message_said}
+use Rattle.http_wire.specs.Messages.{head_limit, start_of, with_body}
 use Rattle.http_wire.specs.Messages.Front.{Headed}
 use Rattle.http_wire.specs.Kinds.{requests, responses}
 use Rattle.http_write.specs.Texts.{request_head, request_bytes, response_head, response_bytes}
 use Rattle.http_write.specs.Again.{IsReadable, IsAsked, framing_told, request_parts, IsAnswer, response_parts}
 use Rattle.http_write.proofs.Again.{request_again, response_again}
-use Rattle.http_laws.specs.Lengths.{said_of_length}
 use Rattle.http_laws.proofs.Counts.{by_length}
 use Rattle.http_again.proofs.Answered.{Say}
 
