@@ -1,0 +1,70 @@
+-- What is written begins with a whole head within its limit, and says the message.
+use Rattle.std.proofs.Common.{ℕ, ◌≡◌, ◌+◌, ◌≤◌, Bool, true, false, List, [], ◌++◌, length, nat_le, Some, None, Ok, Err, refl, sym, ap, ◌∙◌, arith}
+use Rattle.std.specs.Prelude.{if◌then◌else◌}
+use Rattle.std.proofs.lemmas.List.{length-append}
+use Rattle.std.proofs.lemmas.Bool.Decides.{nat_tests}
+use Rattle.std.proofs.Math.Seq.{take-append_seam}
+use Rattle.outside.specs.declared.faults.WireFault.TheVariants.{BodyTooLong, CutOff}
+use Rattle.http_message.specs.declared.Method.{Method}
+use Rattle.http_message.specs.declared.Method.TheVariants.{Get, Post, Other}
+use Rattle.http_message.specs.declared.Request.{Request}
+use Rattle.http_message.specs.declared.Response.{Response}
+use Rattle.http_message.specs.Statuses.{is_bodiless}
+use Rattle.http_head.specs.declared.framing.Framing.TheVariants.{Empty, Sized}
+use Rattle.wire_body.specs.Bodies.{body_says, body_of, no_body, body_limit}
+use Rattle.http_wire.specs.Messages.{head_limit, start_of, with_body}
+use Rattle.http_wire.specs.Messages.Front.{Headed}
+use Rattle.http_wire.specs.Kinds.{requests, responses}
+use Rattle.http_write.specs.Texts.{request_head, request_bytes, response_head, response_bytes}
+use Rattle.http_write.specs.Again.{IsReadable, IsAsked, framing_told, request_parts, IsAnswer, response_parts}
+use Rattle.http_write.proofs.Again.{request_again, response_again}
+use Rattle.http_laws.proofs.Counts.{by_length}
+use Rattle.http_again.proofs.Answered.{Say}
+
+fits : (a b : ℕ) → a ≤ b → nat_le a b ≡ true
+fits a b less = grind (arith, nat_tests)
+
+-- a body of its length, whatever is behind it
+sized : (body behind : List ℕ) (ended : Bool) → length body ≤ body_limit → body_says (body_of (length body)) (body ++ behind) ended ≡ Some (Ok body)
+sized body behind ended within =
+    by_length (length body) (body ++ behind) ended
+    ∙ (λ i. if fits (length body) body_limit within i
+    then (if fits (length body) (length (body ++ behind)) (omega (arith, length-append body behind)) i
+    then Some (Ok (take-append_seam body behind i))
+    else (if ended then Some (Err CutOff) else None))
+    else Some (Err BodyTooLong))
+
+-- no body, whatever is behind it
+empty : (body behind : List ℕ) (ended : Bool) → body ≡ [] → body_says no_body (body ++ behind) ended ≡ Some (Ok body)
+empty body behind ended none =
+    by_length 0 (body ++ behind) ended
+    ∙ (λ i. if fits 0 body_limit (omega arith) i
+    then (if fits 0 (length (body ++ behind)) (omega arith) i then Some (Ok []) else (if ended then Some (Err CutOff) else None))
+    else Some (Err BodyTooLong))
+    ∙ ap (λ xs. Some (Ok xs)) (sym none)
+
+asked_says : (method : Method) (body behind : List ℕ) (ended : Bool) → IsAsked method body → length body ≤ body_limit
+    → body_says (start_of (framing_told method body)) (body ++ behind) ended ≡ Some (Ok body)
+asked_says Get body behind ended asked within = empty body behind ended asked
+asked_says Post body behind ended asked within = sized body behind ended within
+asked_says Other body behind ended asked within = absurd asked
+
+told_says : (bodiless : Bool) (body behind : List ℕ) (ended : Bool) → (bodiless ≡ true → body ≡ []) → length body ≤ body_limit
+    → body_says (start_of (if bodiless then Empty else Sized (length body))) (body ++ behind) ended ≡ Some (Ok body)
+told_says true body behind ended due within = empty body behind ended (due refl)
+told_says false body behind ended due within = sized body behind ended within
+
+within_limit : (head body behind : List ℕ) → length head ≤ head_limit → length ((head ++ body) ++ behind) ≤ head_limit + length (body ++ behind)
+within_limit head body behind small = omega (arith, small, length-append (head ++ body) behind, length-append head body, length-append body behind)
+
+pub request_says : (host : List ℕ) (r : Request) (behind : List ℕ) → IsReadable host r → length (request_head host r) ≤ head_limit → Say requests r (request_bytes host r ++ behind)
+request_says host r behind is small = record {
+  front = Headed (request_parts r) (r.body ++ behind) (request_again host r behind is) (within_limit (request_head host r) r.body behind small);
+  said = λ ended. ap (λ s. with_body requests (request_parts r) s) (asked_says r.method r.body behind ended is.asked is.body);
+}
+
+pub response_says : (r : Response) (behind : List ℕ) → IsAnswer r → length (response_head r) ≤ head_limit → Say responses r (response_bytes r ++ behind)
+response_says r behind is small = record {
+  front = Headed (response_parts r) (r.body ++ behind) (response_again r behind is) (within_limit (response_head r) r.body behind small);
+  said = λ ended. ap (λ s. with_body responses (response_parts r) s) (told_says (is_bodiless r.status) r.body behind ended is.bodiless is.body);
+}
