@@ -9,7 +9,7 @@ use Rattle.wopi_host.specs.declared.marks.Marks.{Marks}
 use Rattle.wopi_host.specs.Keepers.{Files, IsKept, Keeps, SameFiles}
 use Rattle.wopi_host.specs.Marks.{counting, marks_after}
 use Rattle.wopi_host.specs.Targets.{Named, Nothing}
-use Rattle.wopi_host.specs.Hosts.{Pages, SamePages, WritesPage, HostAt, HostStays, Asking, FilesAfter, AnswersAt, Answers, bare}
+use Rattle.wopi_host.specs.Hosts.{Pages, SamePages, WritesPage, HostAt, HostStays, Asking, FilesAfter, ActsAt, AnswersAt, Answers, bare}
 use Rattle.wopi_host.proofs.Same.{same_files, some_kept}
 
 -- the files are the same over two steps
@@ -72,6 +72,31 @@ page_stays pages1 pages2 file same = λ id. same id ∙ by_test id (bytes_eq id 
 -- nothing changed
 pub host_same : (h : HostAt) → HostStays h h
 host_same h = record { files = same_files h.files; pages = λ id. refl }
+
+-- an action that changes nothing
+abbrev pub IsIdle : Action → Type 0
+IsIdle (Refused status) = Unit {0}
+IsIdle Info = Unit {0}
+IsIdle Content = Unit {0}
+IsIdle Sets = ⊥
+IsIdle Removes = ⊥
+IsIdle TellsLock = Unit {0}
+IsIdle Replaces = ⊥
+IsIdle Conflict = Unit {0}
+
+idle : (a : Asking) (h : HostAt) (action : Action) → IsIdle action → ActsAt a h action h
+idle a h (Refused status) is = record { filed = same_files h.files; marked = page_stays h.pages h.pages a.file (λ id. refl) }
+idle a h Info is = record { filed = same_files h.files; marked = page_stays h.pages h.pages a.file (λ id. refl) }
+idle a h Content is = record { filed = same_files h.files; marked = page_stays h.pages h.pages a.file (λ id. refl) }
+idle a h Sets is = absurd is
+idle a h Removes is = absurd is
+idle a h TellsLock is = record { filed = same_files h.files; marked = page_stays h.pages h.pages a.file (λ id. refl) }
+idle a h Replaces is = absurd is
+idle a h Conflict is = record { filed = same_files h.files; marked = page_stays h.pages h.pages a.file (λ id. refl) }
+
+-- the same of one that is equal to it
+pub acts_idle : (a : Asking) (h : HostAt) (action other : Action) → action ≡ other → IsIdle other → ActsAt a h action h
+acts_idle a h action other same is = idle a h action (subst (λ (x : Action). IsIdle x) (sym same) is)
 
 -- the token gives no right
 pub denied : (a : Asking) (h : HostAt) → AnswersAt None a h (bare 401) h

@@ -9,7 +9,7 @@ use Rattle.wopi_host.specs.declared.keepers.MemoryKeeper.{MemoryKeeper}
 use Rattle.wopi_host.specs.declared.marks.Marks.{Marks}
 use Rattle.wopi_host.specs.Keepers.{Files, keeper_failed}
 use Rattle.wopi_host.specs.Marks.{marks_in}
-use Rattle.wopi_host.specs.Hosts.{HostAt, Pages, Asking}
+use Rattle.wopi_host.specs.Hosts.{HostAt, HostStays, Pages, Asking}
 
 -- the content of each file in memory, by its id
 abbrev pub contents_in : MemoryKeeper → List ℕ → Option (List ℕ)
@@ -30,6 +30,10 @@ pages_of host = marks_in host.book
 -- what it has, by the files that its keeper tells
 abbrev pub host_at : {Q : Type 0} → (Q → Option Files) → Host Q → HostAt
 host_at files host = record { files = files host.keeper; pages = marks_in host.book }
+
+-- nothing that it has changed
+abbrev pub StaysAt : {Q : Type 0} → (Q → Option Files) → Host Q → Host Q → Type 0
+StaysAt files old new = HostStays (host_at files old) (host_at files new)
 
 -- the fault of a keeper comes exactly where its count of faults rose from one host to the other
 abbrev pub FailsByKeeper : {Q A : Type 0} → (Q → ℕ) → Host Q → Host Q → Result A KeeperFault → Type 0

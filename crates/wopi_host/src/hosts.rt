@@ -1,11 +1,12 @@
 //! The host.
-ghost use Rattle.std.specs.Prelude.{◌≡◌, ℕ, List, Option, Some, None, IfOk, OnOk, OnErr, unwrap_or};
+ghost use Rattle.std.specs.Prelude.{◌≡◌, ℕ, List, [], Option, Some, None, IfOk, OnOk, OnErr, unwrap_or};
 ghost use Rattle.std.specs.Option.{option_copied};
 ghost use Rattle.wopi_host.specs.Targets.{named_at, path_of, target_right};
 ghost use Rattle.wopi_host.specs.Table.{is_lock_text};
 ghost use Rattle.wopi_host.specs.Keepers.{IsKept, Keeps, SameFiles};
 ghost use Rattle.wopi_host.specs.Marks.{marks_in, lock_end, lock_of, unmarked};
 ghost use Rattle.wopi_host.specs.Hosts.{SamePages, SetsLock, action_at};
+ghost use Rattle.wopi_host.specs.Kept.{asking};
 
 use crate::answers::{bare_response, respond, text_or_empty};
 use crate::keepers::{Keeper, KeeperFault};
@@ -31,6 +32,7 @@ pub struct Host<Q: Keeper> {
 }
 
 // What is asked of a file, or of its contents, at a moment in seconds.
+#[derive(Drop)]
 struct Asked<'a> {
     file: &'a FileId,
     contents: bool,
@@ -58,7 +60,8 @@ fn bytes_in(text: Option<&str>) -> Option<&[u8]>
 
 // What the host does at a file with this content, by the lock that counts.
 fn action_for(asked: &Asked<'_>, writer: bool, content: &Bytes, current: Option<&str>) -> Action
-    ensures { result ≡ action_at asked.now.contents (Some writer) (Some content.now) asked.now.request.now
+    ensures { let asks = asking asked.now in
+        result ≡ action_at asks.contents (Some writer) (Some content.now) asks.request
         (option_copied current.entry) }
 {
     let request = asked.request;
@@ -113,16 +116,18 @@ fn drop_lock(alloc: Global, book: &mut Book, file: &FileId) -> Result<(), Memory
 }
 
 impl<Q: Keeper + Drop> Host<Q> {
-    ghost use Rattle.std.specs.Prelude.{◌≡◌, ◌×◌, ℕ, List, [], Some, None, IfOk, OnOk, OnErr};
-    ghost use Rattle.wopi_host.specs.Hosts.{HostStays, CountsPut, ActsAt, AnswersAt, TableAnswers, IsOrdinary};
-    ghost use Rattle.wopi_host.specs.Kept.{files_of, pages_of, host_at, FailsByKeeper, asking};
+    ghost use Rattle.std.specs.Prelude.{◌≡◌, ℕ, List, [], Some, None, IfOk, OnOk, OnErr};
+    ghost use Rattle.wopi_host.specs.Hosts.{CountsPut, ActsAt, AnswersAt, TableAnswers, IsOrdinary};
+    ghost use Rattle.wopi_host.specs.Kept.{files_of, pages_of, host_at, StaysAt, FailsByKeeper, asking};
 
-    // Replaces the content and counts the put. There is room for the count before the keeper is asked.
+    // Replaces the content and counts the put. There is room for the count before the keeper is
+    // asked.
     #[tactic(auto, using(crate::proofs::Same::same_files))]
     fn replace(&mut self, file: &FileId, content: &Bytes) -> Result<(), KeeperFault>
-        ensures keeps { OnOk result (Keeps (files_of Q.files self.old) file.now content.now (files_of Q.files self.new)) }
+        ensures keeps { let before = files_of Q.files self.old in
+            OnOk result (Keeps before file.now content.now (files_of Q.files self.new)) }
         ensures counts { OnOk result (CountsPut (pages_of self.old) file.now (pages_of self.new)) }
-        ensures err { OnErr result (HostStays (host_at Q.files self.old) (host_at Q.files self.new)) }
+        ensures err { OnErr result (StaysAt Q.files self.old self.new) }
         ensures cause { FailsByKeeper Q.faults self.old self.new result }
     {
         if puts_of(&self.book, file) == u64::MAX {
@@ -139,8 +144,9 @@ impl<Q: Keeper + Drop> Host<Q> {
     // Does the action.
     #[tactic(auto, using(crate::proofs::Same::same_files))]
     fn carry_out(&mut self, asked: &Asked<'_>, action: Action) -> Result<(), KeeperFault>
-        ensures ok { OnOk result (ActsAt (asking asked.now) (host_at Q.files self.old) action (host_at Q.files self.new)) }
-        ensures err { OnErr result (HostStays (host_at Q.files self.old) (host_at Q.files self.new)) }
+        ensures ok { let before = host_at Q.files self.old in
+            OnOk result (ActsAt (asking asked.now) before action (host_at Q.files self.new)) }
+        ensures err { OnErr result (StaysAt Q.files self.old self.new) }
         ensures cause { FailsByKeeper Q.faults self.old self.new result }
     {
         match action {
@@ -171,9 +177,11 @@ impl<Q: Keeper + Drop> Host<Q> {
         writer: bool,
         content: &Bytes,
     ) -> Result<Response, KeeperFault>
-        ensures ok { IfOk result (λ r. IsKept (files_of Q.files self.old) asked.now.file.now (Some content.now)
-            → AnswersAt (Some writer) (asking asked.now) (host_at Q.files self.old) r (host_at Q.files self.new)) }
-        ensures err { OnErr result (HostStays (host_at Q.files self.old) (host_at Q.files self.new)) }
+        ensures ok { let before = host_at Q.files self.old in
+            let after = host_at Q.files self.new in
+            IfOk result (λ r. IsKept before.files asked.now.file.now (Some content.now)
+            → AnswersAt (Some writer) (asking asked.now) before r after) }
+        ensures err { OnErr result (StaysAt Q.files self.old self.new) }
         ensures cause { FailsByKeeper Q.faults self.old self.new result }
     {
         let current = lock_at(&self.book, asked.file, asked.moment);
@@ -192,9 +200,10 @@ impl<Q: Keeper + Drop> Host<Q> {
 
     // The answer at a file, where the token is known.
     fn answer_file(&mut self, asked: &Asked<'_>, writer: bool) -> Result<Response, KeeperFault>
-        ensures ok { IfOk result (λ r.
-            AnswersAt (Some writer) (asking asked.now) (host_at Q.files self.old) r (host_at Q.files self.new)) }
-        ensures err { OnErr result (HostStays (host_at Q.files self.old) (host_at Q.files self.new)) }
+        ensures ok { let before = host_at Q.files self.old in
+            let after = host_at Q.files self.new in
+            IfOk result (λ r. AnswersAt (Some writer) (asking asked.now) before r after) }
+        ensures err { OnErr result (StaysAt Q.files self.old self.new) }
         ensures cause { FailsByKeeper Q.faults self.old self.new result }
     {
         match self.keeper.find(self.alloc, asked.file) {
@@ -207,9 +216,10 @@ impl<Q: Keeper + Drop> Host<Q> {
     // The answer at a file.
     #[tactic(auto, using(crate::proofs::Same::same_files))]
     fn answer_at(&mut self, asked: &Asked<'_>, right: Option<bool>) -> Result<Response, KeeperFault>
-        ensures ok { IfOk result (λ r.
-            AnswersAt right (asking asked.now) (host_at Q.files self.old) r (host_at Q.files self.new)) }
-        ensures err { OnErr result (HostStays (host_at Q.files self.old) (host_at Q.files self.new)) }
+        ensures ok { let before = host_at Q.files self.old in
+            let after = host_at Q.files self.new in
+            IfOk result (λ r. AnswersAt right (asking asked.now) before r after) }
+        ensures err { OnErr result (StaysAt Q.files self.old self.new) }
         ensures cause { FailsByKeeper Q.faults self.old self.new result }
     {
         match right {
@@ -220,9 +230,10 @@ impl<Q: Keeper + Drop> Host<Q> {
 
     // The answer to a request at this moment, but for the keeper's faults.
     fn answer_request(&mut self, request: &Request, moment: u64) -> Result<Response, KeeperFault>
-        ensures ok { IfOk result (λ r.
-            TableAnswers (host_at Q.files self.old) request.now moment r (host_at Q.files self.new)) }
-        ensures err { OnErr result (HostStays (host_at Q.files self.old) (host_at Q.files self.new)) }
+        ensures ok { let before = host_at Q.files self.old in
+            let after = host_at Q.files self.new in
+            IfOk result (λ r. TableAnswers before request.now moment r after) }
+        ensures err { OnErr result (StaysAt Q.files self.old self.new) }
         ensures ordinary { IfOk result IsOrdinary }
         ensures cause { FailsByKeeper Q.faults self.old self.new result }
     {
@@ -247,11 +258,11 @@ impl<Q: Keeper + Drop> Host<Q> {
     ghost use Rattle.std.specs.Prelude.{◌≡◌, ℕ, List, Some, None, IfOk, OnOk, OnErr, IsTrue, true};
     ghost use Rattle.outside.specs.Causes.{HasCause};
     ghost use Rattle.http_message.specs.Statuses.{HasDueBody};
-    ghost use Rattle.wopi_host.specs.Hosts.{HostAnswers, HostStays, host_failed};
-    ghost use Rattle.wopi_host.specs.Kept.{keeper_of, files_of, pages_of, host_at, FailsByKeeper};
+    ghost use Rattle.wopi_host.specs.Hosts.{HostAnswers, host_failed};
+    ghost use Rattle.wopi_host.specs.Kept.{keeper_of, files_of, pages_of, host_at, StaysAt, FailsByKeeper};
 
-    /// A host over the keeper: no file has a lock and each has 0 puts. What it takes memory for, it takes
-    /// from `alloc`.
+    /// A host over the keeper: no file has a lock and each has 0 puts. Later calls take their memory
+    /// from `alloc` too.
     pub fn new(alloc: Global, keeper: Q) -> Result<Host<Q>, Memory>
         ensures keeper { IfOk result (λ host. keeper_of host ≡ keeper) }
         ensures pages { IfOk result (λ host. (id : List ℕ) → pages_of host id ≡ unmarked) }
@@ -263,16 +274,19 @@ impl<Q: Keeper + Drop> Host<Q> {
         })
     }
 
-    /// The response to a request at this moment, in seconds. Where the keeper fails it is a bare 500 and
-    /// nothing changes; no other answer has that status. There is a body only where the status has one.
-    /// Where no memory is left, no content, lock or count of puts changes.
+    /// The response to a request at this moment, in seconds. Where the keeper fails it is a bare
+    /// 500 and nothing changes; no other answer has that status. There is a body only where the
+    /// status has one. Where no memory is left, no content, lock or count of puts changes.
     #[tactic(auto, using(crate::proofs::Statuses::ordinary_cause, crate::proofs::Statuses::ordinary_body))]
     pub fn answer(&mut self, request: &Request, now: u64) -> Result<Response, Memory>
-        ensures ok { IfOk result (λ r. HostAnswers (host_at Q.files self.old) request.now now r (host_at Q.files self.new)) }
-        ensures err { OnErr result (HostStays (host_at Q.files self.old) (host_at Q.files self.new)) }
+        ensures ok { let before = host_at Q.files self.old in
+            let after = host_at Q.files self.new in
+            IfOk result (λ r. HostAnswers before request.now now r after) }
+        ensures err { OnErr result (StaysAt Q.files self.old self.new) }
 
         // The status is 500 exactly where the keeper failed.
-        ensures cause { HasCause (Q.faults (keeper_of self.old)) (Q.faults (keeper_of self.new)) (host_failed result ≡ true) }
+        ensures cause { let before = Q.faults (keeper_of self.old) in
+            HasCause before (Q.faults (keeper_of self.new)) (host_failed result ≡ true) }
         ensures body { IfOk result HasDueBody }
     {
         match self.answer_request(request, now) {
@@ -284,8 +298,10 @@ impl<Q: Keeper + Drop> Host<Q> {
 
     /// Keeps the file with this content. A refused keep keeps nothing.
     pub fn add(&mut self, file: &FileId, content: &Bytes) -> Result<(), KeeperFault>
-        ensures keeps { OnOk result (Keeps (files_of Q.files self.old) file.now content.now (files_of Q.files self.new)) }
-        ensures stays { OnErr result (SameFiles (files_of Q.files self.old) (files_of Q.files self.new)) }
+        ensures keeps { let before = files_of Q.files self.old in
+            OnOk result (Keeps before file.now content.now (files_of Q.files self.new)) }
+        ensures stays { let before = files_of Q.files self.old in
+            OnErr result (SameFiles before (files_of Q.files self.new)) }
         ensures pages { pages_of self.new ≡ pages_of self.old }
         ensures cause { FailsByKeeper Q.faults self.old self.new result }
     {
@@ -305,7 +321,8 @@ impl<Q: Keeper + Drop> Host<Q> {
     /// The file's lock becomes this id, and ends 1,800 seconds later.
     pub fn set_lock(&mut self, file: &FileId, id: &str, now: u64) -> Result<(), Memory>
         requires { IsTrue (is_lock_text id.now) }
-        ensures ok { OnOk result (SetsLock (pages_of self.old) file.now (Some (lock_of id.now now)) (pages_of self.new)) }
+        ensures ok { let lock = lock_of id.now now in
+            OnOk result (SetsLock (pages_of self.old) file.now (Some lock) (pages_of self.new)) }
         ensures err { OnErr result (SamePages (pages_of self.old) (pages_of self.new)) }
         ensures keeper { keeper_of self.new ≡ keeper_of self.old }
     {

@@ -217,7 +217,8 @@ fn action_by_id(
     current: Option<&[u8]>,
     empty: bool,
 ) -> Action
-    ensures { result ≡ by_id operation (option_copied asked.entry) (option_copied current.entry) empty }
+    ensures { let asks = option_copied asked.entry in
+        result ≡ by_id operation asks (option_copied current.entry) empty }
 {
     if lacks_id(operation, asked) {
         Action::Refused(400)
@@ -233,7 +234,8 @@ fn action_by_right(
     current: Option<&[u8]>,
     empty: bool,
 ) -> Action
-    ensures { result ≡ by_right operation writer (option_copied asked.entry) (option_copied current.entry) empty }
+    ensures { let asks = option_copied asked.entry in
+        result ≡ by_right operation writer asks (option_copied current.entry) empty }
 {
     if lacks_right(operation, writer) {
         Action::Refused(401)
@@ -251,7 +253,8 @@ pub fn action_by_operation(
     current: Option<&[u8]>,
     empty: bool,
 ) -> Action
-    ensures { result ≡ by_operation operation old_lock writer (option_copied asked.entry) (option_copied current.entry) empty }
+    ensures { let asks = option_copied asked.entry in
+        result ≡ by_operation operation old_lock writer asks (option_copied current.entry) empty }
 {
     match operation {
         None => Action::Refused(501),
