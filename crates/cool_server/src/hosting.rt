@@ -1,9 +1,10 @@
-// The program `host`.
+// The command `host`.
 ghost use Rattle.std.specs.Prelude.{◌≡◌, true, map, string_bytes};
 ghost use Rattle.outside.specs.Causes.{HasCause};
 ghost use Rattle.edge.specs.Edges.{edge_failed};
 ghost use Rattle.server_words.specs.Hosts.{said_of};
-ghost use Rattle.cool_server.specs.Hosting.{HostServes, ServesSaid, ServesNext, ServesWires, fault_status, hosting};
+ghost use Rattle.cool_server.specs.Hosting.{HostServes, ServesSaid, ServesNext, ServesWires};
+ghost use Rattle.cool_server.specs.Hosting.{fault_status, hosting};
 
 use crate::statuses::{DONE, EDGE_FAULT, NO_MEMORY, WRONG_WORDS};
 use crate::wires::serve_wire;
@@ -22,8 +23,7 @@ fn serve_next<E: Edge>(
     clock: &mut E::Clock,
     port: u16,
 ) -> Result<(), EdgeFault>
-    ensures served {
-        let before = hosting E.Keeper.files E.Keeper.faults E.Clock.moments host.old clock.old in
+    ensures served { let before = hosting E.Keeper.files E.Keeper.faults E.Clock.moments host.old clock.old in
         let after = hosting E.Keeper.files E.Keeper.faults E.Clock.moments host.new clock.new in
         ServesNext (E.told edge.old) before result (E.told edge.new) after }
     ensures cause { HasCause (E.faults edge.old) (E.faults edge.new) (edge_failed result ≡ true) }
@@ -50,7 +50,7 @@ fn status_of(fault: EdgeFault) -> u8
     }
 }
 
-// Serves so many wires; 0 is without end.
+// Serves so many wires, or wires without end where `requests` is 0.
 fn serve_wires<R: Wait, E: Edge>(
     rt: &R,
     alloc: Global,
@@ -60,8 +60,7 @@ fn serve_wires<R: Wait, E: Edge>(
     port: u16,
     requests: u64,
 ) -> u8
-    ensures served {
-        let before = hosting E.Keeper.files E.Keeper.faults E.Clock.moments host.old clock.old in
+    ensures served { let before = hosting E.Keeper.files E.Keeper.faults E.Clock.moments host.old clock.old in
         let after = hosting E.Keeper.files E.Keeper.faults E.Clock.moments host.new clock.new in
         ServesWires requests (E.told edge.old) before result (E.told edge.new) after }
     ensures cause { HasCause (E.faults edge.old) (E.faults edge.new) (result ≡ 8) }
@@ -108,9 +107,13 @@ fn serve_words<R: Wait, E: Edge>(rt: &R, alloc: Global, words: &HostWords<'_>, e
     status
 }
 
-/// Serves the WOPI host, one wire and one request after the other.
+/// Serves the host of files by the words of the command `host`, without the program's name: one
+/// wire and one request after the other, over whatever the edge is. What it answers is the exit
+/// status: 0 after as many wires as `--requests` wants, 2 where the words are refused, 6 where
+/// memory ran out, 8 where the edge failed. It may wait for a wire without end.
 pub fn host_serve<R: Wait, E: Edge>(rt: &R, alloc: Global, words: &[String], edge: &mut E) -> u8
-    ensures served { HostServes (map string_bytes words.now) (E.told edge.old) result (E.told edge.new) }
+    ensures served { let said = map string_bytes words.now in
+        HostServes said (E.told edge.old) result (E.told edge.new) }
     ensures cause { HasCause (E.faults edge.old) (E.faults edge.new) (result ≡ 8) }
 {
     match host_words(alloc, words) {

@@ -9,8 +9,7 @@ pub first_word : {A : Type 0} (f : A → List ℕ) (words : List A) (word : A) (
     → text ≡ f word → told ≡ bytes_eq text (codes "host") → IsTrue told ↔ IsHost (map f words)
 first_word f [] word text told some at is compared = absurd (omega (arith, some))
 first_word f (first ∷ rest) word text told some at is compared =
-    let e : word ≡ first = at in
-    (
+    let e : word ≡ first = at in (
       λ yes. ap f (sym e) ∙ sym is ∙ (bytes_eq-Decides text (codes "host")).0 (sym compared ∙ yes),
       λ host. compared ∙ (bytes_eq-Decides text (codes "host")).1 (is ∙ ap f e ∙ host),
     )

@@ -1,4 +1,4 @@
-//! The program `host`.
+//! The command `host`.
 ghost use Rattle.std.specs.Prelude.{◌≡◌, ◌↔◌, IsTrue, map, string_bytes};
 ghost use Rattle.outside.specs.Causes.{HasCause};
 ghost use Rattle.cool_server.specs.Hosting.{HostServes};
@@ -22,8 +22,8 @@ pub fn is_host(words: &[String]) -> bool
     }
 }
 
-/// Serves the WOPI host by the words of the command line, and tells `errors` why they are refused. What it
-/// answers is the exit status.
+/// Serves the host of files by the words of the command line, and tells `errors` why they are
+/// refused. What it answers is the exit status.
 pub fn host_program<R: Wait, E: Edge, T: Sink>(
     rt: &R,
     alloc: Global,
@@ -31,7 +31,8 @@ pub fn host_program<R: Wait, E: Edge, T: Sink>(
     edge: &mut E,
     errors: &mut T,
 ) -> u8
-    ensures served { HostServes (map string_bytes words.now) (E.told edge.old) result (E.told edge.new) }
+    ensures served { let said = map string_bytes words.now in
+        HostServes said (E.told edge.old) result (E.told edge.new) }
     ensures cause { HasCause (E.faults edge.old) (E.faults edge.new) (result ≡ 8) }
 
     // Nothing is told but where the status is 2.
@@ -44,7 +45,8 @@ pub fn host_program<R: Wait, E: Edge, T: Sink>(
     status
 }
 
-// Writes the text of a refusal; where there is no memory for it, or the sink fails, there is nobody to be told.
+// Writes the text of a refusal; where there is no memory for it, or the sink fails, there is nobody
+// to be told.
 fn tell_refusal<T: Sink>(alloc: Global, words: &[String], errors: &mut T) {
     if let Ok(text) = refusal_text(alloc, words) {
         let _told = write_whole(errors, text.as_bytes());

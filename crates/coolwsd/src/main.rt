@@ -1,6 +1,7 @@
-//! The daemon's program. `coolwsd replay patch` and `coolwsd replay sheet` read a script from standard input,
-//! play it on a patch document or a sheet, and write the transcript to standard output. The exit status says how
-//! the script ended. `coolwsd host` serves a WOPI host over a folder. For other words a line on standard error says how the program is called.
+//! The daemon's program. `coolwsd replay patch` and `coolwsd replay sheet` read a script from
+//! standard input, play it on a patch document or a sheet, and write the transcript to standard
+//! output; the exit status says how the script ended. `coolwsd host` serves a host of files over a
+//! folder and sockets. For other words a line on standard error says how the program is called.
 #![tactic(auto)]
 
 mod hosts;

@@ -45,7 +45,8 @@ impl<'a, R> RealEdge<'a, R> {
     }
 }
 
-// The next wire of the listener. A stream that is lost before it is a wire is left for the next one.
+// The next wire of the listener. A stream that is lost before it is a wire is left for the next
+// one.
 fn next_wire<'a, R: Clock>(rt: &'a R, listener: &TcpListener) -> io::Result<TimedWire<'a, R>>
     ensures { IfOk result (λ wire. wire.faults ≡ 0) }
 {
@@ -80,7 +81,9 @@ where
     // Listens, where it doesn't yet, and accepts.
     fn listen_and_accept(&mut self, port: u16) -> io::Result<TimedWire<'a, R>>
         ensures sound { IfOk result (λ wire. wire.faults ≡ 0) }
-        ensures stays { (self.new.wires ≡ self.old.wires) × (self.new.keepers ≡ self.old.keepers) × (self.new.faults ≡ self.old.faults) }
+        ensures wires { self.new.wires ≡ self.old.wires }
+        ensures keepers { self.new.keepers ≡ self.old.keepers }
+        ensures faults { self.new.faults ≡ self.old.faults }
     {
         if self.listener.is_none() {
             self.listener = Some(TcpListener::bind(self.rt, ("127.0.0.1", port))?);

@@ -2,7 +2,7 @@
 //!
 //! - `RealEdge` (`edges`): the edge.
 //! - `MachineClock` (`clocks`): the machine's clock, and a gate that does nothing.
-//! - `NoNet`, `NoStore` (`none`): in the place of nets and stores, which this edge doesn't give yet.
+//! - `NoNet`, `NoStore` (`none`): in the place of nets and stores, which this edge doesn't give.
 #![tactic(auto)]
 
 mod clocks;
