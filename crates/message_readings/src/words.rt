@@ -3,7 +3,7 @@ use anyhow::Result;
 use cool_base::{FileId, Memory, Token, read_u31, read_u64};
 use cool_words::{
     count_named, count_parts, first_value, is_command, is_list_31, is_list_64, list_31, list_64,
-    name_and_value, percent_decoded, push_list_31, push_list_64, words,
+    name_and_value, percent_decoded, push_list_31, push_list_64, split_once, words,
 };
 
 /// Prints the number that the text is, in both sizes.
