@@ -12,7 +12,7 @@ use Rattle.tile_key.specs.Places.{Place, IsGroup, place_of_keys}
 use Rattle.document_machine.specs.Due.{parts_of, size_of, is_due, has_room, is_out, is_current, is_not_back, keys, version_of, sent, takes, tile_frame}
 use Rattle.document_machine.specs.Event.{Event, Joined, Left, Said, Turned, Painted}
 use Rattle.document_machine.specs.Message.{effect, heard, reply}
-use Rattle.document_machine.specs.Next.{Work, Apply, Send, Cut, Rest}
+use Rattle.document_machine.specs.Next.{Work, Apply, Send, Cut, Rest, none_kept, pick}
 use Rattle.document_machine.specs.Outputs.{named, nothing, frames_only, one_frame, outs_of}
 use Rattle.document_machine.specs.State.{View, Job, Document, opening_view, find_view, with_view, without_view, find_job, without_job}
 use Rattle.document_machine.specs.declared.limits.TheConstants.{MOST_JOBS, MOST_VIEWS}
@@ -184,3 +184,10 @@ abbrev pub Goes : {C B S : Type 0} → Rules C B → (C → Place → S) → Opt
 Goes rules cut (Some old) event outs (Some new) = Step rules cut old event outs new
 Goes rules cut (Some old) event outs None = ⊥
 Goes rules cut None event outs new = ⊥
+
+-- a turn that did the one work that is picked, of a broker that can be spent and keeps no tiles: only a
+-- broker that isn't makes one, and it isn't spent after it
+abbrev pub Did : {C B S : Type 0} → Rules C B → (C → Place → S) → Option (Document S) → TurnAnswer S → Option (Document S) → Type 0
+Did rules cut (Some old) turned (Some new) = Does rules cut old (pick rules none_kept old) turned new
+Did rules cut (Some old) turned None = ⊥
+Did rules cut None turned new = ⊥
