@@ -5,7 +5,7 @@
 //! - `Memory` (`want`): no memory was left.
 //! - `ListOf`, `TextOf` (`lists`): a `Vec` and a `String` that contracts see as plain lists.
 //! - `DocId`, `ViewId`, `LinkId`, `Wid`, `Ticket`, `Wids` (`ids`).
-//! - `Rect`, `Size`, `meets`, `intersection` (`points`): rectangles as sets of points.
+//! - `Rect`, `Size`, `meets`, `cut` (`points`): rectangles as sets of points.
 //! - `read_u31`, `read_u64` (`numbers`): decimal numbers.
 //! - `FileId` (`files`), `Token` (`tokens`): text whose type keeps its form.
 #![tactic(auto)]
@@ -22,6 +22,6 @@ pub use files::FileId;
 pub use ids::{DocId, LinkId, Ticket, ViewId, Wid, Wids};
 pub use lists::{ListOf, TextOf};
 pub use numbers::{read_number, read_u31, read_u64, written_numbers_are_read};
-pub use points::{Rect, Size, intersection, meets};
+pub use points::{Rect, Size, cut, meets};
 pub use tokens::Token;
 pub use want::Memory;

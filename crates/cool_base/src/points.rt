@@ -57,7 +57,7 @@ pub fn meets(a: &Rect, b: &Rect) -> bool
 }
 
 /// The common points of the two rectangles, all zero where there is none.
-pub fn intersection(a: &Rect, b: &Rect) -> Rect
+pub fn cut(a: &Rect, b: &Rect) -> Rect
     ensures points { (px py : ℕ) → has_point result px py ≡ (has_point a.now px py && has_point b.now px py) }
     ensures none { ¬ Meet a.now b.now → result ≡ nowhere }
     ensures corners { result ≡ intersection_of a.now b.now }

@@ -1,6 +1,6 @@
 //! Zooms, visible keys and rectangles.
 use anyhow::Result;
-use cool_base::{Rect, Size, intersection, meets};
+use cool_base::{Rect, Size, cut, meets};
 use tile_key::{VisibleFault, Zoom, sees_too_many, visible};
 
 /// Prints the zoom of the five numbers.
@@ -89,7 +89,7 @@ pub fn show_rects(rt: &HostRuntime, numbers: &[u32]) -> Result<()> {
         return Ok(());
     };
     let meet = meets(&a, &b);
-    let common = intersection(&a, &b);
+    let common = cut(&a, &b);
     println!(rt; "  {meet} {common:?}")?;
     Ok(())
 }

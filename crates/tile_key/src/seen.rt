@@ -6,7 +6,7 @@ ghost use Rattle.cool_base.specs.Points.{intersection_of};
 
 use crate::keys::TileKey;
 use crate::zooms::Zoom;
-use cool_base::{Memory, Rect, Size, intersection};
+use cool_base::{Memory, Rect, Size, cut};
 use std::alloc::{AllocError, AllocFailed, Global};
 use thiserror::Error;
 
@@ -86,7 +86,7 @@ fn grid_of(zoom: &Zoom, area: &Rect, size: &Size) -> Grid
         w: size.w,
         h: size.h,
     };
-    let seen = intersection(area, &part);
+    let seen = cut(area, &part);
     let across = zoom.twip_w();
     let down = zoom.twip_h();
     let first = seen.x / across;
