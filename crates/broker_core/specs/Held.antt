@@ -8,7 +8,7 @@ use Rattle.tile_key.specs.Visible.{visible_keys}
 use Rattle.document_machine.specs.Due.{parts_of, size_of, touched}
 use Rattle.document_machine.specs.Keys.{Pairwise}
 use Rattle.document_machine.specs.State.{View, Shown, Job, Document}
-use Rattle.broker_core.specs.declared.joining.TheConstants.{MOST_VIEWS}
+use Rattle.document_machine.specs.declared.limits.TheConstants.{MOST_VIEWS}
 use Rattle.view_session.specs.Keeps.{IsViewing}
 use Rattle.view_session.specs.Viewing.{Viewing, Entry}
 

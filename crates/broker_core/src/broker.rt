@@ -10,10 +10,9 @@ ghost use Rattle.broker_core.specs.Held.{IsFull};
 
 use crate::core_of::Core;
 use crate::faults::JoinFault;
-use crate::joining::MOST_VIEWS;
 use bytes::Bytes;
 use cool_base::{FileId, Memory, ViewId};
-use document_machine::{Outs, Rights};
+use document_machine::{MOST_VIEWS, Outs, Rights};
 use kit_trait::{Kit, LoadFault};
 use std::alloc::Global;
 use std::marker::Model;
@@ -47,15 +46,15 @@ impl<K: Kit> Broker<K> {
 
     /// What holds of every document that is not spent.
     pub fn kept(&self)
-        ensures { ForSome self.now (IsKept K.rules) }
+        ensures { ForSome self.now (IsKept K.rules K.cut) }
     {
         if let Some(core) = &self.core {
             core.kept();
         }
     }
 
-    /// A view joins, with the next id, and gets its status. ViewsFull exactly where 64 views are there,
-    /// which is judged before any memory is taken, and then nothing changed; after `Memory` the broker is
+    /// A view joins, with the next id, and gets its status. ViewsFull exactly where `MOST_VIEWS`
+    /// views are there, which is judged before any memory is taken, and then nothing changed; after `Memory` the broker is
     /// spent.
     #[tactic(auto, using(crate::proofs::Comings::full_by, crate::proofs::Comings::not_full_by, crate::proofs::Comings::spent_not_full))]
     pub fn join(&mut self, rights: Rights) -> Result<(ViewId, Outs<K::Scene>), JoinFault>

@@ -10,13 +10,10 @@ use crate::faults::JoinFault;
 use crate::seats::{Seat, seat_at};
 use cool_base::{ListOf, Memory, ViewId};
 use cool_frame::Frame;
-use document_machine::{Outs, Rights};
+use document_machine::{MOST_VIEWS, Outs, Rights};
 use kit_trait::Kit;
 use std::alloc::Global;
 use view_session::View;
-
-/// The most views of a document.
-pub const MOST_VIEWS: usize = 64;
 
 /// One frame.
 pub(crate) fn one_frame(alloc: Global, id: u32, frame: Frame) -> Result<Frames, Memory>
@@ -61,7 +58,7 @@ impl<K: Kit> Core<K> {
 
     /// The document gets one more view, with the next id, and the view its status.
     pub(crate) fn join(self, rights: Rights) -> Result<(Core<K>, ViewId, Outs<K::Scene>), Memory>
-        requires { length self.views < 64 }
+        requires { length self.views < MOST_VIEWS }
         ensures step { IfOk result (λ r. Joins K.rules self rights r.2 r.0) }
         ensures view { IfOk result (λ r. r.1.0 ≡ self.next_view) }
     {

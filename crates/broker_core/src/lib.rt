@@ -6,9 +6,9 @@
 //! and no time. After `Memory` from one of its calls a broker is spent: it answers `Memory` from then on.
 #![tactic(auto)]
 
-mod answering;
 mod applying;
 mod broker;
+mod broker_work;
 mod core_of;
 mod cutting;
 mod faults;
@@ -21,6 +21,5 @@ mod seats;
 mod turning;
 
 pub use broker::Broker;
-pub use document_machine::{Outs, Rights, Turned};
+pub use document_machine::{MOST_VIEWS, Outs, Rights, Turned};
 pub use faults::JoinFault;
-pub use joining::MOST_VIEWS;

@@ -1,5 +1,5 @@
 -- What acknowledging changes.
-use Rattle.std.proofs.Common.{◌≡◌, ◌≢◌, ℕ, ◌+◌, ◌-◌, ◌*◌, ◌^◌, ◌<◌, ◌≤◌, Bool, true, false, not, cond, nat_eq, List, [], ◌∷◌, length, Some, Ok, refl, ap, sym, subst, ◌∙◌, arith, inl, inr}
+use Rattle.std.proofs.Common.{◌≡◌, ◌≢◌, ℕ, ◌+◌, ◌-◌, ◌*◌, ◌^◌, ◌<◌, ◌≤◌, Bool, true, false, not, cond, nat_eq, List, [], ◌∷◌, length, append-nil, Some, Ok, refl, ap, sym, subst, ◌∙◌, arith, inl, inr}
 use Rattle.std.proofs.lemmas.List.{length-map}
 use Rattle.std.specs.List.{list_any, sum_by, AllByRecursion}
 use Rattle.std.proofs.lemmas.Bool.{cases_Bool, eqb-true}
@@ -8,19 +8,23 @@ use Rattle.cool_message.specs.Reading.{reading}
 use Rattle.cool_message.specs.Writing.{written}
 use Rattle.cool_message.specs.declared.message.ClientMessage.TheVariants.{TileProcessed}
 use Rattle.kit_trait.specs.Rules.{Rules}
-use Rattle.document_machine.proofs.Lists.{all_gone, filter_le}
-use Rattle.document_machine.specs.Due.{keys, parts_of, size_of}
+use Rattle.document_machine.proofs.Lists.{all_gone}
+use Rattle.send_window.proofs.Closing.{filter_le}
+use Rattle.tile_key.specs.Places.{Place}
+use Rattle.document_machine.specs.Due.{keys}
 use Rattle.document_machine.specs.Kept.{IsKept, IsViewKept}
-use Rattle.document_machine.specs.Message.{Acknowledges, acknowledged, effect, reading_effect, reply, took}
+use Rattle.document_machine.specs.Message.{acknowledged, becomes, effect, heard, limits_of, reading_effect, reply}
 use Rattle.document_machine.specs.Outputs.{nothing}
 use Rattle.document_machine.specs.Rank.{left_to_do, still_to_come, unacknowledged}
-use Rattle.document_machine.specs.State.{Sent, View, Document, find_view, with_view}
+use Rattle.document_machine.specs.State.{View, Document, find_view, with_view}
+use Rattle.send_window.specs.Tiles.{Sent}
 use Rattle.document_machine.specs.Step.{Says}
 use Rattle.document_machine.specs.declared.outs.Outs.{Outs}
 use Rattle.message_laws.proofs.BoundLemmas.{text_again}
 use Rattle.message_laws.specs.Bounds.{IsListLength}
-use Rattle.document_laws.specs.AtOnce.{numbers, IsAcknowledged}
+use Rattle.document_laws.specs.AtOnce.{acknowledges, numbers, IsAcknowledged}
 use Rattle.document_laws.proofs.Fewer.{due_of}
+use Rattle.document_laws.proofs.Heard.{changed_same}
 use Rattle.document_laws.proofs.Lower.{sum_with, found_view}
 
 -- a view whose numbers are all acknowledged
@@ -84,14 +88,14 @@ list_length n low high = (low, omega arith)
 
 module _ {C B S : Type 0} (rules : Rules C B) (d : Document S) where
   -- acknowledging leaves the other things to do
-  pub same_to_come : (id : ℕ) (wids : List ℕ) → still_to_come rules (took rules d id (Acknowledges wids)) ≡ still_to_come rules d
+  pub same_to_come : (id : ℕ) (wids : List ℕ) → still_to_come rules (acknowledges d id wids) ≡ still_to_come rules d
   same_to_come id wids =
       let p : sum_by (λ view. length (keys rules d view)) (with_view d.views id (acknowledged wids)) ≡ sum_by (λ view. length (keys rules d view)) d.views = sum_same (λ view. length (keys rules d view)) d.views id (acknowledged wids) (λ v. refl) in
       let q : sum_by (due_of rules d) (with_view d.views id (acknowledged wids)) ≡ sum_by (due_of rules d) d.views = sum_same (due_of rules d) d.views id (acknowledged wids) (λ v. refl) in
       ap (λ n. (length d.journal - d.applied) * (2 * n + 1) + 2 * sum_by (due_of rules d) (with_view d.views id (acknowledged wids))) p
       ∙ ap (λ n. (length d.journal - d.applied) * (2 * sum_by (λ view. length (keys rules d view)) d.views + 1) + 2 * n) q
 
-  pub acknowledged_lowers : (id : ℕ) (view : View) → find_view d.views id ≡ Some view → view.window ≢ [] → (find_view (took rules d id (Acknowledges (numbers view))).views id ≡ Some (record view { window = [] })) × (left_to_do rules (took rules d id (Acknowledges (numbers view))) < left_to_do rules d)
+  pub acknowledged_lowers : (id : ℕ) (view : View) → find_view d.views id ≡ Some view → view.window ≢ [] → (find_view (acknowledges d id (numbers view)).views id ≡ Some (record view { window = [] })) × (left_to_do rules (acknowledges d id (numbers view)) < left_to_do rules d)
   acknowledged_lowers id view live some =
       let there : 1 ≤ length view.window = some_tile view.window some in
       let empty : acknowledged (numbers view) view ≡ record view { window = [] } = all_acknowledged view in
@@ -101,23 +105,29 @@ module _ {C B S : Type 0} (rules : Rules C B) (d : Document S) where
       (found_with d.views id (acknowledged (numbers view)) view (λ v. refl) live ∙ ap Some empty, omega (arith, there, gone, sum, rest))
 
   -- whatever is acknowledged, no more is left to do
-  pub acknowledging_adds_nothing : (id : ℕ) (wids : List ℕ) → left_to_do rules (took rules d id (Acknowledges wids)) ≤ left_to_do rules d
+  pub acknowledging_adds_nothing : (id : ℕ) (wids : List ℕ) → left_to_do rules (acknowledges d id wids) ≤ left_to_do rules d
   acknowledging_adds_nothing id wids =
-      let fewer : unacknowledged (took rules d id (Acknowledges wids)) ≤ unacknowledged d =
+      let fewer : unacknowledged (acknowledges d id wids) ≤ unacknowledged d =
       sum_with_le (λ v. length v.window) d.views id (acknowledged wids) (λ v. filter_le (λ tile. not (list_any (λ wid. nat_eq wid tile.wid) wids)) v.window) in
       omega (arith, same_to_come id wids, fewer)
 
-  pub others_stay : (id other : ℕ) (wids : List ℕ) → other ≢ id → find_view (took rules d id (Acknowledges wids)).views other ≡ find_view d.views other
+  pub others_stay : (id other : ℕ) (wids : List ℕ) → other ≢ id → find_view (acknowledges d id wids).views other ≡ find_view d.views other
   others_stay id other wids apart = found_other d.views id other (acknowledged wids) (λ v. refl) apart
 
-  effect_is : (view : View) (wids text : List ℕ) → reading text ≡ Ok (TileProcessed wids) → effect rules d view text ≡ Acknowledges wids
-  effect_is view wids text read = ap (reading_effect (length d.journal) (parts_of rules d.base) (size_of rules d.base) view text) read
+  effect_is : (view : View) (wids text : List ℕ) → reading text ≡ Ok (TileProcessed wids) → effect rules d view text ≡ becomes (acknowledged wids view)
+  effect_is view wids text read = ap (reading_effect (limits_of rules d) view text) read
+
+  -- the document after it
+  acknowledged_is : (id : ℕ) (view : View) (wids : List ℕ) → find_view d.views id ≡ Some view → heard d id (becomes (acknowledged wids view)) ≡ acknowledges d id wids
+  acknowledged_is id view wids live =
+      ap (λ journal. record d { journal = journal; views = with_view d.views id (λ _. acknowledged wids view) }) (append-nil d.journal)
+      ∙ ap (λ views. record d { views = views }) (changed_same d.views id (λ _. acknowledged wids view) (acknowledged wids) view live refl)
 
   -- the text of such a message
-  pub said_acknowledges : (id : ℕ) (wids text : List ℕ) (outs : Outs S) (new : Document S) → reading text ≡ Ok (TileProcessed wids) → Says rules d id text outs new → (outs ≡ nothing) × (new ≡ took rules d id (Acknowledges wids))
+  pub said_acknowledges : (id : ℕ) (wids text : List ℕ) (outs : Outs S) (new : Document S) → reading text ≡ Ok (TileProcessed wids) → Says rules d id text outs new → (outs ≡ nothing) × (new ≡ acknowledges d id wids)
   said_acknowledges id wids text outs new read says =
       let e = effect_is says.view wids text read in
-      (says.outs_are ∙ ap (reply id) e, says.new_is ∙ ap (took rules d id) e)
+      (says.outs_are ∙ ap (reply id) e, says.new_is ∙ ap (heard d id) e ∙ acknowledged_is id says.view wids says.live)
 
   pub said_lowers : (id : ℕ) (view : View) (text : List ℕ) (outs : Outs S) (new : Document S) → find_view d.views id ≡ Some view → view.window ≢ [] → reading text ≡ Ok (TileProcessed (numbers view)) → Says rules d id text outs new → IsAcknowledged rules d id view outs new
   said_lowers id view text outs new live some read says =
@@ -139,7 +149,7 @@ module _ {C B S : Type 0} (rules : Rules C B) (d : Document S) where
       let there : 1 ≤ length view.window = some_tile view.window some in
       text_again (TileProcessed (numbers view)) (small, list_length (length (numbers view)) (omega arith) (omega arith))
 
-  pub written_lowers : (id : ℕ) (view : View) (outs : Outs S) (new : Document S) → IsKept rules d → find_view d.views id ≡ Some view → view.window ≢ [] → AllByRecursion (λ n. n < 2 ^ 64) (numbers view) → Says rules d id (written (TileProcessed (numbers view))) outs new → IsAcknowledged rules d id view outs new
+  pub written_lowers : {cut : C → Place → S} (id : ℕ) (view : View) (outs : Outs S) (new : Document S) → IsKept rules cut d → find_view d.views id ≡ Some view → view.window ≢ [] → AllByRecursion (λ n. n < 2 ^ 64) (numbers view) → Says rules d id (written (TileProcessed (numbers view))) outs new → IsAcknowledged rules d id view outs new
   written_lowers id view outs new kept live some small says =
       let of_view : IsViewKept rules d view = found_view (IsViewKept rules d) d.views id view kept.each live in
       said_lowers id view (written (TileProcessed (numbers view))) outs new live some (written_read view some of_view.window_few small) says

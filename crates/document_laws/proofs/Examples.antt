@@ -10,14 +10,15 @@ use Rattle.cool_message.specs.declared.message.KeyKind.TheVariants.{Input as Dow
 use Rattle.tile_key.specs.declared.keys.TileWords.{TileWords}
 use Rattle.kit_trait.specs.Patch.{patch_rules}
 use Rattle.kit_trait.specs.declared.values.Input.{Input}
-use Rattle.kit_trait.specs.declared.values.What.TheVariants.{Mouse as Pressed}
+use Rattle.kit_trait.specs.declared.values.What.TheVariants.{Key as Typed, Mouse as Pressed}
 use Rattle.tile_key.specs.Places.{Scale, key_order, tile_at}
 use Rattle.tile_key.specs.Visible.{visible_keys, rows_of, row_of, is_too_large}
 use Rattle.tile_key.proofs.GridFacts.{rows_length}
 use Rattle.document_machine.specs.Due.{touched, is_newer, with_version}
 use Rattle.document_machine.specs.Keys.{ordered}
-use Rattle.document_machine.specs.Message.{Effect, Refuses, Asks, Looks, Zooms, GoesTo, Acknowledges, Passes, acknowledged, asked_with_all, message_effect}
-use Rattle.document_machine.specs.State.{View, first_zoom, no_area}
+use Rattle.document_machine.specs.Message.{Effect, acknowledged, asked_with_all, becomes, enters, forgets, message_effect, refuses}
+use Rattle.document_machine.specs.Next.{Apply, Cut, Rest, Send, none_kept, pick}
+use Rattle.document_machine.specs.State.{View, Document, first_zoom, no_area, opening}
 
 -- tiles of 8 by 8 pixels, for 240 by 240 and for 480 by 480 twips, in a part of 3,840 by 3,840 twips
 small : Scale
@@ -189,65 +190,69 @@ taken_out = refl
 
 -- what messages do to it in a document of one part without inputs
 does : Bool → ClientMessage → Effect
-does can_write message = message_effect 0 1 (λ part. patch) (looker can_write) message
+does can_write message = message_effect (record { inputs = 0; parts = 1; sizes = λ part. patch }) (looker can_write) message
 
 tile_words : ℕ → ℕ → TileWords
 tile_words part x = record { part = part; width = 8; height = 8; tileposx = x; tileposy = 0; tilewidth = 240; tileheight = 240; nviewid = 0 }
 
-processed : does true (TileProcessed (99 ∷ (1 ∷ (1 ∷ [])))) ≡ Acknowledges (99 ∷ (1 ∷ (1 ∷ [])))
+processed : does true (TileProcessed (99 ∷ (1 ∷ (1 ∷ [])))) ≡ becomes (acknowledged (99 ∷ (1 ∷ (1 ∷ []))) (looker true))
 unfolding does looker
 processed = refl
 
-read_alone : does false (Key Down 65 0) ≡ Refuses (codes "key") ReadOnly
+read_alone : does false (Key Down 65 0) ≡ refuses (looker false) (codes "key") ReadOnly
 unfolding does looker
 read_alone = refl
 
-let_go : does false (Key Up 65 0) ≡ Passes
+typed_in : does true (Key Down 65 0) ≡ enters (looker true) (record { view = record { 0 = 3 }; part = 0; what = Typed 65 0 })
+unfolding does looker
+typed_in = refl
+
+let_go : does false (Key Up 65 0) ≡ becomes (looker false)
 unfolding does looker
 let_go = refl
 
-loaded_already : does true (Load (codes "x")) ≡ Refuses (codes "load") AlreadyLoaded
+loaded_already : does true (Load (codes "x")) ≡ refuses (looker true) (codes "load") AlreadyLoaded
 unfolding does looker
 loaded_already = refl
 
-no_multiple : does true (Tile (tile_words 0 7)) ≡ Refuses (codes "tile") BadTile
+no_multiple : does true (Tile (tile_words 0 7)) ≡ refuses (looker true) (codes "tile") BadTile
 unfolding does looker tile_words
 no_multiple = refl
 
-no_part : does true (Tile (tile_words 1 0)) ≡ Refuses (codes "tile") BadTile
+no_part : does true (Tile (tile_words 1 0)) ≡ refuses (looker true) (codes "tile") BadTile
 unfolding does looker tile_words
 no_part = refl
 
-asked_for : does true (Tile (tile_words 0 240)) ≡ Asks (tile_at 0 small 240 0 ∷ [])
+asked_for : does true (Tile (tile_words 0 240)) ≡ becomes (record (looker true) { asked = tile_at 0 small 240 0 ∷ [] })
 unfolding does looker tile_words small
 asked_for = refl
 
-other_part : does true (SetPart 1) ≡ Refuses (codes "setclientpart") BadTile
+other_part : does true (SetPart 1) ≡ refuses (looker true) (codes "setclientpart") BadTile
 unfolding does looker
 other_part = refl
 
-own_part : does true (SetPart 0) ≡ GoesTo 0
+own_part : does true (SetPart 0) ≡ becomes (looker true)
 unfolding does looker visible_keys rows_of row_of small patch area
 own_part = refl
 
-no_zoom : does true (Zoom 8 8 14 240 0) ≡ Refuses (codes "clientzoom") BadTile
+no_zoom : does true (Zoom 8 8 14 240 0) ≡ refuses (looker true) (codes "clientzoom") BadTile
 unfolding does looker
 no_zoom = refl
 
-other_zoom : does true (Zoom 8 8 480 480 0) ≡ Zooms wide
+other_zoom : does true (Zoom 8 8 480 480 0) ≡ becomes (record (looker true) { zoom = wide })
 unfolding does looker visible_keys rows_of row_of wide patch area
 other_zoom = refl
 
 -- the other look is another zoom; a number that names none makes none
-other_look : does true (Zoom 8 8 240 240 1) ≡ Zooms plain
+other_look : does true (Zoom 8 8 240 240 1) ≡ becomes (record (looker true) { zoom = plain })
 unfolding does looker visible_keys rows_of row_of small plain patch area
 other_look = refl
 
-no_look : does true (Zoom 8 8 240 240 2) ≡ Refuses (codes "clientzoom") BadTile
+no_look : does true (Zoom 8 8 240 240 2) ≡ refuses (looker true) (codes "clientzoom") BadTile
 unfolding does looker
 no_look = refl
 
-other_area : does true (VisibleArea (area 3120 1200)) ≡ Looks (area 3120 1200)
+other_area : does true (VisibleArea (area 3120 1200)) ≡ becomes (record (looker true) { area = area 3120 1200 })
 unfolding does looker visible_keys rows_of row_of small patch area
 other_area = refl
 
@@ -255,9 +260,10 @@ other_area = refl
 sees_all : View
 sees_all = record (looker true) { area = area 3840 3840 }
 
-too_large_zoom : message_effect 0 1 (λ part. patch) sees_all (Zoom 1 1 15 15 0) ≡ Refuses (codes "clientzoom") TooLarge
+too_large_zoom : message_effect (record { inputs = 0; parts = 1; sizes = λ part. patch }) sees_all (Zoom 1 1 15 15 0) ≡ refuses sees_all (codes "clientzoom") TooLarge
 unfolding sees_all looker tiny
-too_large_zoom = ap (λ n. cond (is_too_large tiny n) (Refuses (codes "clientzoom") TooLarge) (Zooms tiny)) too_many
+too_large_zoom =
+    ap (λ n. cond (is_too_large tiny n) (refuses sees_all (codes "clientzoom") TooLarge) (becomes (forgets (λ part. patch) (record sees_all { zoom = tiny })))) too_many
 
 -- a click at 10, 10 damages the first square of a patch document: a tile of it is touched, in each zoom, and
 -- the tile beside it isn't; a tile that was painted after the click isn't touched by it
@@ -287,3 +293,27 @@ hurt_before = refl
 hurt_later : touched patch_rules [] click 0 (tile_at 0 small 0 0) 0 ≡ false
 unfolding click small
 hurt_later = refl
+
+-- what a turn does next: an input that isn't applied goes first, then what is kept of a key is sent, a job is
+-- cut where nothing is, and there is nothing to do where no view is due a key
+asking : View
+asking = record (looker true) { asked = tile_at 0 small 240 0 ∷ []; area = no_area }
+
+one_view : List Input → View → Document ℕ
+one_view journal view = record (opening (codes "f") []) { journal = journal; views = view ∷ []; next_view = 4 }
+
+applies_first : pick patch_rules none_kept (one_view click asking) ≡ Apply
+unfolding one_view click
+applies_first = refl
+
+cuts_then : pick patch_rules none_kept (one_view [] asking) ≡ Cut 3 (tile_at 0 small 240 0)
+unfolding one_view asking looker small visible_keys rows_of row_of
+cuts_then = refl
+
+sends_kept : pick patch_rules (λ key. Some 0) (one_view [] asking) ≡ Send 3 (tile_at 0 small 240 0) 0
+unfolding one_view asking looker small visible_keys rows_of row_of
+sends_kept = refl
+
+rests_last : pick patch_rules none_kept (one_view [] (record asking { asked = [] })) ≡ Rest
+unfolding one_view asking looker small visible_keys rows_of row_of
+rests_last = refl

@@ -137,7 +137,7 @@ module _ {C B S : Type 0} (rules : Rules C B) (d : Document S) where
     versions = kept.versions;
   }
 
-  pub all_ready : IsKept rules d → AllByRecursion (IsReady rules d) d.views
+  pub all_ready : {cut : C → Place → S} → IsKept rules cut d → AllByRecursion (IsReady rules d) d.views
   all_ready kept = weaker (IsViewKept rules d) (IsReady rules d) d.views (λ view is. ready_by view is) kept.each
 
   pub ready_sent : (version : ℕ) (key : Place) (view : View) → version ≤ d.applied → IsReady rules d view → IsReady rules d (sent rules d version key view)

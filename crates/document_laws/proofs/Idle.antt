@@ -10,6 +10,7 @@ use Rattle.document_machine.specs.Due.{has_room, is_due, is_out, keys}
 use Rattle.document_machine.specs.Next.{none_kept, can_serve, next_key, next_among, next_pair, or_later}
 use Rattle.document_machine.specs.State.{View, Job, Document}
 use Rattle.document_machine.specs.Step.{IsServed, Rests}
+use Rattle.document_machine.specs.declared.limits.TheConstants.{MOST_JOBS}
 use Rattle.document_laws.proofs.Ordered.{weaker}
 
 -- nothing is found exactly where all fail the test
@@ -44,23 +45,23 @@ each P [] f = tt
 each P (x ∷ xs) f = (f x, each P xs f)
 
 -- a key can't be served exactly where it is out or the jobs are full
-served_by : {S : Type 0} (jobs : List (Job S)) (key : Place) → can_serve none_kept jobs key ≡ false → (is_out jobs key ≡ true) ⊎ (64 ≤ length jobs)
+served_by : {S : Type 0} (jobs : List (Job S)) (key : Place) → can_serve none_kept jobs key ≡ false → (is_out jobs key ≡ true) ⊎ (MOST_JOBS ≤ length jobs)
 served_by jobs key off =
-    let go : (a b : Bool) → nat_lt (length jobs) 64 ≡ a → is_out jobs key ≡ b → (a && not b) ≡ false → (is_out jobs key ≡ true) ⊎ (64 ≤ length jobs) = elim [
+    let go : (a b : Bool) → nat_lt (length jobs) MOST_JOBS ≡ a → is_out jobs key ≡ b → (a && not b) ≡ false → (is_out jobs key ≡ true) ⊎ (MOST_JOBS ≤ length jobs) = elim [
       | true ↦ elim [
         | true ↦ λ few out e. inl out
         | false ↦ λ few free e. absurd (cc)
       ]
-      | false ↦ λ b full any e. inr (ltb-false (length jobs) 64 full)
+      | false ↦ λ b full any e. inr (ltb-false (length jobs) MOST_JOBS full)
     ] in
-    go (nat_lt (length jobs) 64) (is_out jobs key) refl refl off
+    go (nat_lt (length jobs) MOST_JOBS) (is_out jobs key) refl refl off
 
-not_served_by : {S : Type 0} (jobs : List (Job S)) (key : Place) → (is_out jobs key ≡ true) ⊎ (64 ≤ length jobs) → can_serve none_kept jobs key ≡ false
+not_served_by : {S : Type 0} (jobs : List (Job S)) (key : Place) → (is_out jobs key ≡ true) ⊎ (MOST_JOBS ≤ length jobs) → can_serve none_kept jobs key ≡ false
 not_served_by jobs key is =
     let none : (b : Bool) → (b && false) ≡ false = elim [ true ↦ refl | false ↦ refl ] in
     elim is [
-      | inl out ↦ ap (λ b. nat_lt (length jobs) 64 && not b) out ∙ none (nat_lt (length jobs) 64)
-      | inr full ↦ ap (λ b. b && not (is_out jobs key)) (le-ltb (length jobs) 64 full)
+      | inl out ↦ ap (λ b. nat_lt (length jobs) MOST_JOBS && not b) out ∙ none (nat_lt (length jobs) MOST_JOBS)
+      | inr full ↦ ap (λ b. b && not (is_out jobs key)) (le-ltb (length jobs) MOST_JOBS full)
     ]
 
 module _ {C B S : Type 0} (rules : Rules C B) (d : Document S) where
@@ -69,7 +70,7 @@ module _ {C B S : Type 0} (rules : Rules C B) (d : Document S) where
 
   view_served : (view : View) → next_key rules none_kept d view ≡ None → IsServed rules d view
   view_served view none =
-      let Served : Place → Type 0 = λ key. (has_room view && is_due rules d view key) ≡ true → (is_out d.jobs key ≡ true) ⊎ (64 ≤ length d.jobs) in
+      let Served : Place → Type 0 = λ key. (has_room view && is_due rules d view key) ≡ true → (is_out d.jobs key ≡ true) ⊎ (MOST_JOBS ≤ length d.jobs) in
       let open_to : (key : Place) → Serves view key ≡ false → Served key = λ key off wanted.
       let due : is_due rules d view key ≡ true = (and_parts (has_room view) (is_due rules d view key) wanted).1 in
       let all : (b : Bool) → b ≡ (b && true) = elim [ true ↦ refl | false ↦ refl ] in
@@ -82,7 +83,7 @@ module _ {C B S : Type 0} (rules : Rules C B) (d : Document S) where
 
   view_next : (view : View) → IsServed rules d view → next_key rules none_kept d view ≡ None
   view_next view served =
-      let Served : Place → Type 0 = λ key. (has_room view && is_due rules d view key) ≡ true → (is_out d.jobs key ≡ true) ⊎ (64 ≤ length d.jobs) in
+      let Served : Place → Type 0 = λ key. (has_room view && is_due rules d view key) ≡ true → (is_out d.jobs key ≡ true) ⊎ (MOST_JOBS ≤ length d.jobs) in
       let none : (b : Bool) → (b && false) ≡ false = elim [ true ↦ refl | false ↦ refl ] in
       let go : (b : Bool) → has_room view ≡ b → cond b (find (Serves view) (keys rules d view)) None ≡ None = elim [
         | true ↦ λ room.
@@ -117,7 +118,7 @@ module _ {C B S : Type 0} (rules : Rules C B) (d : Document S) where
   -- what is next
   abbrev pub IsNext : ℕ → Place → Type 0
   IsNext id key =
-      (length d.jobs < 64) × (is_out d.jobs key ≡ false)
+      (length d.jobs < MOST_JOBS) × (is_out d.jobs key ≡ false)
       × (list_any (λ view. nat_eq view.id id && (has_room view && is_due rules d view key)) d.views ≡ true)
 
   first_served : (view : View) (key : Place) → next_key rules none_kept d view ≡ Some key → (has_room view ≡ true) × (Serves view key ≡ true)
@@ -152,5 +153,5 @@ module _ {C B S : Type 0} (rules : Rules C B) (d : Document S) where
   pub next_is : (id : ℕ) (key : Place) → next_pair rules none_kept d ≡ Some (id, key) → IsNext id key
   next_is id key some =
       let is = among_wanted d.views id key some in
-      let parts = and_parts (nat_lt (length d.jobs) 64) (not (is_out d.jobs key)) is.0 in
-      (ltb-true (length d.jobs) 64 parts.0, not-true (is_out d.jobs key) parts.1, is.1)
+      let parts = and_parts (nat_lt (length d.jobs) MOST_JOBS) (not (is_out d.jobs key)) is.0 in
+      (ltb-true (length d.jobs) MOST_JOBS parts.0, not-true (is_out d.jobs key) parts.1, is.1)

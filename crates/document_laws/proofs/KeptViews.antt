@@ -7,12 +7,15 @@ use Rattle.kit_trait.specs.Rules.{Rules}
 use Rattle.kit_trait.specs.declared.values.Input.{Input}
 use Rattle.tile_key.specs.Places.{Place, IsKey, key_order, same_place}
 use Rattle.tile_key.specs.Visible.{IsBefore}
-use Rattle.document_machine.proofs.Lists.{all_push, all_filter, filter_le}
+use Rattle.document_machine.proofs.Lists.{all_push, all_filter}
+use Rattle.send_window.proofs.Closing.{filter_le}
 use Rattle.document_machine.specs.Due.{parts_of, has_room, is_current, is_due, takes, visible, with_version, asked_after, screen_after, sent}
 use Rattle.document_machine.specs.Keys.{Pairwise, is_among}
-use Rattle.document_machine.specs.Kept.{IsKept, IsViewKept}
+use Rattle.document_machine.specs.Kept.{IsViewKept}
 use Rattle.document_machine.specs.State.{Shown, View, Job, Document, find_view, with_view, without_view}
 use Rattle.document_machine.specs.Step.{offered, views_offered}
+use Rattle.document_machine.specs.declared.limits.TheConstants.{MOST_ASKED, MOST_VIEWS}
+use Rattle.send_window.specs.declared.windows.TheConstants.{MOST_SENT}
 use Rattle.document_laws.proofs.KeyOrder.{same_is, same_sym, before_by, after_by, before_trans}
 use Rattle.document_laws.proofs.Ordered.{weaker}
 use Rattle.document_laws.proofs.Sending.{asked_other}
@@ -110,7 +113,7 @@ module _ {C B S : Type 0} (rules : Rules C B) (d : Document S) where
   sent_kept version key view past room kept =
       let current : Bool = is_current rules d version key in
       let wanted : Bool = is_among (visible rules d view) key || is_among (asked_after view.asked key current) key in
-      let few : length view.window < 64 = ltb-true (length view.window) 64 room in
+      let few : length view.window < MOST_SENT = ltb-true (length view.window) MOST_SENT room in
       let more : length (view.window ++ record { wid = view.next_wid; key = key } ∷ []) ≡ length view.window + 1 = length-append view.window (record { wid = view.next_wid; key = key } ∷ []) in
       let next : view.next_wid < view.next_wid + 1 = omega arith in
       record {
@@ -119,7 +122,7 @@ module _ {C B S : Type 0} (rules : Rules C B) (d : Document S) where
         seen = kept.seen;
         asked = asked_all (λ k. IsKey k × (k.part < parts_of rules d.base)) view.asked key current kept.asked;
         asked_once = asked_once view.asked key current kept.asked_once;
-        asked_few = asked_few 1024 view.asked key current kept.asked_few;
+        asked_few = asked_few MOST_ASKED view.asked key current kept.asked_few;
         screen = screen_order view.screen key version wanted kept.screen;
         versions = screen_versions d.applied view.screen key version wanted past kept.versions;
         wanted = screen_wanted (is_among (visible rules d view)) view.asked key current view.screen version wanted refl kept.wanted;
@@ -136,9 +139,9 @@ module _ {C B S : Type 0} (rules : Rules C B) (d : Document S) where
       ] in
       go (takes rules d version key view) refl
 
--- the views, at most 64, are in the order of their ids, which are below the next one
+-- the views are not too many and in the order of their ids, which are below the next one
 pub record AreInOrder (next_view : ℕ) (views : List View) : Type 0 where
-  pub few : length views ≤ 64
+  pub few : length views ≤ MOST_VIEWS
   pub ids : Pairwise (λ v w. v.id < w.id) views
   pub below : AllByRecursion (λ view. view.id < next_view) views
 
@@ -240,7 +243,7 @@ order_without next_view views id o = record {
 }
 
 -- once one more has joined
-pub order_push : (next_view : ℕ) (views : List View) (view : View) → view.id ≡ next_view → length views < 64 → AreInOrder next_view views → AreInOrder (next_view + 1) (views ++ view ∷ [])
+pub order_push : (next_view : ℕ) (views : List View) (view : View) → view.id ≡ next_view → length views < MOST_VIEWS → AreInOrder next_view views → AreInOrder (next_view + 1) (views ++ view ∷ [])
 order_push next_view views view is few o =
     let more : length (views ++ view ∷ []) ≡ length views + 1 = length-append views (view ∷ []) in
     let last : view.id < next_view + 1 = omega arith in
@@ -267,7 +270,8 @@ module _ {C B S : Type 0} (rules : Rules C B) (d : Document S) where
   abbrev pub moved : (journal : List Input) (applied : ℕ) → List View → ℕ → List (Job S) → ℕ → Document S
   moved journal applied views next_view jobs ticket = record d { journal = journal; applied = applied; views = views; next_view = next_view; jobs = jobs; next_ticket = ticket }
 
-  view_moved : (journal : List Input) (applied : ℕ) (views : List View) (next_view : ℕ) (jobs : List (Job S)) (ticket : ℕ) (view : View) → d.applied ≤ applied → IsViewKept rules d view → IsViewKept rules (moved journal applied views next_view jobs ticket) view
+  -- a view that is kept is kept in it, where no fewer inputs are applied
+  pub view_moved : (journal : List Input) (applied : ℕ) (views : List View) (next_view : ℕ) (jobs : List (Job S)) (ticket : ℕ) (view : View) → d.applied ≤ applied → IsViewKept rules d view → IsViewKept rules (moved journal applied views next_view jobs ticket) view
   view_moved journal applied views next_view jobs ticket view le kept = record {
     part = kept.part;
     zoom = kept.zoom;
@@ -281,18 +285,4 @@ module _ {C B S : Type 0} (rules : Rules C B) (d : Document S) where
     window_few = kept.window_few;
     wids = kept.wids;
     wids_below = kept.wids_below;
-  }
-
-  pub order_of : IsKept rules d → AreInOrder d.next_view d.views
-  order_of kept = record { few = kept.few; ids = kept.ids; below = kept.ids_below }
-
-  -- it is kept, where its inputs go on and its views are kept
-  pub kept_by : (journal : List Input) (applied : ℕ) (views : List View) (next_view : ℕ) (jobs : List (Job S)) (ticket : ℕ) → IsKept rules d → d.applied ≤ applied → applied ≤ length journal → AreInOrder next_view views → AllByRecursion (IsViewKept rules d) views → IsKept rules (moved journal applied views next_view jobs ticket)
-  kept_by journal applied views next_view jobs ticket kept le level order each = record {
-    accepted = kept.accepted;
-    level = level;
-    few = order.few;
-    ids = order.ids;
-    ids_below = order.below;
-    each = weaker (IsViewKept rules d) (IsViewKept rules (moved journal applied views next_view jobs ticket)) views (λ view is. view_moved journal applied views next_view jobs ticket view le is) each;
   }

@@ -2,8 +2,10 @@ pub mod Acknowledged
 pub mod Ending
 mod Examples
 pub mod Fewer
+pub mod Forgetting
+pub mod Heard
 pub mod Idle
-pub mod KeptSaid
+pub mod Kept
 pub mod KeptViews
 pub mod KeyOrder
 pub mod Lower
@@ -17,4 +19,3 @@ pub mod Screens
 pub mod Sending
 pub mod Tiles
 pub mod Untouched
-pub mod Whole

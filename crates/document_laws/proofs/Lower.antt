@@ -215,7 +215,7 @@ module _ {C B S : Type 0} (rules : Rules C B) where
       let before : left_to_do rules old ≡ sum_by (left_of rules old) old.views = left_is old old.views old.jobs old.next_ticket level in
       omega (arith, less, sum, after, before)
 
-  pub sent_lowers : (old new : Document S) (outs : Outs S) → Sends rules old outs new → IsKept rules old → left_to_do rules new < left_to_do rules old
+  pub sent_lowers : {cut : C → Place → S} (old new : Document S) (outs : Outs S) → Sends rules old outs new → IsKept rules cut old → left_to_do rules new < left_to_do rules old
   sent_lowers old new outs step kept =
       let ready : IsReady rules old step.view = found_view (IsReady rules old) old.views step.view.id step.view (all_ready rules old kept) step.live in
       let clean : touched rules old.base old.journal step.version step.key old.applied ≡ false = not-true (touched rules old.base old.journal step.version step.key old.applied) step.current in
@@ -240,7 +240,7 @@ module _ {C B S : Type 0} (rules : Rules C B) where
         | inr taken ↦ taken.2 ∙ ap (λ js. with_views old (views_offered rules old job.number job.keys old.views) js (old.next_ticket + 1)) left
       ]
 
-  cut_left : (old : Document S) (job : Job S) → IsKept rules old → old.applied ≡ length old.journal → job.number ≡ old.applied → list_any (is_wanted rules old) job.keys ≡ true
+  cut_left : {cut : C → Place → S} (old : Document S) (job : Job S) → IsKept rules cut old → old.applied ≡ length old.journal → job.number ≡ old.applied → list_any (is_wanted rules old) job.keys ≡ true
       → left_to_do rules (with_views old (views_offered rules old job.number job.keys old.views) [] (old.next_ticket + 1)) < left_to_do rules old
   cut_left old job kept level number wanted =
       let less : sum_by (left_of rules old) (views_offered rules old old.applied job.keys old.views) + 1 ≤ sum_by (left_of rules old) old.views = all_offers_lt rules old job.keys old.views (all_ready rules old kept) wanted in
@@ -249,7 +249,7 @@ module _ {C B S : Type 0} (rules : Rules C B) where
       let before : left_to_do rules old ≡ sum_by (left_of rules old) old.views = left_is old old.views old.jobs old.next_ticket level in
       omega (arith, less, same, after, before)
 
-  pub cut_and_painted_lowers : (cut : C → Place → S) (old mid new : Document S) (outs later : Outs S) (job : PaintJob S) → Cuts rules cut old outs mid → old.jobs ≡ [] → IsKept rules old → outs.jobs ≡ job ∷ [] → Step rules cut mid (answered job) later new → (new.jobs ≡ []) × (left_to_do rules new < left_to_do rules old)
+  pub cut_and_painted_lowers : (cut : C → Place → S) (old mid new : Document S) (outs later : Outs S) (job : PaintJob S) → Cuts rules cut old outs mid → old.jobs ≡ [] → IsKept rules cut old → outs.jobs ≡ job ∷ [] → Step rules cut mid (answered job) later new → (new.jobs ≡ []) × (left_to_do rules new < left_to_do rules old)
   cut_and_painted_lowers cut old mid new outs later job cuts none kept one step =
       let given_is : outs.jobs ≡ given cuts.job ∷ [] = ap (λ o. o.jobs) cuts.outs_are in
       let same : job ≡ given cuts.job = cc in
@@ -261,7 +261,7 @@ module _ {C B S : Type 0} (rules : Rules C B) where
       (ap (λ e. e.jobs) is, subst (λ e. left_to_do rules e < left_to_do rules old) (sym is) less)
 
   -- a turn that works, with each job that it gave out painted directly behind it
-  pub at_once_lowers : (cut : C → Place → S) (old mid new : Document S) (outs later : Outs S) → Works rules cut old outs mid → old.jobs ≡ [] → IsKept rules old → Segment rules cut mid (all_answered outs) later new → (new.jobs ≡ []) × (left_to_do rules new < left_to_do rules old)
+  pub at_once_lowers : (cut : C → Place → S) (old mid new : Document S) (outs later : Outs S) → Works rules cut old outs mid → old.jobs ≡ [] → IsKept rules cut old → Segment rules cut mid (all_answered outs) later new → (new.jobs ≡ []) × (left_to_do rules new < left_to_do rules old)
   at_once_lowers cut old mid new outs later works none kept run =
       let Lower : Document S → Type 0 = λ e. (e.jobs ≡ []) × (left_to_do rules e < left_to_do rules old) in
       let stays : outs.jobs ≡ [] → Lower mid → Lower new = λ e low.

@@ -6,23 +6,28 @@ use Rattle.std.proofs.lemmas.Bool.{cases_Bool, eqb-true}
 use Rattle.std.proofs.lemmas.Bool.Decides.{nat_tests}
 use Rattle.cool_base.specs.declared.ids.ViewId.{ViewId}
 use Rattle.cool_frame.specs.declared.frame.Frame.{Frame}
-use Rattle.cool_frame.specs.declared.frame.Frame.TheVariants.{Invalidate}
+use Rattle.cool_frame.specs.declared.frame.Frame.TheVariants.{Server, Status, Invalidate, SaveDone, Error, Tile}
 use Rattle.kit_trait.specs.Rules.{Rules, doc}
 use Rattle.kit_trait.specs.declared.values.Damage.{Damage}
 use Rattle.tile_key.specs.Places.{Place}
 use Rattle.document_machine.specs.Due.{takes, tile_frame, sent}
 use Rattle.document_machine.specs.Event.{Event, Joined, Left, Said, Turned, Painted}
 use Rattle.document_machine.specs.Keys.{Pairwise}
-use Rattle.document_machine.specs.Message.{Effect, Refuses, Greets, Inputs, Asks, Cancels, Looks, Zooms, GoesTo, Acknowledges, Passes, effect, frames_of, took, asks, cancels, looks, zooms, goes_to, acknowledged}
-use Rattle.document_machine.specs.Outputs.{named}
+use Rattle.document_machine.specs.Kept.{IsKept, IsViewKept}
+use Rattle.document_machine.specs.Message.{Effect, effect, heard}
+use Rattle.document_machine.specs.Outputs.{named, outs_of}
 use Rattle.document_machine.specs.State.{View, Job, Document, opening_view, find_view, with_view, without_view, find_job}
-use Rattle.document_machine.specs.Step.{JoinsWhere, Works, Paints, Step, status, told, offered, views_offered, tile_for, tiles_for}
+use Rattle.document_machine.specs.Step.{JoinsWhere, Works, TurnsTo, Paints, Step, status, told, offered, views_offered, tile_for, tiles_for}
+use Rattle.document_machine.specs.declared.limits.TheConstants.{MOST_VIEWS}
 use Rattle.document_machine.specs.declared.outs.Outs.{Outs}
+use Rattle.document_machine.specs.declared.outs.Turned.{Turned as TurnAnswer}
+use Rattle.document_machine.specs.declared.outs.Turned.TheVariants.{Worked, Idle}
 use Rattle.document_machine.specs.declared.rights.Rights.{Rights}
 use Rattle.document_laws.specs.Tiles.{number_in, numbers_to, counted, AreNumbered}
-use Rattle.document_laws.specs.Whole.{IsWhole}
 use Rattle.document_laws.proofs.Acknowledged.{found_with, found_other}
+use Rattle.document_laws.proofs.Heard.{IsGood, IsPlain, effect_good, heard_is, keeps}
 use Rattle.document_laws.proofs.KeptViews.{map_ids}
+use Rattle.document_laws.proofs.Lower.{found_view}
 use Rattle.document_laws.proofs.Rising.{find_map, find_push, find_without, offered_id}
 
 -- numbers of two lists of frames
@@ -60,17 +65,14 @@ all_told id (view ∷ views) damage =
     numbers_append id (map (λ d. (named view.id, Invalidate d.part d.rect)) damage) (told views damage)
     ∙ ap (λ ns. ns ++ numbers_to id (told views damage)) (one_told id view damage) ∙ all_told id views damage
 
-replied : (id to : ℕ) (is : Effect) → numbers_to id (frames_of to is) ≡ []
-replied id to (Refuses command kind) = refl
-replied id to Greets = refl
-replied id to (Inputs input) = refl
-replied id to (Asks asked) = refl
-replied id to Cancels = refl
-replied id to (Looks area) = refl
-replied id to (Zooms zoom) = refl
-replied id to (GoesTo part) = refl
-replied id to (Acknowledges wids) = refl
-replied id to Passes = refl
+all_replied : (id to : ℕ) (frames : List Frame) → AllByRecursion IsPlain frames → numbers_to id (map (λ frame. (named to, frame)) frames) ≡ []
+all_replied id to [] plain = refl
+all_replied id to (Tile key version wid rgba ∷ frames) plain = absurd (plain.0)
+all_replied id to (Server ∷ frames) plain = all_replied id to frames plain.1
+all_replied id to (Status kit parts size view readonly ∷ frames) plain = all_replied id to frames plain.1
+all_replied id to (Invalidate part rect ∷ frames) plain = all_replied id to frames plain.1
+all_replied id to (SaveDone inputs put ∷ frames) plain = all_replied id to frames plain.1
+all_replied id to (Error command kind code ∷ frames) plain = all_replied id to frames plain.1
 
 module _ {C B S : Type 0} (rules : Rules C B) (d : Document S) (n : ℕ) where
   -- the tile of one view
@@ -135,25 +137,7 @@ module _ {C B S : Type 0} (rules : Rules C B) (d : Document S) (n : ℕ) where
       (key_tiles key views id v order live)
       (all_tiles keys (map (offered rules d n key) views) id (offered rules d n key v) w (map_ids views (offered rules d n key) (offered_id rules d n key) order) (find_map rules d n key views id v live) later)
 
--- a view that has changed has the same next number
-with_same : (views : List View) (i : ℕ) (change : View → View) → ((v : View) → (change v).id ≡ v.id) → ((v : View) → (change v).next_wid ≡ v.next_wid)
-    → (id : ℕ) (v w : View) → find_view views id ≡ Some v → find_view (with_view views i change) id ≡ Some w → w.next_wid ≡ v.next_wid
-with_same views i change same next id v w live later =
-    elim (cases_Bool (nat_eq id i)) [
-      | inl here ↦
-          let is : id ≡ i = eqb-true id i here in
-          let at : find_view views i ≡ Some v = ap (find_view views) (sym is) ∙ live in
-          let found : find_view (with_view views i change) i ≡ Some (change v) = found_with views i change v same at in
-          let e : Some (change v) ≡ Some w = sym found ∙ ap (find_view (with_view views i change)) (sym is) ∙ later in
-          let eq : w ≡ change v = cc in
-          ap (λ x. x.next_wid) eq ∙ next v
-      | inr away ↦
-          let apart : id ≢ i = λ is. absurd (let yes : nat_eq id i ≡ true = grind (arith, nat_tests) in cc) in
-          let e : Some v ≡ Some w = sym live ∙ sym (found_other views i id change same apart) ∙ later in
-          let eq : w ≡ v = cc in
-          ap (λ x. x.next_wid) eq
-    ]
-
+-- a view that stays has the same next number
 unchanged : (views : List View) (id : ℕ) (v w : View) → find_view views id ≡ Some v → find_view views id ≡ Some w → w.next_wid ≡ v.next_wid
 unchanged views id v w live later =
     let e : Some v ≡ Some w = sym live ∙ later in
@@ -176,17 +160,25 @@ module _ {C B S : Type 0} (rules : Rules C B) (cut : C → Place → S) where
   no_tile views now frames outs new frames_are views_are none same =
       gives views now frames outs new frames_are views_are (λ id v w live later. none_for id v w frames (none id) (same id v w live later))
 
-  took_same : (old : Document S) (to : ℕ) (is : Effect) → (id : ℕ) (v w : View) → find_view old.views id ≡ Some v → find_view (took rules old to is).views id ≡ Some w → w.next_wid ≡ v.next_wid
-  took_same old to (Refuses command kind) = unchanged old.views
-  took_same old to Greets = unchanged old.views
-  took_same old to (Inputs input) = unchanged old.views
-  took_same old to (Asks asked) = with_same old.views to (asks asked) (λ v. refl) (λ v. refl)
-  took_same old to Cancels = with_same old.views to (cancels rules old) (λ v. refl) (λ v. refl)
-  took_same old to (Looks area) = with_same old.views to (looks rules old area) (λ v. refl) (λ v. refl)
-  took_same old to (Zooms zoom) = with_same old.views to (zooms rules old zoom) (λ v. refl) (λ v. refl)
-  took_same old to (GoesTo part) = with_same old.views to (goes_to rules old part) (λ v. refl) (λ v. refl)
-  took_same old to (Acknowledges wids) = with_same old.views to (acknowledged wids) (λ v. refl) (λ v. refl)
-  took_same old to Passes = unchanged old.views
+  heard_same : (old : Document S) (to : ℕ) (view : View) (e : Effect) → find_view old.views to ≡ Some view → IsGood rules old view e
+      → (id : ℕ) (v w : View) → find_view old.views id ≡ Some v → find_view (heard old to e).views id ≡ Some w → w.next_wid ≡ v.next_wid
+  heard_same old to view e there good id v w live later =
+      let found : find_view (with_view old.views to (keeps e.view)) id ≡ Some w = ap (λ (d : Document S). find_view d.views id) (sym (heard_is old to view e there good.id)) ∙ later in
+      elim (cases_Bool (nat_eq id to)) [
+        | inl here ↦
+            let is : id ≡ to = eqb-true id to here in
+            let at : Some view ≡ Some v = sym there ∙ ap (find_view old.views) (sym is) ∙ live in
+            let same : v ≡ view = cc in
+            let now : find_view (with_view old.views to (keeps e.view)) to ≡ Some (keeps e.view view) = found_with old.views to (keeps e.view) view (λ v. refl) there in
+            let f : Some (keeps e.view view) ≡ Some w = sym now ∙ ap (find_view (with_view old.views to (keeps e.view))) (sym is) ∙ found in
+            let eq : w ≡ keeps e.view view = cc in
+            ap (λ x. x.next_wid) eq ∙ good.next ∙ ap (λ x. x.next_wid) (sym same)
+        | inr away ↦
+            let apart : id ≢ to = λ is. absurd (let yes : nat_eq id to ≡ true = grind (arith, nat_tests) in cc) in
+            let f : Some v ≡ Some w = sym live ∙ sym (found_other old.views to id (keeps e.view) (λ v. refl) apart) ∙ found in
+            let eq : w ≡ v = cc in
+            ap (λ x. x.next_wid) eq
+      ]
 
   send_numbered : (old : Document S) (view : View) (key : Place) (version : ℕ) → find_view old.views view.id ≡ Some view
       → (id : ℕ) (v w : View) → find_view old.views id ≡ Some v → find_view (with_view old.views view.id (sent rules old version key)) id ≡ Some w → AreNumbered id v w (tile_frame rules old version key view ∷ [])
@@ -223,6 +215,10 @@ module _ {C B S : Type 0} (rules : Rules C B) (cut : C → Place → S) where
         ]
       ]
 
+  turn_numbered : (old new : Document S) (turned : TurnAnswer S) (outs : Outs S) → TurnsTo rules cut old turned new → outs ≡ outs_of turned → AllNumbered old.views outs new
+  turn_numbered old new (Worked given) outs turn are = subst (λ (o : Outs S). AllNumbered old.views o new) (sym are) (works_numbered old new given turn)
+  turn_numbered old new Idle outs turn are = no_tile old.views old.views [] outs new (ap (λ o. o.frames) are) (ap (λ e. e.views) turn.1) (λ id. refl) (unchanged old.views)
+
   join_numbered : (old new : Document S) (rights : Rights) (outs : Outs S) (b : Bool) → JoinsWhere b rules old rights outs new → AllNumbered old.views outs new
   join_numbered old new rights outs true joins =
       no_tile old.views (old.views ++ opening_view old.next_view rights ∷ []) ((named old.next_view, status rules old old.next_view rights) ∷ []) outs new (ap (λ o. o.frames) joins.0) (ap (λ e. e.views) joins.1) (λ id. refl)
@@ -232,26 +228,25 @@ module _ {C B S : Type 0} (rules : Rules C B) (cut : C → Place → S) where
       ap (λ x. x.next_wid) eq)
   join_numbered old new rights outs false joins = no_tile old.views old.views [] outs new (ap (λ o. o.frames) joins.0) (ap (λ e. e.views) joins.1) (λ id. refl) (unchanged old.views)
 
-  paints_numbered : (old new : Document S) (ticket : ℕ) (scene : S) (outs : Outs S) (job : Option (Job S)) → IsWhole rules old → Paints rules old ticket scene outs new job → AllNumbered old.views outs new
-  paints_numbered old new ticket scene outs None whole paint = no_tile old.views old.views [] outs new (ap (λ o. o.frames) paint.0) (ap (λ e. e.views) paint.1) (λ id. refl) (unchanged old.views)
-  paints_numbered old new ticket scene outs (Some job) whole paint =
+  paints_numbered : (old new : Document S) (ticket : ℕ) (scene : S) (outs : Outs S) (job : Option (Job S)) → IsKept rules cut old → Paints rules old ticket scene outs new job → AllNumbered old.views outs new
+  paints_numbered old new ticket scene outs None kept paint = no_tile old.views old.views [] outs new (ap (λ o. o.frames) paint.0) (ap (λ e. e.views) paint.1) (λ id. refl) (unchanged old.views)
+  paints_numbered old new ticket scene outs (Some job) kept paint =
       elim paint [
         | inl other ↦ no_tile old.views old.views [] outs new (ap (λ o. o.frames) other.1) (ap (λ e. e.views) other.2) (λ id. refl) (unchanged old.views)
         | inr taken ↦ gives old.views (views_offered rules old job.number job.keys old.views) (tiles_for rules old job.number job.keys old.views) outs new (ap (λ o. o.frames) taken.1) (ap (λ e. e.views) taken.2)
-            (λ id v w live later. all_tiles rules old job.number job.keys old.views id v w whole.kept.ids live later)
+            (λ id v w live later. all_tiles rules old job.number job.keys old.views id v w kept.ids live later)
       ]
 
-  pub steps_numbered : (old new : Document S) (event : Event S) (outs : Outs S) → IsWhole rules old → Step rules cut old event outs new → AllNumbered old.views outs new
-  steps_numbered old new (Joined rights) outs whole step = join_numbered old new rights outs (nat_lt (length old.views) 64) step
-  steps_numbered old new (Left view) outs whole step =
+  pub steps_numbered : (old new : Document S) (event : Event S) (outs : Outs S) → IsKept rules cut old → Step rules cut old event outs new → AllNumbered old.views outs new
+  steps_numbered old new (Joined rights) outs kept step = join_numbered old new rights outs (nat_lt (length old.views) MOST_VIEWS) step
+  steps_numbered old new (Left view) outs kept step =
       no_tile old.views (without_view old.views view) [] outs new (ap (λ o. o.frames) step.0) (ap (λ e. e.views) step.1) (λ id. refl)
-      (λ id v w live later. unchanged old.views id v w live (find_without old.views view id w whole.kept.ids later))
-  steps_numbered old new (Said to text) outs whole step =
-      no_tile old.views (took rules old to (effect rules old step.view text)).views (frames_of to (effect rules old step.view text)) outs new (ap (λ o. o.frames) step.outs_are) (ap (λ e. e.views) step.new_is)
-      (λ id. replied id to (effect rules old step.view text)) (took_same old to (effect rules old step.view text))
-  steps_numbered old new Turned outs whole step =
-      elim step [
-        | inl works ↦ works_numbered old new outs works
-        | inr idle ↦ no_tile old.views old.views [] outs new (ap (λ o. o.frames) idle.1) (ap (λ e. e.views) idle.2) (λ id. refl) (unchanged old.views)
-      ]
-  steps_numbered old new (Painted ticket scene) outs whole step = paints_numbered old new ticket scene outs (find_job old.jobs ticket) whole step
+      (λ id v w live later. unchanged old.views id v w live (find_without old.views view id w kept.ids later))
+  steps_numbered old new (Said to text) outs kept step =
+      let e : Effect = effect rules old step.view text in
+      let of_view : IsViewKept rules old step.view = found_view (IsViewKept rules old) old.views to step.view kept.each step.live in
+      let good : IsGood rules old step.view e = effect_good rules old step.view of_view text in
+      no_tile old.views (heard old to e).views (map (λ frame. (named to, frame)) e.frames) outs new (ap (λ o. o.frames) step.outs_are) (ap (λ e. e.views) step.new_is)
+      (λ id. all_replied id to e.frames good.frames) (heard_same old to step.view e step.live good)
+  steps_numbered old new Turned outs kept step = turn_numbered old new step.0 outs step.1 step.2
+  steps_numbered old new (Painted ticket scene) outs kept step = paints_numbered old new ticket scene outs (find_job old.jobs ticket) kept step

@@ -16,6 +16,8 @@ use Rattle.document_machine.specs.Kept.{IsKept, IsViewKept}
 use Rattle.document_machine.specs.Quiet.{IsQuiet, IsRight, AllRight}
 use Rattle.document_machine.specs.State.{Shown, View, Document}
 use Rattle.document_machine.specs.Step.{IsServed}
+use Rattle.document_machine.specs.declared.limits.TheConstants.{MOST_JOBS}
+use Rattle.send_window.specs.declared.windows.TheConstants.{MOST_SENT}
 use Rattle.document_laws.proofs.Ordered.{both, weaker, all_by, all_ordered, all_among}
 
 -- a place that no input between touched looks the same
@@ -92,11 +94,11 @@ module _ {C B S : Type 0} (rules : Rules C B) (d : Document S) (view : View) whe
       (seen_points view.part view.zoom view.area (size_of rules d.base view.part) kept.zoom) (all_among (visible rules d view)))
 
   -- where no job is out, no pair of a view with an empty window that is served is due
-  pub none_due : (key : Place) → d.jobs ≡ [] → view.window ≡ [] → ((has_room view && is_due rules d view key) ≡ true → (is_out d.jobs key ≡ true) ⊎ (64 ≤ length d.jobs)) → is_due rules d view key ≡ false
+  pub none_due : (key : Place) → d.jobs ≡ [] → view.window ≡ [] → ((has_room view && is_due rules d view key) ≡ true → (is_out d.jobs key ≡ true) ⊎ (MOST_JOBS ≤ length d.jobs)) → is_due rules d view key ≡ false
   none_due key no_job empty served =
       elim (cases_Bool (is_due rules d view key)) [
         | inl due ↦
-            let room : has_room view ≡ true = ap (λ window. nat_lt (length window) 64) empty in
+            let room : has_room view ≡ true = ap (λ window. nat_lt (length window) MOST_SENT) empty in
             let out : is_out d.jobs key ≡ false = ap (λ jobs. is_out jobs key) no_job in
             let few : length d.jobs ≡ 0 = ap length no_job in
             let wanted : (has_room view && is_due rules d view key) ≡ true = rw (room, due) refl in
@@ -109,7 +111,7 @@ module _ {C B S : Type 0} (rules : Rules C B) (d : Document S) (view : View) whe
 
   pub all_not_due : d.jobs ≡ [] → IsServed rules d view → view.window ≡ [] → AllByRecursion (λ key. is_due rules d view key ≡ false) (keys rules d view)
   all_not_due no_job served empty =
-      weaker (λ key. (has_room view && is_due rules d view key) ≡ true → (is_out d.jobs key ≡ true) ⊎ (64 ≤ length d.jobs)) (λ key. is_due rules d view key ≡ false) (keys rules d view)
+      weaker (λ key. (has_room view && is_due rules d view key) ≡ true → (is_out d.jobs key ≡ true) ⊎ (MOST_JOBS ≤ length d.jobs)) (λ key. is_due rules d view key ≡ false) (keys rules d view)
       (λ key is. none_due key no_job empty is) served
 
   view_right : Unchanged rules → IsViewKept rules d view → d.applied ≡ length d.journal → AllByRecursion (λ key. is_due rules d view key ≡ false) (keys rules d view) → AllByRecursion (IsRight rules d view) (keys rules d view)
@@ -120,12 +122,12 @@ module _ {C B S : Type 0} (rules : Rules C B) (d : Document S) (view : View) whe
       (view_right_or_due same kept le) not_due
 
 module _ {C B S : Type 0} (rules : Rules C B) (d : Document S) where
-  pub all_right_or_due : Unchanged rules → IsKept rules d → AllByRecursion (λ view. AllByRecursion (RightOrDue rules d view) (keys rules d view)) d.views
+  pub all_right_or_due : {cut : C → Place → S} → Unchanged rules → IsKept rules cut d → AllByRecursion (λ view. AllByRecursion (RightOrDue rules d view) (keys rules d view)) d.views
   all_right_or_due same kept =
       weaker (IsViewKept rules d) (λ view. AllByRecursion (RightOrDue rules d view) (keys rules d view)) d.views
       (λ view is. view_right_or_due rules d view same is kept.level) kept.each
 
-  pub quiet_is_right : Unchanged rules → IsKept rules d → IsQuiet rules d → AllRight rules d
+  pub quiet_is_right : {cut : C → Place → S} → Unchanged rules → IsKept rules cut d → IsQuiet rules d → AllRight rules d
   quiet_is_right same kept quiet =
       both (IsViewKept rules d) (λ view. AllByRecursion (λ key. is_due rules d view key ≡ false) (keys rules d view)) (λ view. AllByRecursion (IsRight rules d view) (keys rules d view)) d.views
       (λ view is not_due. view_right rules d view same is quiet.rests.level not_due) kept.each

@@ -11,6 +11,7 @@ use Rattle.document_machine.specs.Keys.{is_among, ordered}
 use Rattle.document_machine.specs.Quiet.{IsQuiet, is_quiet, is_still}
 use Rattle.document_machine.specs.State.{View, Document}
 use Rattle.document_machine.specs.Step.{IsServed}
+use Rattle.document_machine.specs.declared.limits.TheConstants.{MOST_JOBS}
 use Rattle.document_laws.proofs.Ordered.{both, weaker, ordered_all, all_among}
 use Rattle.document_laws.proofs.Quiet.{all_not_due, asked_due}
 
@@ -50,7 +51,7 @@ module _ {C B S : Type 0} (rules : Rules C B) (d : Document S) (view : View) whe
       let second = and_parts (not (list_any (is_due rules d view) (visible rules d view))) (nat_eq (length view.asked) 0) first.1 in
       let idle : view.asked ≡ [] = none_there view.asked second.1 in
       let clean = none_passes (is_due rules d view) (visible rules d view) (not-true (list_any (is_due rules d view) (visible rules d view)) second.0) in
-      let Served : Place → Type 0 = λ key. (has_room view && is_due rules d view key) ≡ true → (is_out d.jobs key ≡ true) ⊎ (64 ≤ length d.jobs) in
+      let Served : Place → Type 0 = λ key. (has_room view && is_due rules d view key) ≡ true → (is_out d.jobs key ≡ true) ⊎ (MOST_JOBS ≤ length d.jobs) in
       let away : (a b : Bool) → b ≡ false → (a && b) ≡ true → ⊥ = elim [ true ↦ λ b e f. (cc) | false ↦ λ b e f. (cc) ] in
       let served : AllByRecursion Served (visible rules d view) =
       weaker (λ key. is_due rules d view key ≡ false) Served (visible rules d view)

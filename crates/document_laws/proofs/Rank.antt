@@ -9,12 +9,11 @@ use Rattle.tile_key.specs.Places.{Place, same_place}
 use Rattle.document_machine.proofs.Lists.{holds_among, same_self}
 use Rattle.document_machine.specs.Due.{is_due, is_lacking, has_room, is_out, touched, keys, version_of, visible, sent}
 use Rattle.document_machine.specs.Keys.{is_among, inserted, ordered}
-use Rattle.document_machine.specs.Kept.{IsKept}
+use Rattle.document_machine.specs.Kept.{IsKept, ShareNone, AreApart}
 use Rattle.document_machine.specs.Rank.{IsLower, is_due_somewhere, jobs_due, due_pairs, pairs, still_to_come}
 use Rattle.document_machine.specs.State.{View, Job, Document, find_view, with_view}
 use Rattle.document_machine.specs.Step.{Works, is_wanted}
 use Rattle.document_machine.specs.declared.outs.Outs.{Outs}
-use Rattle.document_laws.specs.Apart.{ShareNone, AreApart}
 use Rattle.document_laws.proofs.KeyOrder.{same_is, same_sym}
 use Rattle.document_laws.proofs.Ordered.{one, among_inserted}
 use Rattle.document_laws.proofs.Sending.{sent_due}
@@ -293,8 +292,8 @@ module _ {C B S : Type 0} (rules : Rules C B) (d : Document S) (id : ℕ) (key :
       omega (arith, less, sum, jobs, a, b)
 
 module _ {C B S : Type 0} (rules : Rules C B) (cut : C → Place → S) where
-  pub work_lowers : (old new : Document S) (outs : Outs S) → Works rules cut old outs new → IsKept rules old → AreApart old.jobs → IsLower rules new old
-  work_lowers old new outs works kept apart =
+  pub work_lowers : (old new : Document S) (outs : Outs S) → Works rules cut old outs new → IsKept rules cut old → IsLower rules new old
+  work_lowers old new outs works kept =
       elim works [
         | inl applies ↦ subst (λ (e : Document S). IsLower rules e old) (sym applies.new_is) (applied_lower rules old (some_input old.journal old.applied applies.input applies.behind))
         | inr other ↦ elim other [
@@ -302,7 +301,7 @@ module _ {C B S : Type 0} (rules : Rules C B) (cut : C → Place → S) where
               let ready : IsReady rules old sends.view = found_view (IsReady rules old) old.views sends.view.id sends.view (all_ready rules old kept) sends.live in
               let clean : touched rules old.base old.journal sends.version sends.key old.applied ≡ false = not-true (touched rules old.base old.journal sends.version sends.key old.applied) sends.current in
               subst (λ (e : Document S). IsLower rules e old) (sym sends.new_is)
-              (sent_lower rules old sends.view.id sends.key sends.version clean sends.view ready sends.level refl sends.live sends.due sends.past apart)
+              (sent_lower rules old sends.view.id sends.key sends.version clean sends.view ready sends.level refl sends.live sends.due sends.past kept.apart)
           | inr cuts ↦ subst (λ (e : Document S). IsLower rules e old) (sym cuts.new_is) (cut_lower rules old cuts.job cuts.wanted)
         ]
       ]

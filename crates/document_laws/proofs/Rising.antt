@@ -1,5 +1,5 @@
 -- Why versions on a screen never go down.
-use Rattle.std.proofs.Common.{◌≡◌, ◌≢◌, ℕ, ◌<◌, Bool, true, false, not, ◌&&◌, ◌||◌, cond, nat_eq, List, [], ◌∷◌, ◌++◌, length, map, filter, Option, None, Some, refl, ap, sym, subst, ◌∙◌, arith, inl, inr}
+use Rattle.std.proofs.Common.{◌≡◌, ◌≢◌, ℕ, ◌<◌, Bool, true, false, not, ◌&&◌, ◌||◌, cond, nat_eq, List, [], ◌∷◌, ◌++◌, length, map, Option, None, Some, refl, ap, sym, subst, ◌∙◌, arith, inl, inr}
 use Rattle.std.specs.Prelude.{◌⊎◌, nat_lt, nat_le}
 use Rattle.std.specs.List.{AllByRecursion}
 use Rattle.std.proofs.lemmas.Bool.{cases_Bool, and_parts, leb-true, eqb-true}
@@ -9,64 +9,23 @@ use Rattle.tile_key.specs.Places.{Place, same_place}
 use Rattle.document_machine.specs.Due.{has_room, is_current, is_due, is_lacking, is_newer, is_not_back, takes, visible, version_of, without_version, asked_after, screen_after, sees_or_asks, sent}
 use Rattle.document_machine.specs.Event.{Event, Joined, Left, Said, Turned, Painted}
 use Rattle.document_machine.specs.Keys.{Pairwise, is_among}
-use Rattle.document_machine.specs.Message.{Effect, Refuses, Greets, Inputs, Asks, Cancels, Looks, Zooms, GoesTo, Acknowledges, Passes, effect, took, asks, cancels, looks, zooms, goes_to, acknowledged}
+use Rattle.document_machine.specs.Kept.{IsKept, IsViewKept}
+use Rattle.document_machine.specs.Message.{Effect, effect, heard}
 use Rattle.document_machine.specs.State.{Shown, View, Job, Document, find_view, with_view, without_view, find_job}
-use Rattle.document_machine.specs.Step.{JoinsWhere, Works, Paints, Step, offered, views_offered}
+use Rattle.document_machine.specs.Step.{JoinsWhere, Works, TurnsTo, Paints, Step, offered, views_offered}
+use Rattle.document_machine.specs.declared.limits.TheConstants.{MOST_VIEWS}
 use Rattle.document_machine.specs.declared.outs.Outs.{Outs}
+use Rattle.document_machine.specs.declared.outs.Turned.{Turned as TurnAnswer}
+use Rattle.document_machine.specs.declared.outs.Turned.TheVariants.{Worked, Idle}
 use Rattle.document_machine.specs.declared.rights.Rights.{Rights}
 use Rattle.document_laws.specs.Tiles.{IsNoStepBack}
-use Rattle.document_laws.specs.Whole.{IsWhole}
 use Rattle.document_laws.proofs.KeyOrder.{same_is}
 use Rattle.document_laws.proofs.Acknowledged.{found_with, found_other}
 use Rattle.document_laws.proofs.KeptViews.{asked_still}
+use Rattle.document_laws.proofs.Forgetting.{same_screen}
+use Rattle.document_laws.proofs.Heard.{IsGood, effect_good, heard_is, keeps}
+use Rattle.document_laws.proofs.Lower.{found_view}
 use Rattle.document_laws.proofs.Sending.{with_same, screen_other}
-
--- a screen as it was
-same_screen : (v w : View) → v.screen ≡ w.screen → IsNoStepBack v w
-same_screen v w same key had has a b =
-    let e : Some had ≡ Some has = sym a ∙ ap (λ s. version_of s key) same ∙ b in
-    let is : had ≡ has = cc in
-    omega arith
-
--- a screen that has forgotten some keys
-gone : (f : Place → Bool) (screen : List Shown) (key : Place) → f key ≡ false → version_of (filter (λ shown. f shown.key) screen) key ≡ None
-gone f [] key off = refl
-gone f (shown ∷ screen) key off =
-    let go : (b : Bool) → f shown.key ≡ b → version_of (cond b (shown ∷ filter (λ s. f s.key) screen) (filter (λ s. f s.key) screen)) key ≡ None = elim [
-      | true ↦ λ on.
-          let away : same_place shown.key key ≡ false = elim (cases_Bool (same_place shown.key key)) [
-            | inl same ↦ absurd (let is : f shown.key ≡ f key = ap f (same_is shown.key key same) in cc)
-            | inr apart ↦ apart
-          ] in
-          rw away (gone f screen key off)
-      | false ↦ λ on. gone f screen key off
-    ] in
-    go (f shown.key) refl
-
-forgotten : (f : Place → Bool) (screen : List Shown) (key : Place) (has : ℕ) → version_of (filter (λ shown. f shown.key) screen) key ≡ Some has → version_of screen key ≡ Some has
-forgotten f [] key has e = e
-forgotten f (shown ∷ screen) key has e =
-    let go : (a b : Bool) → same_place shown.key key ≡ a → f shown.key ≡ b → version_of (cond b (shown ∷ filter (λ s. f s.key) screen) (filter (λ s. f s.key) screen)) key ≡ Some has → cond a (Some shown.version) (version_of screen key) ≡ Some has = elim [
-      | true ↦ elim [
-        | true ↦ λ same on e. rw same at e
-        | false ↦ λ same off e.
-            let is : f key ≡ false = ap f (sym (same_is shown.key key same)) ∙ off in
-            let none = gone f screen key is in
-            absurd (cc)
-      ]
-      | false ↦ elim [
-        | true ↦ λ apart on e. forgotten f screen key has (rw apart at e)
-        | false ↦ λ apart off e. forgotten f screen key has e
-      ]
-    ] in
-    go (same_place shown.key key) (f shown.key) refl refl e
-
-filtered : (f : Place → Bool) (v w : View) → w.screen ≡ filter (λ shown. f shown.key) v.screen → IsNoStepBack v w
-filtered f v w is key had has a b =
-    let same : version_of v.screen key ≡ Some has = forgotten f v.screen key has (ap (λ s. version_of s key) (sym is) ∙ b) in
-    let e : Some had ≡ Some has = sym a ∙ same in
-    let eq : had ≡ has = cc in
-    omega arith
 
 -- the key whose entry was taken out
 pub without_same : (screen : List Shown) (key : Place) → version_of (without_version screen key) key ≡ None
@@ -283,17 +242,14 @@ module _ {C B S : Type 0} (rules : Rules C B) (cut : C → Place → S) where
   abbrev AllRise : List View → Document S → Type 0
   AllRise views new = (id : ℕ) (v w : View) → find_view views id ≡ Some v → find_view new.views id ≡ Some w → IsNoStepBack v w
 
-  took_rise : (old : Document S) (id : ℕ) (is : Effect) → AllRise old.views (took rules old id is)
-  took_rise old id (Refuses command kind) = unchanged_rise old.views
-  took_rise old id Greets = unchanged_rise old.views
-  took_rise old id (Inputs input) = unchanged_rise old.views
-  took_rise old id (Asks asked) = with_rise old.views id (asks asked) (λ v. refl) (λ v live. same_screen v (asks asked v) refl)
-  took_rise old id Cancels = with_rise old.views id (cancels rules old) (λ v. refl) (λ v live. filtered (sees_or_asks rules old (record v { asked = filter (is_among (visible rules old v)) v.asked })) v (cancels rules old v) refl)
-  took_rise old id (Looks area) = with_rise old.views id (looks rules old area) (λ v. refl) (λ v live. filtered (sees_or_asks rules old (record v { area = area })) v (looks rules old area v) refl)
-  took_rise old id (Zooms zoom) = with_rise old.views id (zooms rules old zoom) (λ v. refl) (λ v live. filtered (sees_or_asks rules old (record v { zoom = zoom })) v (zooms rules old zoom v) refl)
-  took_rise old id (GoesTo part) = with_rise old.views id (goes_to rules old part) (λ v. refl) (λ v live. filtered (sees_or_asks rules old (record v { part = part })) v (goes_to rules old part v) refl)
-  took_rise old id (Acknowledges wids) = with_rise old.views id (acknowledged wids) (λ v. refl) (λ v live. same_screen v (acknowledged wids v) refl)
-  took_rise old id Passes = unchanged_rise old.views
+  heard_rise : (old : Document S) (id : ℕ) (view : View) (e : Effect) → find_view old.views id ≡ Some view → IsGood rules old view e → AllRise old.views (heard old id e)
+  heard_rise old id view e live good =
+      subst (AllRise old.views) (sym (heard_is old id view e live good.id))
+      (with_rise old.views id (keeps e.view) (λ v. refl)
+      (λ v there.
+      let f : Some view ≡ Some v = sym live ∙ there in
+      let same : view ≡ v = cc in
+      subst (λ w. IsNoStepBack w (keeps e.view w)) same good.back))
 
   works_rise : (old new : Document S) (outs : Outs S) → Works rules cut old outs new → AllRise old.views new
   works_rise old new outs works =
@@ -314,6 +270,10 @@ module _ {C B S : Type 0} (rules : Rules C B) (cut : C → Place → S) where
         ]
       ]
 
+  turn_rises : (old new : Document S) (turned : TurnAnswer S) → TurnsTo rules cut old turned new → AllRise old.views new
+  turn_rises old new (Worked outs) turn = works_rise old new outs turn
+  turn_rises old new Idle turn = subst (AllRise old.views) (sym turn.1) (unchanged_rise old.views)
+
   join_rises : (old new : Document S) (rights : Rights) (outs : Outs S) (b : Bool) → JoinsWhere b rules old rights outs new → AllRise old.views new
   join_rises old new rights outs true joins = subst (AllRise old.views) (sym joins.1) (push_rise old.views _)
   join_rises old new rights outs false joins = subst (AllRise old.views) (sym joins.1) (unchanged_rise old.views)
@@ -326,13 +286,12 @@ module _ {C B S : Type 0} (rules : Rules C B) (cut : C → Place → S) where
         | inr taken ↦ subst (AllRise old.views) (sym taken.2) (offers_rise rules old job.number job.keys old.views)
       ]
 
-  pub steps_rise : (old new : Document S) (event : Event S) (outs : Outs S) → IsWhole rules old → Step rules cut old event outs new → AllRise old.views new
-  steps_rise old new (Joined rights) outs whole step = join_rises old new rights outs (nat_lt (length old.views) 64) step
-  steps_rise old new (Left view) outs whole step = subst (AllRise old.views) (sym step.1) (λ id v w. without_rise old.views view id v w whole.kept.ids)
-  steps_rise old new (Said id text) outs whole step = subst (AllRise old.views) (sym step.new_is) (took_rise old id (effect rules old step.view text))
-  steps_rise old new Turned outs whole step =
-      elim step [
-        | inl works ↦ works_rise old new outs works
-        | inr idle ↦ subst (AllRise old.views) (sym idle.2) (unchanged_rise old.views)
-      ]
-  steps_rise old new (Painted ticket scene) outs whole step = paints_rise old new ticket scene outs (find_job old.jobs ticket) step
+  pub steps_rise : (old new : Document S) (event : Event S) (outs : Outs S) → IsKept rules cut old → Step rules cut old event outs new → AllRise old.views new
+  steps_rise old new (Joined rights) outs kept step = join_rises old new rights outs (nat_lt (length old.views) MOST_VIEWS) step
+  steps_rise old new (Left view) outs kept step = subst (AllRise old.views) (sym step.1) (λ id v w. without_rise old.views view id v w kept.ids)
+  steps_rise old new (Said id text) outs kept step =
+      let of_view : IsViewKept rules old step.view = found_view (IsViewKept rules old) old.views id step.view kept.each step.live in
+      subst (AllRise old.views) (sym step.new_is) (heard_rise old id step.view (effect rules old step.view text) step.live (effect_good rules old step.view of_view text))
+  steps_rise old new Turned outs kept step =
+      turn_rises old new step.0 step.1
+  steps_rise old new (Painted ticket scene) outs kept step = paints_rise old new ticket scene outs (find_job old.jobs ticket) step

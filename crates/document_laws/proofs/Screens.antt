@@ -6,30 +6,34 @@ use Rattle.std.proofs.lemmas.Bool.{cases_Bool, and_parts, eqb-true, leb-true}
 use Rattle.std.proofs.lemmas.Bool.Decides.{nat_tests}
 use Rattle.cool_base.specs.declared.ids.ViewId.{ViewId}
 use Rattle.cool_frame.specs.declared.frame.Frame.{Frame}
-use Rattle.cool_frame.specs.declared.frame.Frame.TheVariants.{Invalidate}
+use Rattle.cool_frame.specs.declared.frame.Frame.TheVariants.{Server, Status, Invalidate, SaveDone, Error, Tile}
 use Rattle.kit_trait.specs.Rules.{Rules, doc}
 use Rattle.kit_trait.specs.declared.values.Damage.{Damage}
 use Rattle.tile_key.specs.Places.{Place, same_place}
 use Rattle.document_machine.specs.Due.{parts_of, has_room, is_current, is_due, is_newer, is_not_back, takes, visible, version_of, asked_after, screen_after, sees_or_asks, sent, tile_frame}
 use Rattle.document_machine.specs.Event.{Event, Joined, Left, Said, Turned, Painted}
 use Rattle.document_machine.specs.Keys.{Pairwise, is_among}
-use Rattle.document_machine.specs.Message.{Effect, Refuses, Greets, Inputs, Asks, Cancels, Looks, Zooms, GoesTo, Acknowledges, Passes, effect, frames_of}
-use Rattle.document_machine.specs.Outputs.{named}
+use Rattle.document_machine.specs.Kept.{IsKept, IsViewKept}
+use Rattle.document_machine.specs.Message.{Effect, effect}
+use Rattle.document_machine.specs.Outputs.{named, outs_of}
 use Rattle.document_machine.specs.Run.{Run}
 use Rattle.document_machine.specs.State.{View, Job, Document, find_view, with_view, find_job}
-use Rattle.document_machine.specs.Step.{JoinsWhere, Works, Paints, Step, told, offered, views_offered, tile_for, tiles_for}
+use Rattle.document_machine.specs.Step.{JoinsWhere, Works, TurnsTo, Paints, Step, told, offered, views_offered, tile_for, tiles_for}
+use Rattle.document_machine.specs.declared.limits.TheConstants.{MOST_VIEWS}
 use Rattle.document_machine.specs.declared.outs.Outs.{Outs}
+use Rattle.document_machine.specs.declared.outs.Turned.{Turned as TurnAnswer}
+use Rattle.document_machine.specs.declared.outs.Turned.TheVariants.{Worked, Idle}
 use Rattle.document_machine.specs.declared.rights.Rights.{Rights}
 use Rattle.document_laws.specs.Tiles.{IsOnScreen, AreDelivered, HasKey, StepsWith, version_in, versions_to}
-use Rattle.document_laws.specs.Whole.{IsWhole}
 use Rattle.document_laws.proofs.Acknowledged.{found_with}
+use Rattle.document_laws.proofs.Heard.{IsGood, IsPlain, effect_good}
 use Rattle.document_laws.proofs.KeyOrder.{same_is}
 use Rattle.document_laws.proofs.KeptViews.{asked_still, map_ids}
+use Rattle.document_laws.proofs.Lower.{found_view}
 use Rattle.document_laws.proofs.Ordered.{weaker}
 use Rattle.document_laws.proofs.Rising.{Follows, back_before, find_map, find_offers, newer_not_back, offered_follows, offered_id, offers_to, steps_rise, without_same}
 use Rattle.document_laws.proofs.Sending.{with_same, screen_other}
-use Rattle.document_laws.proofs.Tiles.{all_append}
-use Rattle.document_laws.proofs.Whole.{steps_keep}
+use Rattle.document_laws.proofs.Kept.{all_both, steps_keep}
 
 -- versions in two lists of frames
 versions_append : (id : ℕ) (key : Place) (xs ys : List (ViewId × Frame)) → versions_to id key (xs ++ ys) ≡ versions_to id key xs ++ versions_to id key ys
@@ -50,17 +54,14 @@ all_told id key (view ∷ views) damage =
     ∙ ap (λ ns. ns ++ versions_to id key (told views damage)) (one_told id key view damage)
     ∙ all_told id key views damage
 
-replied : (id : ℕ) (key : Place) (to : ℕ) (is : Effect) → versions_to id key (frames_of to is) ≡ []
-replied id key to (Refuses command kind) = refl
-replied id key to Greets = refl
-replied id key to (Inputs input) = refl
-replied id key to (Asks asked) = refl
-replied id key to Cancels = refl
-replied id key to (Looks area) = refl
-replied id key to (Zooms zoom) = refl
-replied id key to (GoesTo part) = refl
-replied id key to (Acknowledges wids) = refl
-replied id key to Passes = refl
+all_replied : (id : ℕ) (key : Place) (to : ℕ) (frames : List Frame) → AllByRecursion IsPlain frames → versions_to id key (map (λ frame. (named to, frame)) frames) ≡ []
+all_replied id key to [] plain = refl
+all_replied id key to (Tile shown version wid rgba ∷ frames) plain = absurd (plain.0)
+all_replied id key to (Server ∷ frames) plain = all_replied id key to frames plain.1
+all_replied id key to (Status kit parts size view readonly ∷ frames) plain = all_replied id key to frames plain.1
+all_replied id key to (Invalidate part rect ∷ frames) plain = all_replied id key to frames plain.1
+all_replied id key to (SaveDone inputs put ∷ frames) plain = all_replied id key to frames plain.1
+all_replied id key to (Error command kind code ∷ frames) plain = all_replied id key to frames plain.1
 
 module _ {C B S : Type 0} (rules : Rules C B) (d : Document S) (n : ℕ) where
   -- a tile that was sent is on the screen, and stays there while others are offered
@@ -178,7 +179,7 @@ module _ {C B S : Type 0} (rules : Rules C B) (d : Document S) (n : ℕ) where
       let rest : AllByRecursion P (versions_to id key (tiles_for rules d n keys (map (offered rules d n k) views))) =
       all_delivered v keys (map (offered rules d n k) views) id (offered rules d n k u) key (map_ids views (offered rules d n k) (offered_id rules d n k) order) (find_map rules d n k views id u live) (offered_follows rules d n v k key u follows) in
       subst (AllByRecursion P) (sym (versions_append id key (flat_map (tile_for rules d n k) views) (tiles_for rules d n keys (map (offered rules d n k) views))))
-      (all_append P (versions_to id key (flat_map (tile_for rules d n k) views)) (versions_to id key (tiles_for rules d n keys (map (offered rules d n k) views))) first rest)
+      (all_both P (versions_to id key (flat_map (tile_for rules d n k) views)) (versions_to id key (tiles_for rules d n keys (map (offered rules d n k) views))) first rest)
 
   -- painted tiles go to no view that isn't there
   nobody_there : (views : List View) (k key : Place) (id : ℕ) → find_view views id ≡ None → versions_to id key (flat_map (tile_for rules d n k) views) ≡ []
@@ -283,65 +284,68 @@ module _ {C B S : Type 0} (rules : Rules C B) (cut : C → Place → S) where
         ]
       ]
 
+  turn_delivers : (old new : Document S) (turned : TurnAnswer S) (outs : Outs S) → TurnsTo rules cut old turned new → outs ≡ outs_of turned → AllDelivered old outs new
+  turn_delivers old new (Worked given) outs turn are = subst (λ (o : Outs S). AllDelivered old o new) (sym are) (works_deliver old new given turn)
+  turn_delivers old new Idle outs turn are = no_tiles old new [] outs (ap (λ o. o.frames) are) (λ id key. refl)
+
   join_delivers : (old new : Document S) (rights : Rights) (outs : Outs S) (b : Bool) → JoinsWhere b rules old rights outs new → AllDelivered old outs new
   join_delivers old new rights outs true joins id key = inl (ap (λ o. versions_to id key o.frames) joins.0)
   join_delivers old new rights outs false joins id key = inl (ap (λ o. versions_to id key o.frames) joins.0)
 
-  paints_deliver : (old new : Document S) (ticket : ℕ) (scene : S) (outs : Outs S) (job : Option (Job S)) → IsWhole rules old → Paints rules old ticket scene outs new job → AllDelivered old outs new
-  paints_deliver old new ticket scene outs None whole paint = no_tiles old new [] outs (ap (λ o. o.frames) paint.0) (λ id key. refl)
-  paints_deliver old new ticket scene outs (Some job) whole paint =
+  paints_deliver : (old new : Document S) (ticket : ℕ) (scene : S) (outs : Outs S) (job : Option (Job S)) → IsKept rules cut old → Paints rules old ticket scene outs new job → AllDelivered old outs new
+  paints_deliver old new ticket scene outs None kept paint = no_tiles old new [] outs (ap (λ o. o.frames) paint.0) (λ id key. refl)
+  paints_deliver old new ticket scene outs (Some job) kept paint =
       elim paint [
         | inl other ↦ no_tiles old new [] outs (ap (λ o. o.frames) other.1) (λ id key. refl)
-        | inr taken ↦ paint_delivers old new job.number job.keys _ outs whole.kept.ids (ap (λ o. o.frames) taken.1) taken.2
+        | inr taken ↦ paint_delivers old new job.number job.keys _ outs kept.ids (ap (λ o. o.frames) taken.1) taken.2
       ]
 
   -- each tile that a step gives to a view is no step back on its screen, and is what its screen then has
-  pub steps_deliver : (old new : Document S) (event : Event S) (outs : Outs S) → IsWhole rules old → Step rules cut old event outs new → AllDelivered old outs new
-  steps_deliver old new (Joined rights) outs whole step = join_delivers old new rights outs (nat_lt (length old.views) 64) step
-  steps_deliver old new (Left view) outs whole step = no_tiles old new [] outs (ap (λ o. o.frames) step.0) (λ id key. refl)
-  steps_deliver old new (Said to text) outs whole step =
-      no_tiles old new (frames_of to (effect rules old step.view text)) outs (ap (λ o. o.frames) step.outs_are) (λ id key. replied id key to (effect rules old step.view text))
-  steps_deliver old new Turned outs whole step =
-      elim step [
-        | inl works ↦ works_deliver old new outs works
-        | inr idle ↦ no_tiles old new [] outs (ap (λ o. o.frames) idle.1) (λ id key. refl)
-      ]
-  steps_deliver old new (Painted ticket scene) outs whole step = paints_deliver old new ticket scene outs (find_job old.jobs ticket) whole step
+  pub steps_deliver : (old new : Document S) (event : Event S) (outs : Outs S) → IsKept rules cut old → Step rules cut old event outs new → AllDelivered old outs new
+  steps_deliver old new (Joined rights) outs kept step = join_delivers old new rights outs (nat_lt (length old.views) MOST_VIEWS) step
+  steps_deliver old new (Left view) outs kept step = no_tiles old new [] outs (ap (λ o. o.frames) step.0) (λ id key. refl)
+  steps_deliver old new (Said to text) outs kept step =
+      let e : Effect = effect rules old step.view text in
+      let of_view : IsViewKept rules old step.view = found_view (IsViewKept rules old) old.views to step.view kept.each step.live in
+      let good : IsGood rules old step.view e = effect_good rules old step.view of_view text in
+      no_tiles old new (map (λ frame. (named to, frame)) e.frames) outs (ap (λ o. o.frames) step.outs_are) (λ id key. all_replied id key to e.frames good.frames)
+  steps_deliver old new Turned outs kept step = turn_delivers old new step.0 outs step.1 step.2
+  steps_deliver old new (Painted ticket scene) outs kept step = paints_deliver old new ticket scene outs (find_job old.jobs ticket) kept step
 
   module _ (some : (base : List ℕ) → 0 < parts_of rules base) (id : ℕ) (key : Place) where
     -- while the screen of a view has a key, its version doesn't go down
-    held_rises : (events : List (Event S)) (old new : Document S) (outs : Outs S) (v : View) (had : ℕ) → IsWhole rules old → Run (StepsWith rules cut id key) old events outs new
+    held_rises : (events : List (Event S)) (old new : Document S) (outs : Outs S) (v : View) (had : ℕ) → IsKept rules cut old → Run (StepsWith rules cut id key) old events outs new
         → find_view old.views id ≡ Some v → version_of v.screen key ≡ Some had
         → (w : View) × (has : ℕ) × (find_view new.views id ≡ Some w) × (version_of w.screen key ≡ Some has) × (had ≤ has)
-    held_rises [] old new outs v had whole run live there =
+    held_rises [] old new outs v had kept run live there =
         let same : had ≤ had = omega arith in
         (v, had, ap (λ (e : Document S). find_view e.views id) run.1 ∙ live, there, same)
-    held_rises (event ∷ events) old new outs v had whole run live there =
+    held_rises (event ∷ events) old new outs v had kept run live there =
         let mid : Document S = run.0 in
         let step : Step rules cut old event run.1 mid = run.3.0 in
         let held : HasKey id key mid = run.3.1 in
-        let rises : had ≤ held.1 = steps_rise rules cut old mid event run.1 whole step id v held.0 live held.2 key had held.1 there held.3 in
-        let rest = held_rises events mid new run.2 held.0 held.1 (steps_keep rules cut some old mid event run.1 step whole) run.4 held.2 held.3 in
+        let rises : had ≤ held.1 = steps_rise rules cut old mid event run.1 kept step id v held.0 live held.2 key had held.1 there held.3 in
+        let rest = held_rises events mid new run.2 held.0 held.1 (steps_keep rules cut some old mid event run.1 step kept) run.4 held.2 held.3 in
         (rest.0, rest.1, rest.2, rest.3, omega (arith, rises, rest.4))
 
-    runs_with : (events : List (Event S)) (old new : Document S) (outs : Outs S) → IsWhole rules old → Run (StepsWith rules cut id key) old events outs new → IsWhole rules new
-    runs_with [] old new outs whole run = subst (IsWhole rules) (sym run.1) whole
-    runs_with (event ∷ events) old new outs whole run =
-        runs_with events run.0 new run.2 (steps_keep rules cut some old run.0 event run.1 run.3.0 whole) run.4
+    runs_with : (events : List (Event S)) (old new : Document S) (outs : Outs S) → IsKept rules cut old → Run (StepsWith rules cut id key) old events outs new → IsKept rules cut new
+    runs_with [] old new outs kept run = subst (IsKept rules cut) (sym run.1) kept
+    runs_with (event ∷ events) old new outs kept run =
+        runs_with events run.0 new run.2 (steps_keep rules cut some old run.0 event run.1 run.3.0 kept) run.4
 
     -- of two tiles of the key to the view between which its screen had the key, the later has no lower version
-    pub frames_rise : (old mid late new : Document S) (first last : Event S) (between : List (Event S)) (outs held later : Outs S) → IsWhole rules old
+    pub frames_rise : (old mid late new : Document S) (first last : Event S) (between : List (Event S)) (outs held later : Outs S) → IsKept rules cut old
         → StepsWith rules cut id key old first outs mid → Run (StepsWith rules cut id key) mid between held late → Step rules cut late last later new
         → AllByRecursion (λ n. AllByRecursion (λ m. n ≤ m) (versions_to id key later.frames)) (versions_to id key outs.frames)
-    frames_rise old mid late new first last between outs held later whole one run two =
-        let whole_mid : IsWhole rules mid = steps_keep rules cut some old mid first outs one.0 whole in
+    frames_rise old mid late new first last between outs held later kept one run two =
+        let kept_mid : IsKept rules cut mid = steps_keep rules cut some old mid first outs one.0 kept in
         let has : HasKey id key mid = one.1 in
-        let on = held_rises between mid late held has.0 has.1 whole_mid run has.2 has.3 in
+        let on = held_rises between mid late held has.0 has.1 kept_mid run has.2 has.3 in
         let P : ℕ → Type 0 = λ n. AllByRecursion (λ m. n ≤ m) (versions_to id key later.frames) in
         let none_later : versions_to id key later.frames ≡ [] → (n : ℕ) → P n = λ none n. subst (AllByRecursion (λ m. n ≤ m)) (sym none) tt in
-        let whole_late : IsWhole rules late = runs_with between mid late held whole_mid run in
+        let kept_late : IsKept rules cut late = runs_with between mid late held kept_mid run in
         let ends : (n : ℕ) → n ≤ on.1 → P n = λ n le.
-        elim (steps_deliver late new last later whole_late two id key) [
+        elim (steps_deliver late new last later kept_late two id key) [
           | inl none ↦ none_later none n
           | inr given ↦
               let e : Some given.before ≡ Some on.0 = sym given.was ∙ on.2 in
@@ -350,7 +354,7 @@ module _ {C B S : Type 0} (rules : Rules C B) (cut : C → Place → S) where
               weaker (λ m. is_not_back (version_of given.before.screen key) m ≡ true) (λ m. n ≤ m) (versions_to id key later.frames)
               (λ m p. let above : on.1 ≤ m = leb-true on.1 m (ap (λ o. is_not_back o m) (sym had) ∙ p) in omega arith) given.no_step_back
         ] in
-        elim (steps_deliver old mid first outs whole one.0 id key) [
+        elim (steps_deliver old mid first outs kept one.0 id key) [
           | inl none ↦ subst (AllByRecursion P) (sym none) tt
           | inr given ↦
               let e : Some given.later ≡ Some has.0 = sym given.is ∙ has.2 in

@@ -12,21 +12,22 @@ use Rattle.kit_trait.specs.declared.values.Input.{Input}
 use Rattle.tile_key.specs.Places.{Place}
 use Rattle.document_machine.specs.Due.{parts_of, takes, tile_frame}
 use Rattle.document_machine.specs.Event.{Event, Joined, Left, Said, Turned, Painted}
-use Rattle.document_machine.specs.Message.{Effect, Refuses, Greets, Inputs, Asks, Cancels, Looks, Zooms, GoesTo, Acknowledges, Passes, effect, frames_of, took}
-use Rattle.document_machine.specs.Outputs.{named}
+use Rattle.document_machine.specs.Kept.{IsKept, IsViewKept, IsJobKept}
+use Rattle.document_machine.specs.Message.{Effect, effect, heard}
+use Rattle.document_machine.specs.Outputs.{named, outs_of}
 use Rattle.document_machine.specs.Run.{Segment}
 use Rattle.document_machine.specs.State.{View, Job, Document, find_job}
-use Rattle.document_machine.specs.Step.{JoinsWhere, Works, Paints, Step, told, offered, tile_for, tiles_for}
+use Rattle.document_machine.specs.Step.{JoinsWhere, Works, TurnsTo, Paints, Step, told, offered, tile_for, tiles_for}
+use Rattle.document_machine.specs.declared.limits.TheConstants.{MOST_VIEWS}
 use Rattle.document_machine.specs.declared.outs.Outs.{Outs}
+use Rattle.document_machine.specs.declared.outs.Turned.{Turned as TurnAnswer}
+use Rattle.document_machine.specs.declared.outs.Turned.TheVariants.{Worked, Idle}
 use Rattle.document_machine.specs.declared.rights.Rights.{Rights}
 use Rattle.document_laws.specs.Tiles.{IsShown}
-use Rattle.document_laws.specs.Whole.{IsWhole}
-use Rattle.document_laws.proofs.Whole.{found_job, steps_keep}
-
--- what holds of two lists holds of both together
-pub all_append : {X : Type 0} (P : X → Type 0) (xs ys : List X) → AllByRecursion P xs → AllByRecursion P ys → AllByRecursion P (xs ++ ys)
-all_append P [] ys a b = b
-all_append P (x ∷ xs) ys a b = (a.0, all_append P xs ys a.1 b)
+use Rattle.document_laws.proofs.Heard.{IsGood, IsPlain, effect_good}
+use Rattle.document_laws.proofs.Kept.{all_both, found_job, steps_keep}
+use Rattle.document_laws.proofs.Lower.{found_view}
+use Rattle.document_laws.proofs.Ordered.{weaker}
 
 module _ {C B : Type 0} (rules : Rules C B) (base : List ℕ) (journal : List Input) (most : ℕ) where
   -- frames that are no tiles
@@ -37,19 +38,16 @@ module _ {C B : Type 0} (rules : Rules C B) (base : List ℕ) (journal : List In
   all_told : (views : List View) (damage : List Damage) → AllByRecursion (IsShown rules base journal most) (told views damage)
   all_told [] damage = tt
   all_told (view ∷ views) damage =
-      all_append (IsShown rules base journal most) (map (λ d. (named view.id, Invalidate d.part d.rect)) damage) (told views damage) (one_told view damage) (all_told views damage)
+      all_both (IsShown rules base journal most) (map (λ d. (named view.id, Invalidate d.part d.rect)) damage) (told views damage) (one_told view damage) (all_told views damage)
 
-  all_replied : (id : ℕ) (is : Effect) → AllByRecursion (IsShown rules base journal most) (frames_of id is)
-  all_replied id (Refuses command kind) = (tt, tt)
-  all_replied id Greets = (tt, tt)
-  all_replied id (Inputs input) = tt
-  all_replied id (Asks asked) = tt
-  all_replied id Cancels = tt
-  all_replied id (Looks area) = tt
-  all_replied id (Zooms zoom) = tt
-  all_replied id (GoesTo part) = tt
-  all_replied id (Acknowledges wids) = tt
-  all_replied id Passes = tt
+  all_replied : (id : ℕ) (frames : List Frame) → AllByRecursion IsPlain frames → AllByRecursion (IsShown rules base journal most) (map (λ frame. (named id, frame)) frames)
+  all_replied id [] plain = tt
+  all_replied id (Tile key version wid rgba ∷ frames) plain = absurd (plain.0)
+  all_replied id (Server ∷ frames) plain = (tt, all_replied id frames plain.1)
+  all_replied id (Status kit parts size view readonly ∷ frames) plain = (tt, all_replied id frames plain.1)
+  all_replied id (Invalidate part rect ∷ frames) plain = (tt, all_replied id frames plain.1)
+  all_replied id (SaveDone inputs put ∷ frames) plain = (tt, all_replied id frames plain.1)
+  all_replied id (Error command kind code ∷ frames) plain = (tt, all_replied id frames plain.1)
 
 -- a frame still shows what it says when inputs are behind those that there were
 module _ {C B : Type 0} (rules : Rules C B) (base : List ℕ) where
@@ -85,12 +83,12 @@ module _ {C B S : Type 0} (rules : Rules C B) (d : Document S) where
   views_shown : (version : ℕ) (key : Place) (views : List View) → version ≤ d.applied → AllByRecursion Shows (flat_map (tile_for rules d version key) views)
   views_shown version key [] past = tt
   views_shown version key (view ∷ views) past =
-      all_append Shows (tile_for rules d version key view) (flat_map (tile_for rules d version key) views) (tile_shown version key view past) (views_shown version key views past)
+      all_both Shows (tile_for rules d version key view) (flat_map (tile_for rules d version key) views) (tile_shown version key view past) (views_shown version key views past)
 
   all_tiles_shown : (version : ℕ) (keys : List Place) (views : List View) → version ≤ d.applied → AllByRecursion Shows (tiles_for rules d version keys views)
   all_tiles_shown version [] views past = tt
   all_tiles_shown version (key ∷ keys) views past =
-      all_append Shows (flat_map (tile_for rules d version key) views) (tiles_for rules d version keys (map (offered rules d version key) views))
+      all_both Shows (flat_map (tile_for rules d version key) views) (tiles_for rules d version keys (map (offered rules d version key) views))
       (views_shown version key views past) (all_tiles_shown version keys (map (offered rules d version key) views) past)
 
 module _ {C B S : Type 0} (rules : Rules C B) (cut : C → Place → S) where
@@ -108,29 +106,34 @@ module _ {C B S : Type 0} (rules : Rules C B) (cut : C → Place → S) where
         ]
       ]
 
+  turn_shows : (old new : Document S) (turned : TurnAnswer S) (outs : Outs S) → TurnsTo rules cut old turned new → outs ≡ outs_of turned → AllShown old outs
+  turn_shows old new (Worked given) outs turn are = subst (AllShown old) (sym are) (works_show old new given turn)
+  turn_shows old new Idle outs turn are = subst (AllShown old) (sym are) tt
+
   join_shows : (old new : Document S) (rights : Rights) (outs : Outs S) (b : Bool) → JoinsWhere b rules old rights outs new → AllShown old outs
   join_shows old new rights outs true joins = subst (AllShown old) (sym joins.0) (tt, tt)
   join_shows old new rights outs false joins = subst (AllShown old) (sym joins.0) tt
 
-  paints_show : (old new : Document S) (ticket : ℕ) (scene : S) (outs : Outs S) (job : Option (Job S)) → IsWhole rules old → find_job old.jobs ticket ≡ job → Paints rules old ticket scene outs new job → AllShown old outs
-  paints_show old new ticket scene outs None whole found paint = subst (AllShown old) (sym paint.0) tt
-  paints_show old new ticket scene outs (Some job) whole found paint =
+  paints_show : (old new : Document S) (ticket : ℕ) (scene : S) (outs : Outs S) (job : Option (Job S)) → IsKept rules cut old → find_job old.jobs ticket ≡ job → Paints rules old ticket scene outs new job → AllShown old outs
+  paints_show old new ticket scene outs None kept found paint = subst (AllShown old) (sym paint.0) tt
+  paints_show old new ticket scene outs (Some job) kept found paint =
+      let numbers : AllByRecursion (λ j. j.number ≤ old.applied) old.jobs = weaker (IsJobKept rules cut old) (λ j. j.number ≤ old.applied) old.jobs (λ j is. is.number) kept.jobs in
       elim paint [
         | inl other ↦ subst (AllShown old) (sym other.1) tt
         | inr taken ↦ subst (AllShown old) (sym taken.1)
-            (all_tiles_shown rules old job.number job.keys old.views (found_job (λ j. j.number ≤ old.applied) old.jobs ticket job whole.jobs.numbers found))
+            (all_tiles_shown rules old job.number job.keys old.views (found_job (λ j. j.number ≤ old.applied) old.jobs ticket job numbers found))
       ]
 
-  pub step_shows : (old new : Document S) (event : Event S) (outs : Outs S) → IsWhole rules old → Step rules cut old event outs new → AllByRecursion (IsShown rules old.base old.journal old.applied) outs.frames
-  step_shows old new (Joined rights) outs whole step = join_shows old new rights outs (nat_lt (length old.views) 64) step
-  step_shows old new (Left view) outs whole step = subst (AllShown old) (sym step.0) tt
-  step_shows old new (Said id text) outs whole step = subst (AllShown old) (sym step.outs_are) (all_replied rules old.base old.journal old.applied id (effect rules old step.view text))
-  step_shows old new Turned outs whole step =
-      elim step [
-        | inl works ↦ works_show old new outs works
-        | inr idle ↦ subst (AllShown old) (sym idle.1) tt
-      ]
-  step_shows old new (Painted ticket scene) outs whole step = paints_show old new ticket scene outs (find_job old.jobs ticket) whole refl step
+  pub step_shows : (old new : Document S) (event : Event S) (outs : Outs S) → IsKept rules cut old → Step rules cut old event outs new → AllByRecursion (IsShown rules old.base old.journal old.applied) outs.frames
+  step_shows old new (Joined rights) outs kept step = join_shows old new rights outs (nat_lt (length old.views) MOST_VIEWS) step
+  step_shows old new (Left view) outs kept step = subst (AllShown old) (sym step.0) tt
+  step_shows old new (Said id text) outs kept step =
+      let e : Effect = effect rules old step.view text in
+      let of_view : IsViewKept rules old step.view = found_view (IsViewKept rules old) old.views id step.view kept.each step.live in
+      let good : IsGood rules old step.view e = effect_good rules old step.view of_view text in
+      subst (AllShown old) (sym step.outs_are) (all_replied rules old.base old.journal old.applied id e.frames good.frames)
+  step_shows old new Turned outs kept step = turn_shows old new step.0 outs step.1 step.2
+  step_shows old new (Painted ticket scene) outs kept step = paints_show old new ticket scene outs (find_job old.jobs ticket) kept refl step
 
   -- the inputs of a document go on, and its file stays
   abbrev GoesOn : Document S → Document S → Type 0
@@ -139,17 +142,8 @@ module _ {C B S : Type 0} (rules : Rules C B) (cut : C → Place → S) where
   stays : (old : Document S) → GoesOn old old
   stays old = (refl, [], sym (append-nil old.journal))
 
-  took_on : (old : Document S) (id : ℕ) (is : Effect) → GoesOn old (took rules old id is)
-  took_on old id (Refuses command kind) = stays old
-  took_on old id Greets = stays old
-  took_on old id (Inputs input) = (refl, input ∷ [], refl)
-  took_on old id (Asks asked) = stays old
-  took_on old id Cancels = stays old
-  took_on old id (Looks area) = stays old
-  took_on old id (Zooms zoom) = stays old
-  took_on old id (GoesTo part) = stays old
-  took_on old id (Acknowledges wids) = stays old
-  took_on old id Passes = stays old
+  heard_on : (old : Document S) (id : ℕ) (e : Effect) → GoesOn old (heard old id e)
+  heard_on old id e = (refl, e.inputs, refl)
 
   works_on : (old new : Document S) (outs : Outs S) → Works rules cut old outs new → GoesOn old new
   works_on old new outs works =
@@ -160,6 +154,10 @@ module _ {C B S : Type 0} (rules : Rules C B) (cut : C → Place → S) where
           | inr cuts ↦ subst (GoesOn old) (sym cuts.new_is) (stays old)
         ]
       ]
+
+  turn_on : (old new : Document S) (turned : TurnAnswer S) → TurnsTo rules cut old turned new → GoesOn old new
+  turn_on old new (Worked outs) turn = works_on old new outs turn
+  turn_on old new Idle turn = subst (GoesOn old) (sym turn.1) (stays old)
 
   join_on : (old new : Document S) (rights : Rights) (outs : Outs S) (b : Bool) → JoinsWhere b rules old rights outs new → GoesOn old new
   join_on old new rights outs true joins = subst (GoesOn old) (sym joins.1) (stays old)
@@ -174,14 +172,10 @@ module _ {C B S : Type 0} (rules : Rules C B) (cut : C → Place → S) where
       ]
 
   pub step_on : (old new : Document S) (event : Event S) (outs : Outs S) → Step rules cut old event outs new → GoesOn old new
-  step_on old new (Joined rights) outs step = join_on old new rights outs (nat_lt (length old.views) 64) step
+  step_on old new (Joined rights) outs step = join_on old new rights outs (nat_lt (length old.views) MOST_VIEWS) step
   step_on old new (Left view) outs step = subst (GoesOn old) (sym step.1) (stays old)
-  step_on old new (Said id text) outs step = subst (GoesOn old) (sym step.new_is) (took_on old id (effect rules old step.view text))
-  step_on old new Turned outs step =
-      elim step [
-        | inl works ↦ works_on old new outs works
-        | inr idle ↦ subst (GoesOn old) (sym idle.2) (stays old)
-      ]
+  step_on old new (Said id text) outs step = subst (GoesOn old) (sym step.new_is) (heard_on old id (effect rules old step.view text))
+  step_on old new Turned outs step = turn_on old new step.0 step.1
   step_on old new (Painted ticket scene) outs step = paints_on old new ticket scene outs (find_job old.jobs ticket) step
 
   goes_on : (old mid new : Document S) → GoesOn old mid → GoesOn mid new → GoesOn old new
@@ -192,18 +186,18 @@ module _ {C B S : Type 0} (rules : Rules C B) (cut : C → Place → S) where
   run_on [] old new outs run = subst (GoesOn old) (sym run.1) (stays old)
   run_on (event ∷ events) old new outs run = goes_on old run.0 new (step_on old run.0 event run.1 run.3) (run_on events run.0 new run.2 run.4)
 
-  pub run_shows : ((base : List ℕ) → 0 < parts_of rules base) → (events : List (Event S)) (old new : Document S) (outs : Outs S) → IsWhole rules old → Segment rules cut old events outs new → AllByRecursion (IsShown rules new.base new.journal (length new.journal)) outs.frames
-  run_shows some [] old new outs whole run = subst (λ (o : Outs S). AllByRecursion (IsShown rules new.base new.journal (length new.journal)) o.frames) (sym run.0) tt
-  run_shows some (event ∷ events) old new outs whole run =
-      let here = step_shows old run.0 event run.1 whole run.3 in
+  pub run_shows : ((base : List ℕ) → 0 < parts_of rules base) → (events : List (Event S)) (old new : Document S) (outs : Outs S) → IsKept rules cut old → Segment rules cut old events outs new → AllByRecursion (IsShown rules new.base new.journal (length new.journal)) outs.frames
+  run_shows some [] old new outs kept run = subst (λ (o : Outs S). AllByRecursion (IsShown rules new.base new.journal (length new.journal)) o.frames) (sym run.0) tt
+  run_shows some (event ∷ events) old new outs kept run =
+      let here = step_shows old run.0 event run.1 kept run.3 in
       let on = goes_on old run.0 new (step_on old run.0 event run.1 run.3) (run_on events run.0 new run.2 run.4) in
       let longer : length new.journal ≡ length old.journal + length on.1 = ap length on.2 ∙ length-append old.journal on.1 in
-      let level : old.applied ≤ length old.journal = whole.kept.level in
+      let level : old.applied ≤ length old.journal = kept.level in
       let first : AllByRecursion (IsShown rules old.base (old.journal ++ on.1) (length new.journal)) run.1.frames =
       all_shown_more rules old.base old.journal on.1 old.applied (length new.journal) level (omega arith) run.1.frames here in
       let moved : AllByRecursion (IsShown rules new.base new.journal (length new.journal)) run.1.frames =
       subst (λ (b : List ℕ). AllByRecursion (IsShown rules b new.journal (length new.journal)) run.1.frames) (sym on.0)
       (subst (λ (j : List Input). AllByRecursion (IsShown rules old.base j (length new.journal)) run.1.frames) (sym on.2) first) in
-      let rest = run_shows some events run.0 new run.2 (steps_keep rules cut some old run.0 event run.1 run.3 whole) run.4 in
+      let rest = run_shows some events run.0 new run.2 (steps_keep rules cut some old run.0 event run.1 run.3 kept) run.4 in
       subst (λ (o : Outs S). AllByRecursion (IsShown rules new.base new.journal (length new.journal)) o.frames) (sym run.5)
-      (all_append (IsShown rules new.base new.journal (length new.journal)) run.1.frames run.2.frames moved rest)
+      (all_both (IsShown rules new.base new.journal (length new.journal)) run.1.frames run.2.frames moved rest)

@@ -3,10 +3,10 @@ use Rattle.std.specs.Prelude.{◌≡◌, ◌≢◌, ℕ, ◌<◌, List, [], map,
 use Rattle.kit_trait.specs.declared.jobs.PaintJob.{PaintJob}
 use Rattle.kit_trait.specs.Rules.{Rules}
 use Rattle.document_machine.specs.Event.{Event, Painted}
-use Rattle.document_machine.specs.Message.{Acknowledges, took}
+use Rattle.document_machine.specs.Message.{acknowledged}
 use Rattle.document_machine.specs.Outputs.{nothing}
 use Rattle.document_machine.specs.Rank.{left_to_do}
-use Rattle.document_machine.specs.State.{View, Document, find_view}
+use Rattle.document_machine.specs.State.{View, Document, find_view, with_view}
 use Rattle.document_machine.specs.declared.outs.Outs.{Outs}
 
 -- a job comes back with the very scene that it was given out with
@@ -21,11 +21,15 @@ all_answered outs = map answered outs.jobs
 abbrev pub numbers : View → List ℕ
 numbers view = map (λ tile. tile.wid) view.window
 
+-- a view acknowledges these numbers, and nothing else changes
+abbrev pub acknowledges : {S : Type 0} → Document S → ℕ → List ℕ → Document S
+acknowledges d id wids = record d { views = with_view d.views id (acknowledged wids) }
+
 -- a view has acknowledged all that it was sent: nothing is sent for that, its window is empty and it is else
 -- as before, the other views and the jobs out are as before, and less is left to do
 pub record IsAcknowledged {C B S : Type 0} (rules : Rules C B) (old : Document S) (id : ℕ) (view : View) (outs : Outs S) (new : Document S) : Type 0 where
   pub outs_are : outs ≡ nothing
-  pub new_is : new ≡ took rules old id (Acknowledges (numbers view))
+  pub new_is : new ≡ acknowledges old id (numbers view)
   pub empty : find_view new.views id ≡ Some (record view { window = [] })
   pub others : (other : ℕ) → other ≢ id → find_view new.views other ≡ find_view old.views other
   pub jobs : new.jobs ≡ old.jobs

@@ -1,5 +1,3 @@
-pub mod Apart
 pub mod AtOnce
-pub mod InARow
 pub mod Tiles
-pub mod Whole
+pub mod Turns

@@ -2,3 +2,4 @@ pub mod Runs
 pub mod Lists
 pub mod Present
 pub mod Journal
+pub mod Turns

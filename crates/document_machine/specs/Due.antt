@@ -15,6 +15,7 @@ use Rattle.tile_key.specs.Visible.{visible_keys}
 use Rattle.document_machine.specs.Keys.{is_among, ordered}
 use Rattle.document_machine.specs.Outputs.{named}
 use Rattle.document_machine.specs.State.{Shown, View, Job, Document}
+use Rattle.send_window.specs.declared.windows.TheConstants.{MOST_SENT}
 
 -- how many parts the document has, by the bytes that it was loaded from
 abbrev pub parts_of : {C B : Type 0} → Rules C B → List ℕ → ℕ
@@ -44,14 +45,21 @@ touched rules base journal version key (suc n) =
     touched rules base journal version key n
     || (nat_le version n && is_hurt (damage_of rules base journal n) key)
 
--- the keys that a view sees: those of its part and its zoom that have a point in common with its area and
--- with the part, in key order
-abbrev pub visible : {C B S : Type 0} → Rules C B → Document S → View → List Place
-visible rules d view = visible_keys view.part view.zoom view.area (size_of rules d.base view.part)
+-- the keys that a view sees in a document with parts of these sizes: those of its part and its zoom that
+-- have a point in common with its area and with the part, in key order
+abbrev pub seen_keys : (sizes : ℕ → Extent) → View → List Place
+seen_keys sizes view = visible_keys view.part view.zoom view.area (sizes view.part)
 
--- a view sees the key or asked for it
+-- a view sees the key or asked for it, in a document with parts of these sizes
+abbrev pub wants : (sizes : ℕ → Extent) → View → Place → Bool
+wants sizes view key = is_among (seen_keys sizes view) key || is_among view.asked key
+
+-- the same in a document
+abbrev pub visible : {C B S : Type 0} → Rules C B → Document S → View → List Place
+visible rules d view = seen_keys (size_of rules d.base) view
+
 abbrev pub sees_or_asks : {C B S : Type 0} → Rules C B → Document S → View → Place → Bool
-sees_or_asks rules d view key = is_among (visible rules d view) key || is_among view.asked key
+sees_or_asks rules d view key = wants (size_of rules d.base) view key
 
 -- the keys that a view sees or asked for, each once, in key order
 abbrev pub keys : {C B S : Type 0} → Rules C B → Document S → View → List Place
@@ -72,9 +80,9 @@ abbrev pub is_due : {C B S : Type 0} → Rules C B → Document S → View → P
 is_due rules d view key =
     (is_among (visible rules d view) key && is_lacking rules d key (version_of view.screen key)) || is_among view.asked key
 
--- a view has room for one more tile that it has not acknowledged, of 64
+-- a view has room for one more tile that it has not acknowledged
 abbrev pub has_room : View → Bool
-has_room view = nat_lt (length view.window) 64
+has_room view = nat_lt (length view.window) MOST_SENT
 
 -- a job of the key is out
 abbrev pub is_out : {S : Type 0} → List (Job S) → Place → Bool

@@ -4,8 +4,8 @@ pub mod Outputs
 pub mod Due
 pub mod Message
 pub mod Event
-pub mod Step
 pub mod Next
+pub mod Step
 pub mod Run
 pub mod Quiet
 pub mod Rank

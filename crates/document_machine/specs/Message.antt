@@ -1,11 +1,10 @@
 -- What a message of a view does.
-use Rattle.std.specs.Prelude.{ℕ, not, List, [], ◌∷◌, ◌++◌, length, filter, nat_eq, nat_le, nat_lt, Option, None, Some, Result, Ok, Err, codes, if◌then◌else◌}
+use Rattle.std.specs.Prelude.{ℕ, not, List, [], ◌∷◌, ◌++◌, length, filter, map, nat_eq, nat_le, nat_lt, Option, None, Some, Result, Ok, Err, codes, if◌then◌else◌}
 use Rattle.std.specs.List.{list_any}
-use Rattle.cool_base.specs.Points.{Rectangle, Extent}
+use Rattle.cool_base.specs.Points.{Extent}
 use Rattle.cool_message.specs.Asked.{keys_of}
 use Rattle.cool_frame.specs.declared.kind.ErrorKind.{ErrorKind}
 use Rattle.cool_frame.specs.declared.kind.ErrorKind.TheVariants.{BadMessage, AlreadyLoaded, ReadOnly, InputsFull, BadTile, TooLarge, AskedFull}
-use Rattle.cool_base.specs.declared.ids.ViewId.{ViewId}
 use Rattle.cool_frame.specs.declared.frame.Frame.{Frame}
 use Rattle.cool_frame.specs.declared.frame.Frame.TheVariants.{Server, Error}
 use Rattle.cool_message.specs.Command.{command_name}
@@ -22,46 +21,67 @@ use Rattle.kit_trait.specs.declared.values.Input.{Input}
 use Rattle.kit_trait.specs.declared.values.What.{What}
 use Rattle.kit_trait.specs.declared.values.What.TheVariants.{Key as Typed, Mouse as Pressed}
 use Rattle.tile_key.specs.Places.{Place, Scale, zoom_of}
-use Rattle.tile_key.specs.Visible.{visible_keys, is_too_large}
-use Rattle.document_machine.specs.Due.{parts_of, size_of, visible, sees_or_asks}
+use Rattle.tile_key.specs.Visible.{is_too_large}
+use Rattle.document_machine.specs.Due.{parts_of, size_of, seen_keys, wants}
 use Rattle.document_machine.specs.Keys.{is_among}
 use Rattle.document_machine.specs.Outputs.{named, frames_only}
 use Rattle.document_machine.specs.State.{View, Document, with_view}
+use Rattle.document_machine.specs.declared.limits.TheConstants.{MOST_ASKED, MOST_INPUTS}
 use Rattle.document_machine.specs.declared.outs.Outs.{Outs}
 
--- the one effect of a message: it is refused, it is greeted back, it is an input, the view asks for these
--- keys from now on, the view asks only for what it sees, it looks at this area, it takes this zoom, it goes
--- to this part, it has drawn the tiles with these numbers, or nothing changes
-pub data Effect : Type 0 where
-  Refuses : (command : List ℕ) (kind : ErrorKind) → Effect
-  Greets : Effect
-  Inputs : (input : Input) → Effect
-  Asks : (asked : List Place) → Effect
-  Cancels : Effect
-  Looks : (area : Rectangle) → Effect
-  Zooms : (zoom : Scale) → Effect
-  GoesTo : (part : ℕ) → Effect
-  Acknowledges : (wids : List ℕ) → Effect
-  Passes : Effect
+-- what a message meets in a document: how many inputs are accepted, how many parts there are, and the
+-- size of each
+pub record Limits : Type 0 where
+  pub inputs : ℕ
+  pub parts : ℕ
+  pub sizes : ℕ → Extent
 
--- an input is refused where the view may not write, and then where the journal has 524,288 inputs
-abbrev pub input_effect : (count : ℕ) → View → List ℕ → What → Effect
-input_effect count view command what =
+-- the limits of a document
+abbrev pub limits_of : {C B S : Type 0} → Rules C B → Document S → Limits
+limits_of rules d =
+    record { inputs = length d.journal; parts = parts_of rules d.base; sizes = size_of rules d.base }
+
+-- the one effect of a message: the frames that its view gets, the inputs that are accepted, and what the
+-- view is after it
+pub record Effect : Type 0 where
+  pub frames : List Frame
+  pub inputs : List Input
+  pub view : View
+
+-- the view is this one now, and nothing else comes of the message
+abbrev pub becomes : View → Effect
+becomes view = record { frames = []; inputs = []; view = view }
+
+-- the view gets one frame, and nothing changes
+abbrev pub answers : View → Frame → Effect
+answers view frame = record (becomes view) { frames = frame ∷ [] }
+
+-- the message is refused: an error frame with its command, and nothing changes
+abbrev pub refuses : View → (command : List ℕ) → ErrorKind → Effect
+refuses view command kind = answers view (Error command kind None)
+
+-- an input is accepted
+abbrev pub enters : View → Input → Effect
+enters view input = record (becomes view) { inputs = input ∷ [] }
+
+-- an input is refused where the view may not write, and then where the journal is full
+abbrev pub input_effect : Limits → View → (command : List ℕ) → What → Effect
+input_effect limits view command what =
     if view.rights.can_write then
-    (if nat_le 524288 count then Refuses command InputsFull
-    else Inputs (record { view = named view.id; part = view.part; what = what }))
-    else Refuses command ReadOnly
+    (if nat_le MOST_INPUTS limits.inputs then refuses view command InputsFull
+    else enters view (record { view = named view.id; part = view.part; what = what }))
+    else refuses view command ReadOnly
 
 -- a key that goes down is an input; one that is let go changes nothing
-abbrev pub key_effect : (count : ℕ) → View → KeyKind → What → Effect
-key_effect count view Down what = input_effect count view (codes "key") what
-key_effect count view Up what = Passes
+abbrev pub key_effect : Limits → View → KeyKind → What → Effect
+key_effect limits view Down what = input_effect limits view (codes "key") what
+key_effect limits view Up what = becomes view
 
 -- a button that goes down is an input; one that is let go changes nothing, and so does a move
-abbrev pub mouse_effect : (count : ℕ) → View → MouseKind → What → Effect
-mouse_effect count view ButtonDown what = input_effect count view (codes "mouse") what
-mouse_effect count view ButtonUp what = Passes
-mouse_effect count view Move what = Passes
+abbrev pub mouse_effect : Limits → View → MouseKind → What → Effect
+mouse_effect limits view ButtonDown what = input_effect limits view (codes "mouse") what
+mouse_effect limits view ButtonUp what = becomes view
+mouse_effect limits view Move what = becomes view
 
 -- the asked keys with one more behind them, where it isn't asked for yet
 abbrev pub asked_with : List Place → Place → List Place
@@ -73,114 +93,87 @@ asked_with_all asked [] = asked
 asked_with_all asked (key ∷ keys) = asked_with_all (asked_with asked key) keys
 
 -- asked tiles are refused where one of them is no key or its part is none of the document's, and then
--- where the asked keys would be more than 1,024; so all of them are asked for, or none
-abbrev pub asking_effect : View → List ℕ → Option (List Place) → Effect
-asking_effect view command None = Refuses command BadTile
+-- where the asked keys would be too many; so all of them are asked for, or none
+abbrev pub asking_effect : View → (command : List ℕ) → Option (List Place) → Effect
+asking_effect view command None = refuses view command BadTile
 asking_effect view command (Some keys) =
-    if nat_lt 1024 (length (asked_with_all view.asked keys)) then Refuses command AskedFull
-    else Asks (asked_with_all view.asked keys)
+    if nat_lt MOST_ASKED (length (asked_with_all view.asked keys)) then refuses view command AskedFull
+    else becomes (record view { asked = asked_with_all view.asked keys })
+
+-- a screen forgets the keys that its view neither sees nor asks for
+abbrev pub forgets : (sizes : ℕ → Extent) → View → View
+forgets sizes view = record view { screen = filter (λ shown. wants sizes view shown.key) view.screen }
+
+-- a view that cancels: of the asked keys those stay asked for that it sees
+abbrev pub cancels : (sizes : ℕ → Extent) → View → View
+cancels sizes view = forgets sizes (record view { asked = filter (is_among (seen_keys sizes view)) view.asked })
 
 -- a change of what a view sees is refused where it would see more than 4,096 keys, or more than 16,777,216
 -- pixels
-abbrev pub seeing_effect : (sizes : ℕ → Extent) (command : List ℕ) (part : ℕ) → Scale → Rectangle → Effect → Effect
-seeing_effect sizes command part zoom area change =
-    if is_too_large zoom (length (visible_keys part zoom area (sizes part))) then Refuses command TooLarge else change
+abbrev pub seeing_effect : (sizes : ℕ → Extent) → View → (command : List ℕ) → (changed : View) → Effect
+seeing_effect sizes view command changed =
+    if is_too_large changed.zoom (length (seen_keys sizes changed)) then refuses view command TooLarge
+    else becomes (forgets sizes changed)
 
 -- a zoom is refused where its numbers make none, and then where the view would see too much
 abbrev pub zooming_effect : (sizes : ℕ → Extent) → View → Option Scale → Effect
-zooming_effect sizes view None = Refuses (codes "clientzoom") BadTile
-zooming_effect sizes view (Some zoom) = seeing_effect sizes (codes "clientzoom") view.part zoom view.area (Zooms zoom)
+zooming_effect sizes view None = refuses view (codes "clientzoom") BadTile
+zooming_effect sizes view (Some zoom) = seeing_effect sizes view (codes "clientzoom") (record view { zoom = zoom })
 
 -- a part is refused where the document has no such part, and then where the view would see too much
-abbrev pub going_effect : (parts : ℕ) (sizes : ℕ → Extent) → View → (part : ℕ) → Effect
-going_effect parts sizes view part =
-    if nat_lt part parts then seeing_effect sizes (codes "setclientpart") part view.zoom view.area (GoesTo part)
-    else Refuses (codes "setclientpart") BadTile
-
--- the effect of each message, where so many inputs are accepted and there are so many parts of these sizes
-abbrev pub message_effect : (count parts : ℕ) (sizes : ℕ → Extent) → View → ClientMessage → Effect
-message_effect count parts sizes view CoolClient = Greets
-message_effect count parts sizes view (Load url) = Refuses (codes "load") AlreadyLoaded
-message_effect count parts sizes view (Key kind chr code) = key_effect count view kind (Typed chr code)
-message_effect count parts sizes view (Mouse kind x y clicks buttons modifier) =
-    mouse_effect count view kind (Pressed x y clicks buttons modifier)
-message_effect count parts sizes view (Tile words) = asking_effect view (codes "tile") (keys_of parts (Tile words))
-message_effect count parts sizes view (TileCombine words) = asking_effect view (codes "tilecombine") (keys_of parts (TileCombine words))
-message_effect count parts sizes view CancelTiles = Cancels
-message_effect count parts sizes view (VisibleArea area) = seeing_effect sizes (codes "clientvisiblearea") view.part view.zoom area (Looks area)
-message_effect count parts sizes view (Zoom pixel_w pixel_h twip_w twip_h nviewid) =
-    zooming_effect sizes view
-    (zoom_of (record { pixel_w = pixel_w; pixel_h = pixel_h; twip_w = twip_w; twip_h = twip_h; nviewid = nviewid }))
-message_effect count parts sizes view (SetPart part) = going_effect parts sizes view part
-message_effect count parts sizes view (TileProcessed wids) = Acknowledges wids
--- a document is not saved yet: the message is refused like a text that is none
-message_effect count parts sizes view (Save keep skip) = Refuses (codes "save") BadMessage
-message_effect count parts sizes view UnoSave = Refuses (codes "uno") BadMessage
-
--- a text that is no message is refused, with the command that it seems to have
-abbrev pub reading_effect : (count parts : ℕ) (sizes : ℕ → Extent) → View → List ℕ → Result ClientMessage MessageFault → Effect
-reading_effect count parts sizes view text (Err why) = Refuses (command_name text) BadMessage
-reading_effect count parts sizes view text (Ok message) = message_effect count parts sizes view message
-
--- the effect of a text that a view says
-abbrev pub effect_of : (count parts : ℕ) (sizes : ℕ → Extent) → View → List ℕ → Effect
-effect_of count parts sizes view text = reading_effect count parts sizes view text (reading text)
-
--- the same in a document
-abbrev pub effect : {C B S : Type 0} → Rules C B → Document S → View → List ℕ → Effect
-effect rules d view text = effect_of (length d.journal) (parts_of rules d.base) (size_of rules d.base) view text
-
--- the frames of an effect: one error frame for a refusal, one greeting, else none
-abbrev pub frames_of : ℕ → Effect → List (ViewId × Frame)
-frames_of id (Refuses command kind) = (named id, Error command kind None) ∷ []
-frames_of id Greets = (named id, Server) ∷ []
-frames_of id (Inputs input) = []
-frames_of id (Asks asked) = []
-frames_of id Cancels = []
-frames_of id (Looks area) = []
-frames_of id (Zooms zoom) = []
-frames_of id (GoesTo part) = []
-frames_of id (Acknowledges wids) = []
-frames_of id Passes = []
-
-abbrev pub reply : {S : Type 0} → ℕ → Effect → Outs S
-reply id effect = frames_only (frames_of id effect)
-
--- a view that asks for these keys
-abbrev pub asks : List Place → View → View
-asks asked view = record view { asked = asked }
-
--- a screen forgets the keys that its view neither sees nor asks for
-abbrev pub forgets : {C B S : Type 0} → Rules C B → Document S → View → View
-forgets rules d view = record view { screen = filter (λ shown. sees_or_asks rules d view shown.key) view.screen }
-
--- a view that cancels: of the asked keys those stay asked for that it sees
-abbrev pub cancels : {C B S : Type 0} → Rules C B → Document S → View → View
-cancels rules d view = forgets rules d (record view { asked = filter (is_among (visible rules d view)) view.asked })
-
--- a view that looks at another area, at another zoom, or at another part
-abbrev pub looks : {C B S : Type 0} → Rules C B → Document S → Rectangle → View → View
-looks rules d area view = forgets rules d (record view { area = area })
-
-abbrev pub zooms : {C B S : Type 0} → Rules C B → Document S → Scale → View → View
-zooms rules d zoom view = forgets rules d (record view { zoom = zoom })
-
-abbrev pub goes_to : {C B S : Type 0} → Rules C B → Document S → ℕ → View → View
-goes_to rules d part view = forgets rules d (record view { part = part })
+abbrev pub going_effect : Limits → View → (part : ℕ) → Effect
+going_effect limits view part =
+    if nat_lt part limits.parts
+    then seeing_effect limits.sizes view (codes "setclientpart") (record view { part = part })
+    else refuses view (codes "setclientpart") BadTile
 
 -- a view once these numbers were acknowledged: the tiles so numbered leave its window, others change nothing
 abbrev pub acknowledged : List ℕ → View → View
-acknowledged wids view = record view { window = filter (λ tile. not (list_any (λ wid. nat_eq wid tile.wid) wids)) view.window }
+acknowledged wids view =
+    record view { window = filter (λ tile. not (list_any (λ wid. nat_eq wid tile.wid) wids)) view.window }
 
--- the document after an effect: a refusal changes nothing
-abbrev pub took : {C B S : Type 0} → Rules C B → Document S → ℕ → Effect → Document S
-took rules d id (Refuses command kind) = d
-took rules d id Greets = d
-took rules d id (Inputs input) = record d { journal = d.journal ++ input ∷ [] }
-took rules d id (Asks asked) = record d { views = with_view d.views id (asks asked) }
-took rules d id Cancels = record d { views = with_view d.views id (cancels rules d) }
-took rules d id (Looks area) = record d { views = with_view d.views id (looks rules d area) }
-took rules d id (Zooms zoom) = record d { views = with_view d.views id (zooms rules d zoom) }
-took rules d id (GoesTo part) = record d { views = with_view d.views id (goes_to rules d part) }
-took rules d id (Acknowledges wids) = record d { views = with_view d.views id (acknowledged wids) }
-took rules d id Passes = d
+-- the effect of each message of a view
+abbrev pub message_effect : Limits → View → ClientMessage → Effect
+message_effect limits view CoolClient = answers view Server
+message_effect limits view (Load url) = refuses view (codes "load") AlreadyLoaded
+message_effect limits view (Key kind chr code) = key_effect limits view kind (Typed chr code)
+message_effect limits view (Mouse kind x y clicks buttons modifier) =
+    mouse_effect limits view kind (Pressed x y clicks buttons modifier)
+message_effect limits view (Tile words) = asking_effect view (codes "tile") (keys_of limits.parts (Tile words))
+message_effect limits view (TileCombine words) =
+    asking_effect view (codes "tilecombine") (keys_of limits.parts (TileCombine words))
+message_effect limits view CancelTiles = becomes (cancels limits.sizes view)
+message_effect limits view (VisibleArea area) =
+    seeing_effect limits.sizes view (codes "clientvisiblearea") (record view { area = area })
+message_effect limits view (Zoom pixel_w pixel_h twip_w twip_h nviewid) =
+    zooming_effect limits.sizes view
+    (zoom_of (record { pixel_w = pixel_w; pixel_h = pixel_h; twip_w = twip_w; twip_h = twip_h; nviewid = nviewid }))
+message_effect limits view (SetPart part) = going_effect limits view part
+message_effect limits view (TileProcessed wids) = becomes (acknowledged wids view)
+-- a document is not saved yet: the message is refused like a text that is none
+message_effect limits view (Save keep skip) = refuses view (codes "save") BadMessage
+message_effect limits view UnoSave = refuses view (codes "uno") BadMessage
+
+-- a text that is no message is refused, with the command that it seems to have
+abbrev pub reading_effect : Limits → View → List ℕ → Result ClientMessage MessageFault → Effect
+reading_effect limits view text (Err why) = refuses view (command_name text) BadMessage
+reading_effect limits view text (Ok message) = message_effect limits view message
+
+-- the effect of a text that a view says
+abbrev pub effect_of : Limits → View → List ℕ → Effect
+effect_of limits view text = reading_effect limits view text (reading text)
+
+-- the same in a document
+abbrev pub effect : {C B S : Type 0} → Rules C B → Document S → View → List ℕ → Effect
+effect rules d view text = effect_of (limits_of rules d) view text
+
+-- an effect gives its frames to the view
+abbrev pub reply : {S : Type 0} → ℕ → Effect → Outs S
+reply id effect = frames_only (map (λ frame. (named id, frame)) effect.frames)
+
+-- the document after an effect of a view's message
+abbrev pub heard : {S : Type 0} → Document S → ℕ → Effect → Document S
+heard d id effect = record d {
+  journal = d.journal ++ effect.inputs;
+  views = with_view d.views id (λ _. effect.view);
+}

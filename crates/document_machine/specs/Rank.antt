@@ -1,11 +1,13 @@
 -- How much a document has left to do.
-use Rattle.std.specs.Prelude.{ℕ, ◌+◌, ◌-◌, ◌*◌, ◌<◌, Bool, ◌&&◌, length}
+use Rattle.std.specs.Prelude.{⊤, ℕ, ◌+◌, ◌-◌, ◌*◌, ◌<◌, Bool, ◌&&◌, length, Option, None, Some}
 use Rattle.std.specs.List.{list_any, count_by, sum_by}
 use Rattle.kit_trait.specs.Rules.{Rules}
 use Rattle.tile_key.specs.Places.{Place}
 use Rattle.document_machine.specs.Due.{is_due, keys}
 use Rattle.document_machine.specs.Keys.{is_among}
 use Rattle.document_machine.specs.State.{Document}
+use Rattle.document_machine.specs.declared.outs.Turned.{Turned}
+use Rattle.document_machine.specs.declared.outs.Turned.TheVariants.{Worked, Idle}
 
 -- how many pairs of a view and a key that it sees or asked for there are
 abbrev pub pairs : {C B S : Type 0} → Rules C B → Document S → ℕ
@@ -36,6 +38,14 @@ rank rules d = still_to_come rules d - jobs_due rules d
 -- one document has a lower rank than another, said without taking off
 abbrev pub IsLower : {C B S : Type 0} → Rules C B → Document S → Document S → Type 0
 IsLower rules new old = still_to_come rules new + jobs_due rules old < still_to_come rules old + jobs_due rules new
+
+-- a turn that did a work lowered the rank, of a broker that can be spent: only a broker that isn't makes
+-- one, and it isn't spent after it
+abbrev pub Lowers : {C B S : Type 0} → Rules C B → Option (Document S) → Turned S → Option (Document S) → Type 0
+Lowers rules (Some old) (Worked outs) (Some new) = IsLower rules new old
+Lowers rules (Some old) Idle (Some new) = ⊤
+Lowers rules (Some old) turned None = ⊥
+Lowers rules None turned new = ⊥
 
 -- how many tiles are not acknowledged
 abbrev pub unacknowledged : {S : Type 0} → Document S → ℕ

@@ -11,9 +11,11 @@ use Rattle.kit_trait.specs.declared.jobs.PaintJob.{PaintJob}
 use Rattle.tile_key.specs.Places.{Place, IsGroup, place_of_keys}
 use Rattle.document_machine.specs.Due.{parts_of, size_of, is_due, has_room, is_out, is_current, is_not_back, keys, version_of, sent, takes, tile_frame}
 use Rattle.document_machine.specs.Event.{Event, Joined, Left, Said, Turned, Painted}
-use Rattle.document_machine.specs.Message.{effect, reply, took}
-use Rattle.document_machine.specs.Outputs.{named, nothing, frames_only, one_frame}
+use Rattle.document_machine.specs.Message.{effect, heard, reply}
+use Rattle.document_machine.specs.Next.{Work, Apply, Send, Cut, Rest, none_kept, pick}
+use Rattle.document_machine.specs.Outputs.{named, nothing, frames_only, one_frame, outs_of}
 use Rattle.document_machine.specs.State.{View, Job, Document, opening_view, find_view, with_view, without_view, find_job, without_job}
+use Rattle.document_machine.specs.declared.limits.TheConstants.{MOST_JOBS, MOST_VIEWS}
 use Rattle.document_machine.specs.declared.outs.Outs.{Outs}
 use Rattle.document_machine.specs.declared.outs.Turned.{Turned as TurnAnswer}
 use Rattle.document_machine.specs.declared.outs.Turned.TheVariants.{Worked, Idle}
@@ -24,7 +26,7 @@ abbrev pub status : {C B S : Type 0} → Rules C B → Document S → ℕ → Ri
 status rules d id rights =
     Status rules.name (parts_of rules d.base) (size_of rules d.base 0) (named id) (not rights.can_write)
 
--- a view joins where fewer than 64 are there: it has the next id and gets its status; else nothing changes
+-- where a view may join it has the next id and gets its status; else nothing changes
 abbrev pub JoinsWhere : {C B S : Type 0} → Bool → Rules C B → Document S → Rights → Outs S → Document S → Type 0
 JoinsWhere true rules old rights outs new =
     (outs ≡ one_frame old.next_view (status rules old old.next_view rights))
@@ -34,19 +36,20 @@ JoinsWhere true rules old rights outs new =
     })
 JoinsWhere false rules old rights outs new = (outs ≡ nothing) × (new ≡ old)
 
+-- a view joins where one more may
 abbrev pub Joins : {C B S : Type 0} → Rules C B → Document S → Rights → Outs S → Document S → Type 0
-Joins rules old rights outs new = JoinsWhere (nat_lt (length old.views) 64) rules old rights outs new
+Joins rules old rights outs new = JoinsWhere (nat_lt (length old.views) MOST_VIEWS) rules old rights outs new
 
 -- a view leaves, with its window, its asked keys and its screen; without it nothing changes
 abbrev pub Leaves : {S : Type 0} → Document S → ℕ → Outs S → Document S → Type 0
 Leaves old id outs new = (outs ≡ nothing) × (new ≡ record old { views = without_view old.views id })
 
--- a view says a text: its one effect, and the frame of a refusal
+-- a view says a text: its one effect, with the frames of it
 pub record Says {C B S : Type 0} (rules : Rules C B) (old : Document S) (id : ℕ) (text : List ℕ) (outs : Outs S) (new : Document S) : Type 0 where
   pub view : View
   pub live : find_view old.views id ≡ Some view
   pub outs_are : outs ≡ reply id (effect rules old view text)
-  pub new_is : new ≡ took rules old id (effect rules old view text)
+  pub new_is : new ≡ heard old id (effect rules old view text)
 
 -- every view, in order of ids, is told each damaged rectangle, in the kit's order
 abbrev pub told : List View → List Damage → List (ViewId × Frame)
@@ -71,12 +74,12 @@ is_wanted rules d key = list_any (λ view. has_room view && is_due rules d view 
 abbrev pub given : {S : Type 0} → Job S → PaintJob S
 given job = record { ticket = record { 0 = job.ticket }; number = job.number; group = job.keys; scene = job.scene }
 
--- a turn cuts a job: all inputs are applied, fewer than 64 jobs are out, none of them of these keys, each
--- key is owed, one of them to a view with room; the scene shows the document as it is now
+-- a turn cuts a job: all inputs are applied, one more job may be out, none that is out is of these keys,
+-- each key is owed, one of them to a view with room; the scene is that of the document as it is now
 pub record Cuts {C B S : Type 0} (rules : Rules C B) (cut : C → Place → S) (old : Document S) (outs : Outs S) (new : Document S) : Type 0 where
   pub job : Job S
   pub level : old.applied ≡ length old.journal
-  pub few : length old.jobs < 64
+  pub few : length old.jobs < MOST_JOBS
   pub ticket_is : job.ticket ≡ old.next_ticket
   pub number_is : job.number ≡ old.applied
   pub group : IsGroup job.keys
@@ -104,15 +107,11 @@ pub record Sends {C B S : Type 0} (rules : Rules C B) (old : Document S) (outs :
   pub outs_are : outs ≡ frames_only (tile_frame rules old version key view ∷ [])
   pub new_is : new ≡ record old { views = with_view old.views view.id (sent rules old version key) }
 
--- a turn that does a work: it applies an input, it sends a tile, or it cuts a job
-abbrev pub Works : {C B S : Type 0} → Rules C B → (C → Place → S) → Document S → Outs S → Document S → Type 0
-Works rules cut old outs new = Applies rules old outs new ⊎ (Sends rules old outs new ⊎ Cuts rules cut old outs new)
-
--- what a view with room is owed is under way, or 64 jobs are out
+-- what a view with room is owed is under way, or no more jobs may be out
 abbrev pub IsServed : {C B S : Type 0} → Rules C B → Document S → View → Type 0
 IsServed rules d view =
     AllByRecursion
-    (λ key. (has_room view && is_due rules d view key) ≡ true → (is_out d.jobs key ≡ true) ⊎ (64 ≤ length d.jobs))
+    (λ key. (has_room view && is_due rules d view key) ≡ true → (is_out d.jobs key ≡ true) ⊎ (MOST_JOBS ≤ length d.jobs))
     (keys rules d view)
 
 -- there is nothing that a turn could do
@@ -120,10 +119,23 @@ pub record Rests {C B S : Type 0} (rules : Rules C B) (d : Document S) : Type 0 
   pub level : d.applied ≡ length d.journal
   pub served : AllByRecursion (IsServed rules d) d.views
 
+-- a turn that does a work: it applies an input, it sends a tile, or it cuts a job
+abbrev pub Works : {C B S : Type 0} → Rules C B → (C → Place → S) → Document S → Outs S → Document S → Type 0
+Works rules cut old outs new = Applies rules old outs new ⊎ (Sends rules old outs new ⊎ Cuts rules cut old outs new)
+
 -- a turn is Worked where it did a work, and Idle where there was nothing to do
 abbrev pub TurnsTo : {C B S : Type 0} → Rules C B → (C → Place → S) → Document S → TurnAnswer S → Document S → Type 0
 TurnsTo rules cut old (Worked outs) new = Works rules cut old outs new
 TurnsTo rules cut old Idle new = Rests rules old × (new ≡ old)
+
+-- a turn of which this is the one work: a job that it cuts is of the key alone
+abbrev pub Does : {C B S : Type 0} → Rules C B → (C → Place → S) → Document S → Work → TurnAnswer S → Document S → Type 0
+Does rules cut old Apply (Worked outs) new = Applies rules old outs new
+Does rules cut old (Send id key version) (Worked outs) new =
+    (sends : Sends rules old outs new) × (sends.view.id ≡ id) × (sends.key ≡ key) × (sends.version ≡ version)
+Does rules cut old (Cut id key) (Worked outs) new = (cuts : Cuts rules cut old outs new) × (cuts.job.keys ≡ key ∷ [])
+Does rules cut old Rest Idle new = Rests rules old × (new ≡ old)
+Does rules cut old work turned new = ⊥
 
 -- a view once the painted tile of a key was offered to it
 abbrev pub offered : {C B S : Type 0} → Rules C B → Document S → ℕ → Place → View → View
@@ -163,7 +175,8 @@ abbrev pub Step : {C B S : Type 0} → Rules C B → (C → Place → S) → Doc
 Step rules cut old (Joined rights) outs new = Joins rules old rights outs new
 Step rules cut old (Left view) outs new = Leaves old view outs new
 Step rules cut old (Said view text) outs new = Says rules old view text outs new
-Step rules cut old Turned outs new = Works rules cut old outs new ⊎ (Rests rules old × (outs ≡ nothing) × (new ≡ old))
+Step {C} {B} {S} rules cut old Turned outs new =
+    (turned : TurnAnswer S) × TurnsTo rules cut old turned new × (outs ≡ outs_of turned)
 Step rules cut old (Painted ticket scene) outs new = Paints rules old ticket scene outs new (find_job old.jobs ticket)
 
 -- the step of a broker that can be spent: only a broker that isn't makes one, and it isn't spent after it
@@ -171,3 +184,10 @@ abbrev pub Goes : {C B S : Type 0} → Rules C B → (C → Place → S) → Opt
 Goes rules cut (Some old) event outs (Some new) = Step rules cut old event outs new
 Goes rules cut (Some old) event outs None = ⊥
 Goes rules cut None event outs new = ⊥
+
+-- a turn that did the one work that is picked, of a broker that can be spent and keeps no tiles: only a
+-- broker that isn't makes one, and it isn't spent after it
+abbrev pub Did : {C B S : Type 0} → Rules C B → (C → Place → S) → Option (Document S) → TurnAnswer S → Option (Document S) → Type 0
+Did rules cut (Some old) turned (Some new) = Does rules cut old (pick rules none_kept old) turned new
+Did rules cut (Some old) turned None = ⊥
+Did rules cut None turned new = ⊥

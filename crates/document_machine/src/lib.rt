@@ -7,11 +7,15 @@
 //!   what they asked for, what was sent to them and what they have not acknowledged, the jobs out.
 //! - `Step` (specs/Step): the machine. A run of events is a `Segment` (specs/Run).
 //! - `IsQuiet`, `AllRight` (specs/Quiet): nothing is left to do; every tile is the present one.
-//! - `Rights`, `Outs`, `Turned` (here): what a broker is told and what it answers.
+//! - `Rights`, `Outs`, `Turned` (here): what a broker is told and what it answers; `MOST_VIEWS` and the
+//!   other limits.
 #![tactic(auto)]
 
+mod limits;
 mod outs;
 mod rights;
 
+pub use limits::{MOST_ASKED, MOST_INPUTS, MOST_JOBS, MOST_VIEWS};
 pub use outs::{Outs, Turned};
 pub use rights::Rights;
+pub use send_window::MOST_SENT;

@@ -1,6 +1,6 @@
 use Rattle.document_laws.proofs.Quiet as Law
 use Rattle.document_laws.proofs.Untouched as Untouched
-use Rattle.document_laws.proofs.Whole as Whole
+use Rattle.document_laws.proofs.Kept as Kept
 use Rattle.document_laws.proofs.quiet_runs_are_right.Goals as goal
 
 pub returns : goal.returns
@@ -10,6 +10,6 @@ returns g c =
     Law.quiet_is_right g.K.Kit.rules d
     (λ base journal version n place wide high le clean.
     Untouched.untouched_is_unchanged g.K.Kit.rules g.K.Kit.IsSound laws.sound_start laws.sound_step laws.covered base journal version place wide high n le clean)
-    (Whole.runs_keep g.K.Kit.rules g.K.Kit.cut (λ base. laws.some_part (g.K.Kit.rules.start base) (laws.sound_start base)) events _ d outs run
-    (Whole.opening_is_whole _ g.K.Kit.rules file base accepted)).kept
+    (Kept.runs_keep g.K.Kit.rules g.K.Kit.cut (λ base. laws.some_part (g.K.Kit.rules.start base) (laws.sound_start base)) events _ d outs run
+    (Kept.opening_keeps g.K.Kit.rules g.K.Kit.cut file base accepted))
     quiet

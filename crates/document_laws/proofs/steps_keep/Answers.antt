@@ -1,8 +1,8 @@
-use Rattle.document_laws.proofs.Whole as Law
+use Rattle.document_laws.proofs.Kept as Law
 use Rattle.document_laws.proofs.steps_keep.Goals as goal
 
 pub returns-clause-opening : goal.returns-clause-opening
-returns-clause-opening g c = λ file base accepted. Law.opening_is_whole _ g.K.Kit.rules file base accepted
+returns-clause-opening g c = λ file base accepted. Law.opening_keeps g.K.Kit.rules g.K.Kit.cut file base accepted
 
 pub returns-clause-step : goal.returns-clause-step
 returns-clause-step g c =

@@ -1,13 +1,12 @@
 //! `Broker`: turns, painted jobs, and what is left to do.
-ghost use Rattle.std.specs.Prelude.{◌≡◌, ◌≢◌, [], length, map, true, false, None, IsSome, IfOk, OnErr};
+ghost use Rattle.std.specs.Prelude.{◌≡◌, ◌≢◌, ◌↔◌, [], map, true, false, None, IsTrue, IsSome, IsSomeAnd, IfOk, OnErr};
 ghost use Rattle.std.specs.Option.{ForSome, option_map_or};
 ghost use Rattle.document_machine.specs.Event.{Painted, Turned as TurnMade};
-ghost use Rattle.document_machine.specs.Next.{none_kept, IsFirst};
 ghost use Rattle.document_machine.specs.Outputs.{outs_of};
-ghost use Rattle.document_machine.specs.Quiet.{is_quiet};
+ghost use Rattle.document_machine.specs.Quiet.{IsQuiet, is_quiet};
+ghost use Rattle.document_machine.specs.Rank.{Lowers};
 ghost use Rattle.document_machine.specs.State.{find_view};
-ghost use Rattle.document_machine.specs.Step.{Goes};
-ghost use Rattle.broker_core.specs.Serving.{GoesTo};
+ghost use Rattle.document_machine.specs.Step.{Did, Goes};
 
 use crate::broker::Broker;
 use cool_base::{Memory, ViewId, Wids};
@@ -27,13 +26,14 @@ impl<K: Kit> Broker<K> {
     }
 
     /// One turn: the next input is applied, or else a job is cut for the first key, in order of views and
-    /// then of keys, that a view with room is due. Idle exactly where there is nothing to do. No job may be out, as
-    /// `is_free` tells. After `Memory` the broker is spent.
+    /// then of keys, that a view with room is due. Idle exactly where there is nothing to do; a turn that
+    /// is Worked lowers the rank of the document. No job may be out, as `is_free` tells. After `Memory` the
+    /// broker is spent.
     pub fn turn(&mut self) -> Result<Turned<K::Scene>, Memory>
         requires { ForSome self.old (λ d. d.jobs ≡ []) }
         ensures step { IfOk result (λ turned. Goes K.rules K.cut self.old TurnMade (outs_of turned) self.new) }
-        ensures turn { IfOk result (λ turned. GoesTo K.rules K.cut self.old turned self.new) }
-        ensures first { IfOk result (λ turned. ForSome self.old (λ d. d.applied ≡ length d.journal → IsFirst K.rules none_kept d turned)) }
+        ensures does { IfOk result (λ turned. Did K.rules K.cut self.old turned self.new) }
+        ensures lower { IfOk result (λ turned. Lowers K.rules self.old turned self.new) }
         ensures spent { OnErr result (self.new ≡ None) }
     {
         let Some(core) = self.core.take() else {
@@ -62,7 +62,8 @@ impl<K: Kit> Broker<K> {
     /// Whether a turn would be Idle, no job is out and every window is empty; false where the broker is
     /// spent.
     pub fn is_quiet(&self) -> bool
-        ensures { result ≡ option_map_or (is_quiet K.rules) self.now false }
+        ensures quiet { IsTrue result ↔ IsSomeAnd self.now (IsQuiet K.rules) }
+        ensures test { result ≡ option_map_or (is_quiet K.rules) self.now false }
     {
         match &self.core {
             Some(core) => core.is_quiet(),
