@@ -45,6 +45,19 @@ impl Group {
     ghost use Rattle.std.specs.Prelude.{◌≡◌, [], ◌∷◌, ◌++◌, ◌<◌, ◌≤◌, length, slice_get, Some, if◌then◌else◌};
     ghost use Rattle.tile_key.specs.Places.{IsGroup, place_of_keys};
 
+    /// The group of these keys, which are one to eight in a run. It takes no memory.
+    #[tactic(auto, using(crate::proofs::GroupFacts::group_facts))]
+    pub fn of_keys(keys: &[TileKey]) -> Group
+        requires { IsGroup keys.now }
+        ensures { result ≡ keys.now }
+    {
+        let mut copies = ArrayVec::new();
+        for key in keys {
+            copies.push(*key);
+        }
+        Group { keys: copies }
+    }
+
     /// The keys, from the left.
     pub fn keys(&self) -> &[TileKey]
         ensures value { result.now ≡ self.now }

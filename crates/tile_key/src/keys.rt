@@ -22,7 +22,7 @@ pub struct TileWords {
 
 /// The key of a tile: 1 to 256 pixels and 15 to 61,440 twips wide and high, at multiples of its twip
 /// size up to 2,147,483,647, in the look 0 or 1. The order is key order.
-#[derive(Clone, Copy, Debug, PartialEq, Eq, PartialOrd, Ord)]
+#[derive(Clone, Copy, Debug, PartialEq, Eq, PartialOrd, Ord, Hash)]
 pub struct TileKey {
     part: u32,
     posy: u32,

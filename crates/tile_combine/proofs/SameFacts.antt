@@ -1,0 +1,12 @@
+-- Places that compare equal are one.
+use Rattle.std.proofs.Common.{◌≡◌, ℕ, Bool, true, ◌&&◌, nat_eq, arith}
+use Rattle.std.proofs.lemmas.Bool.{and_parts}
+use Rattle.std.proofs.lemmas.Bool.Decides.{nat_tests}
+use Rattle.tile_key.specs.Places.{Place, same_place, next_place}
+use Rattle.tile_combine.specs.Runs.{follows}
+
+pub same_is : (p q : Place) → same_place p q ≡ true → p ≡ q
+same_is p q same = grind (arith, nat_tests)
+
+pub follows_is : (p q : Place) → follows p q ≡ true → q ≡ next_place p
+follows_is p q same = same_is q (next_place p) same
