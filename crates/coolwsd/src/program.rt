@@ -11,7 +11,7 @@ use script_lines::write_whole;
 use std::alloc::Global;
 
 /// The exit status for words that are none of the forms.
-const WRONG_WORDS: u8 = 2;
+pub const WRONG_WORDS: u8 = 2;
 
 /// The exit status for want of memory.
 pub const NO_MEMORY: u8 = 6;

@@ -3,13 +3,13 @@ use Rattle.std.proofs.Common.{ℕ, ◌≡◌, List, Option, Some, None, Bool, tr
 use Rattle.std.proofs.lemmas.Slice.Eq.{bytes_eq-Decides}
 use Rattle.http_message.specs.declared.Request.{Request}
 use Rattle.http_message.specs.declared.Response.{Response}
-use Rattle.wopi_host.specs.declared.table.Verdict.{Verdict}
-use Rattle.wopi_host.specs.declared.table.Verdict.TheVariants.{Refused, Info, Content, Sets, Removes, TellsLock, Replaces, Conflict}
+use Rattle.wopi_host.specs.declared.table.Action.{Action}
+use Rattle.wopi_host.specs.declared.table.Action.TheVariants.{Refused, Info, Content, Sets, Removes, TellsLock, Replaces, Conflict}
 use Rattle.wopi_host.specs.declared.marks.Marks.{Marks}
 use Rattle.wopi_host.specs.Keepers.{Files, IsKept, Keeps, SameFiles}
 use Rattle.wopi_host.specs.Marks.{counting, marks_after}
 use Rattle.wopi_host.specs.Targets.{Named, Nothing}
-use Rattle.wopi_host.specs.Hosts.{Pages, SamePages, WritesPage, FilesAfter, AnswersAt, Answers, verdict_at, response_for, bare}
+use Rattle.wopi_host.specs.Hosts.{Pages, SamePages, WritesPage, HostAt, HostStays, Asking, FilesAfter, ActsAt, AnswersAt, Answers, bare}
 use Rattle.wopi_host.proofs.Same.{same_files, some_kept}
 
 -- the files are the same over two steps
@@ -46,8 +46,8 @@ keeps_from (Some f) None file content c p keeps = absurd p
 keeps_from (Some f) (Some g) file content None p keeps = keeps
 keeps_from (Some f) (Some g) file content (Some h) p keeps = λ id. keeps id ∙ ap (λ x. cond (bytes_eq id file) (Some content) x) (p id)
 
--- the files behind a verdict, from the same files
-pub files_from : (verdict : Verdict) (a b : Option Files) (file body : List ℕ) (c : Option Files) → SameFiles a b → FilesAfter verdict b file body c → FilesAfter verdict a file body c
+-- the files behind a action, from the same files
+pub files_from : (action : Action) (a b : Option Files) (file body : List ℕ) (c : Option Files) → SameFiles a b → FilesAfter action b file body c → FilesAfter action a file body c
 files_from (Refused status) a b file body c p after = same_trans a b c p after
 files_from Info a b file body c p after = same_trans a b c p after
 files_from Content a b file body c p after = same_trans a b c p after
@@ -69,65 +69,88 @@ page_stays pages1 pages2 file same = λ id. same id ∙ by_test id (bytes_eq id 
     by_test id true is = ap pages1 (bytes_same id file is)
     by_test id false is = refl
 
+-- nothing changed
+pub host_same : (h : HostAt) → HostStays h h
+host_same h = record { files = same_files h.files; pages = λ id. refl }
+
+-- an action that changes nothing
+abbrev pub IsIdle : Action → Type 0
+IsIdle (Refused status) = Unit {0}
+IsIdle Info = Unit {0}
+IsIdle Content = Unit {0}
+IsIdle Sets = ⊥
+IsIdle Removes = ⊥
+IsIdle TellsLock = Unit {0}
+IsIdle Replaces = ⊥
+IsIdle Conflict = Unit {0}
+
+idle : (a : Asking) (h : HostAt) (action : Action) → IsIdle action → ActsAt a h action h
+idle a h (Refused status) is = record { filed = same_files h.files; marked = page_stays h.pages h.pages a.file (λ id. refl) }
+idle a h Info is = record { filed = same_files h.files; marked = page_stays h.pages h.pages a.file (λ id. refl) }
+idle a h Content is = record { filed = same_files h.files; marked = page_stays h.pages h.pages a.file (λ id. refl) }
+idle a h Sets is = absurd is
+idle a h Removes is = absurd is
+idle a h TellsLock is = record { filed = same_files h.files; marked = page_stays h.pages h.pages a.file (λ id. refl) }
+idle a h Replaces is = absurd is
+idle a h Conflict is = record { filed = same_files h.files; marked = page_stays h.pages h.pages a.file (λ id. refl) }
+
+-- the same of one that is equal to it
+pub acts_idle : (a : Asking) (h : HostAt) (action other : Action) → action ≡ other → IsIdle other → ActsAt a h action h
+acts_idle a h action other same is = idle a h action (subst (λ (x : Action). IsIdle x) (sym same) is)
+
 -- the token gives no right
-pub answered_denied : (contents : Bool) (file : List ℕ) (files1 files2 : Option Files) (pages1 pages2 : Pages) (r : Request) (now : ℕ)
-    → SameFiles files1 files2 → SamePages pages1 pages2
-    → AnswersAt contents None file files1 pages1 r now (bare 401) files2 pages2
-answered_denied contents file files1 files2 pages1 pages2 r now files pages = record {
-  content = (some_kept files1 file).0;
-  verdict = Refused 401;
-  kept = (some_kept files1 file).1;
-  judged = refl;
+pub denied : (a : Asking) (h : HostAt) → AnswersAt None a h (bare 401) h
+denied a h = record {
+  content = (some_kept h.files a.file).0;
+  action = Refused 401;
+  kept = (some_kept h.files a.file).1;
+  chosen = refl;
   told = refl;
-  marked = page_stays pages1 pages2 file pages;
-  filed = files;
+  acts = record { filed = same_files h.files; marked = page_stays h.pages h.pages a.file (λ id. refl) };
 }
 
 -- the keeper lacks the file
-pub answered_missing : (contents writer : Bool) (file : List ℕ) (files1 files2 : Option Files) (pages1 pages2 : Pages) (r : Request) (now : ℕ)
-    → IsKept files1 file None → SameFiles files1 files2 → SamePages pages1 pages2
-    → AnswersAt contents (Some writer) file files1 pages1 r now (bare 404) files2 pages2
-answered_missing contents writer file files1 files2 pages1 pages2 r now kept files pages = record {
+pub missing : (a : Asking) (writer : Bool) (old new : HostAt) → IsKept old.files a.file None → HostStays old new
+    → AnswersAt (Some writer) a old (bare 404) new
+missing a writer old new kept same = record {
   content = None;
-  verdict = Refused 404;
+  action = Refused 404;
   kept = kept;
-  judged = refl;
+  chosen = refl;
   told = refl;
-  marked = page_stays pages1 pages2 file pages;
-  filed = files;
+  acts = record { filed = same.files; marked = page_stays old.pages new.pages a.file same.pages };
 }
 
--- the keeper has it
-pub answered_found : (contents writer : Bool) (file bytes : List ℕ) (files1 files2 : Option Files) (pages1 pages2 : Pages) (r : Request) (now : ℕ) (response : Response) (verdict : Verdict)
-    → IsKept files1 file (Some bytes)
-    → verdict ≡ verdict_at contents (Some writer) (Some bytes) r (counting (pages1 file).lock now)
-    → response ≡ response_for verdict file bytes writer (counting (pages1 file).lock now) (pages1 file).puts
-    → WritesPage pages1 file (marks_after verdict (pages1 file) r.lock now) pages2
-    → FilesAfter verdict files1 file r.body files2
-    → AnswersAt contents (Some writer) file files1 pages1 r now response files2 pages2
-answered_found contents writer file bytes files1 files2 pages1 pages2 r now response verdict kept judged told marked filed = record {
-  content = Some bytes;
-  verdict = verdict;
-  kept = kept;
-  judged = judged;
-  told = told;
-  marked = marked;
-  filed = filed;
-}
+-- the same for a token and a response that are equal to these
+pub denied_at : (a : Asking) (right : Option Bool) (h : HostAt) (response : Response)
+    → right ≡ None → response ≡ bare 401 → AnswersAt right a h response h
+denied_at a right h response none told =
+    subst (λ (x : Option Bool). AnswersAt x a h response h) (sym none)
+    (subst (λ (x : Response). AnswersAt None a h x h) (sym told) (denied a h))
+
+pub missing_at : (a : Asking) (writer : Bool) (content : Option (List ℕ)) (files1 files2 : Option Files) (pages : Pages) (response : Response)
+    → content ≡ None → response ≡ bare 404 → IsKept files1 a.file content → SameFiles files1 files2
+    → AnswersAt (Some writer) a (record { files = files1; pages = pages }) response (record { files = files2; pages = pages })
+missing_at a writer content files1 files2 pages response none told kept same =
+    subst (λ (x : Response). AnswersAt (Some writer) a (record { files = files1; pages = pages }) x (record { files = files2; pages = pages })) (sym told)
+    (missing a writer (record { files = files1; pages = pages }) (record { files = files2; pages = pages })
+    (subst (λ (x : Option (List ℕ)). IsKept files1 a.file x) none kept) (record { files = same; pages = λ id. refl }))
 
 -- the answer at the same files
-pub answers_from : (contents writer : Bool) (file : List ℕ) (files1 filesm files2 : Option Files) (pages1 pages2 : Pages) (r : Request) (now : ℕ) (response : Response)
-    → SameFiles files1 filesm
-    → AnswersAt contents (Some writer) file filesm pages1 r now response files2 pages2
-    → AnswersAt contents (Some writer) file files1 pages1 r now response files2 pages2
-answers_from contents writer file files1 filesm files2 pages1 pages2 r now response same a = record {
-  content = a.content;
-  verdict = a.verdict;
-  kept = kept_from files1 filesm file a.content same a.kept;
-  judged = a.judged;
-  told = a.told;
-  marked = a.marked;
-  filed = files_from a.verdict files1 filesm file r.body files2 same a.filed;
+pub answers_from : (right : Option Bool) (a : Asking) (files1 files2 : Option Files) (pages : Pages) (response : Response) (new : HostAt)
+    → SameFiles files1 files2
+    → AnswersAt right a (record { files = files2; pages = pages }) response new
+    → AnswersAt right a (record { files = files1; pages = pages }) response new
+answers_from right a files1 files2 pages response new same answer = record {
+  content = answer.content;
+  action = answer.action;
+  kept = kept_from files1 files2 a.file answer.content same answer.kept;
+  chosen = answer.chosen;
+  told = answer.told;
+  acts = record {
+    filed = files_from answer.action files1 files2 a.file a.request.body new.files same answer.acts.filed;
+    marked = answer.acts.marked;
+  };
 }
 
 -- what follows from an answer follows where it is given
@@ -136,28 +159,13 @@ if_ok_from P Q (Ok a) from p = from a p
 if_ok_from P Q (Err e) from p = tt
 
 -- an error leaves the files that were the same
-pub on_err_from : {A E : Type 0} (a b c : Option Files) (r : Result A E) → SameFiles a b → OnErr r (SameFiles b c) → OnErr r (SameFiles a c)
-on_err_from a b c (Ok x) p q = tt
-on_err_from a b c (Err e) p q = same_trans a b c p q
-
--- the token gives no right
-pub denied_at : (contents : Bool) (right : Option Bool) (file : List ℕ) (files : Option Files) (pages : Pages) (r : Request) (now : ℕ) (response : Response)
-    → right ≡ None → response ≡ bare 401 → AnswersAt contents right file files pages r now response files pages
-denied_at contents right file files pages r now response none told =
-    subst (λ (x : Option Bool). AnswersAt contents x file files pages r now response files pages) (sym none)
-    (subst (λ (x : Response). AnswersAt contents None file files pages r now x files pages) (sym told)
-    (answered_denied contents file files files pages pages r now (same_files files) (λ id. refl)))
-
--- the keeper lacks the file
-pub missing_at : (contents writer : Bool) (file : List ℕ) (content : Option (List ℕ)) (files : Option Files) (pages : Pages) (r : Request) (now : ℕ) (response : Response)
-    → content ≡ None → response ≡ bare 404 → IsKept files file content → AnswersAt contents (Some writer) file files pages r now response files pages
-missing_at contents writer file content files pages r now response none told kept =
-    subst (λ (x : Response). AnswersAt contents (Some writer) file files pages r now x files pages) (sym told)
-    (answered_missing contents writer file files files pages pages r now (subst (λ (x : Option (List ℕ)). IsKept files file x) none kept) (same_files files) (λ id. refl))
+pub on_err_from : {A E : Type 0} (files1 files2 : Option Files) (pages : Pages) (new : HostAt) (r : Result A E) → SameFiles files1 files2
+    → OnErr r (HostStays (record { files = files2; pages = pages }) new) → OnErr r (HostStays (record { files = files1; pages = pages }) new)
+on_err_from files1 files2 pages new (Ok x) p q = tt
+on_err_from files1 files2 pages new (Err e) p q = record { files = same_trans files1 files2 new.files p q.files; pages = q.pages }
 
 -- the path names nothing
-pub nothing_at : (named : Named) (right : Option Bool) (files : Option Files) (pages : Pages) (r : Request) (now : ℕ) (response : Response)
-    → named ≡ Nothing → response ≡ bare 404 → Answers named right files pages r now response files pages
-nothing_at named right files pages r now response nothing told =
-    subst (λ (x : Named). Answers x right files pages r now response files pages) (sym nothing)
-    (told, record { files = same_files files; pages = λ id. refl })
+pub nothing_at : (named : Named) (right : Option Bool) (h : HostAt) (r : Request) (now : ℕ) (response : Response)
+    → named ≡ Nothing → response ≡ bare 404 → Answers named right h r now response h
+nothing_at named right h r now response nothing told =
+    subst (λ (x : Named). Answers x right h r now response h) (sym nothing) (told, host_same h)

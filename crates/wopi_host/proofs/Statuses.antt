@@ -9,17 +9,16 @@ use Rattle.wopi_host.specs.declared.table.Operation.{Operation}
 use Rattle.wopi_host.specs.declared.table.Operation.TheVariants as Asks
 use Rattle.wopi_host.specs.declared.table.Held.{Held}
 use Rattle.wopi_host.specs.declared.table.Held.TheVariants.{NoLock, TheSame, Another}
-use Rattle.wopi_host.specs.declared.table.Verdict.{Verdict}
-use Rattle.wopi_host.specs.declared.table.Verdict.TheVariants.{Refused}
-use Rattle.wopi_host.specs.Keepers.{Files}
+use Rattle.wopi_host.specs.declared.table.Action.{Action}
+use Rattle.wopi_host.specs.declared.table.Action.TheVariants.{Refused}
 use Rattle.wopi_host.specs.Table.{operation_of, wants_right, wants_id, is_lock_id, held_for, table, by_id, by_right, by_operation}
-use Rattle.wopi_host.specs.Hosts.{Pages, verdict_at, status_of, is_ordinary, IsOrdinary, AnswersAt}
+use Rattle.wopi_host.specs.Hosts.{HostAt, Asking, action_at, status_of, is_ordinary, IsOrdinary, AnswersAt}
 
--- the verdict's status is one
-abbrev Fits : Verdict → Type 0
+-- the action's status is one
+abbrev Fits : Action → Type 0
 Fits v = is_ordinary (status_of v) ≡ true
 
-if_fits : (b : Bool) (x y : Verdict) → Fits x → Fits y → Fits (if b then x else y)
+if_fits : (b : Bool) (x y : Action) → Fits x → Fits y → Fits (if b then x else y)
 if_fits true x y a b = a
 if_fits false x y a b = b
 
@@ -54,22 +53,23 @@ operation_fits None old_lock writer asked current empty = refl
 operation_fits (Some op) old_lock writer asked current empty =
     if_fits old_lock (Refused 501) (by_right op writer asked current empty) refl (right_fits op writer asked current empty)
 
-verdict_fits : (contents : Bool) (right : Option Bool) (content : Option (List ℕ)) (r : Request) (current : Option (List ℕ)) → Fits (verdict_at contents right content r current)
-verdict_fits contents None content r current = refl
-verdict_fits contents (Some writer) None r current = refl
-verdict_fits contents (Some writer) (Some bytes) r current = operation_fits (operation_of r.method contents r.over) r.old_lock writer r.lock current (nat_eq (length bytes) 0)
+action_fits : (contents : Bool) (right : Option Bool) (content : Option (List ℕ)) (r : Request) (current : Option (List ℕ)) → Fits (action_at contents right content r current)
+action_fits contents None content r current = refl
+action_fits contents (Some writer) None r current = refl
+action_fits contents (Some writer) (Some bytes) r current = operation_fits (operation_of r.method contents r.over) r.old_lock writer r.lock current (nat_eq (length bytes) 0)
 
 -- so is the status of the table's answer
-at_ordinary : (contents : Bool) (right : Option Bool) (file : List ℕ) (files1 : Option Files) (pages1 : Pages) (r : Request) (now : ℕ) (response : Response) (files2 : Option Files) (pages2 : Pages)
-    → AnswersAt contents right file files1 pages1 r now response files2 pages2 → IsOrdinary response
-at_ordinary contents right file files1 pages1 r now response files2 pages2 a =
-    subst (λ (x : Response). IsOrdinary x) (sym a.told) (subst (λ (v : Verdict). Fits v) (sym a.judged) (verdict_fits contents right a.content r _))
+at_ordinary : (right : Option Bool) (a : Asking) (old : HostAt) (response : Response) (new : HostAt)
+    → AnswersAt right a old response new → IsOrdinary response
+at_ordinary right a old response new answer =
+    subst (λ (x : Response). IsOrdinary x) (sym answer.told)
+    (subst (λ (x : Action). Fits x) (sym answer.chosen) (action_fits a.contents right answer.content a.request _))
 
 -- the same of an answer that may be refused
-pub if_ok_ordinary : {E : Type 0} (contents : Bool) (right : Option Bool) (file : List ℕ) (files1 : Option Files) (pages1 : Pages) (r : Request) (now : ℕ) (files2 : Option Files) (pages2 : Pages) (result : Result Response E)
-    → IfOk result (λ x. AnswersAt contents right file files1 pages1 r now x files2 pages2) → IfOk result IsOrdinary
-if_ok_ordinary contents right file files1 pages1 r now files2 pages2 (Ok x) a = at_ordinary contents right file files1 pages1 r now x files2 pages2 a
-if_ok_ordinary contents right file files1 pages1 r now files2 pages2 (Err e) a = tt
+pub if_ok_ordinary : {E : Type 0} (right : Option Bool) (a : Asking) (old new : HostAt) (result : Result Response E)
+    → IfOk result (λ x. AnswersAt right a old x new) → IfOk result IsOrdinary
+if_ok_ordinary right a old new (Ok x) answer = at_ordinary right a old x new answer
+if_ok_ordinary right a old new (Err e) answer = tt
 
 both_false : (a b : Bool) → (not a && not b) ≡ true → (a ≡ false) × (b ≡ false)
 both_false false false is = (refl, refl)

@@ -1,12 +1,13 @@
--- The answer of the host, and what stands behind it.
-use Rattle.std.specs.Prelude.{ℕ, ◌≡◌, Bool, true, false, not, ◌&&◌, ◌==◌, List, [], length, Option, Some, None, unwrap_or, if◌then◌else◌, codes, bytes_eq, nat_eq, ◌⊎◌, Result, Ok, Err}
+-- The answer of the host, and what it has after it.
+use Rattle.std.specs.Prelude.{ℕ, ◌+◌, ◌≡◌, Bool, true, false, not, ◌&&◌, ◌==◌, List, [], length, Option, Some, None, unwrap_or, if◌then◌else◌, codes, bytes_eq, nat_eq, ◌⊎◌, Result, Ok, Err}
 use Rattle.std.specs.Fmt.{decimal}
 use Rattle.http_message.specs.declared.Request.{Request}
 use Rattle.http_message.specs.declared.Response.{Response}
 use Rattle.wopi_info.specs.Infos.{info_text}
 use Rattle.http_message.specs.Statuses.{is_bodiless}
-use Rattle.wopi_host.specs.declared.table.Verdict.{Verdict}
-use Rattle.wopi_host.specs.declared.table.Verdict.TheVariants.{Refused, Info, Content, Sets, Removes, TellsLock, Replaces, Conflict}
+use Rattle.wopi_host.specs.declared.table.Action.{Action}
+use Rattle.wopi_host.specs.declared.table.Action.TheVariants.{Refused, Info, Content, Sets, Removes, TellsLock, Replaces, Conflict}
+use Rattle.wopi_host.specs.declared.marks.Lock.{Lock}
 use Rattle.wopi_host.specs.declared.marks.Marks.{Marks}
 use Rattle.wopi_host.specs.Targets.{Named, Nothing, TheFile, TheContents, named_at, path_of, target_right}
 use Rattle.wopi_host.specs.Table.{operation_of, by_operation}
@@ -25,15 +26,48 @@ SamePages old new = (id : List ℕ) → new id ≡ old id
 abbrev pub WritesPage : Pages → List ℕ → Marks → Pages → Type 0
 WritesPage old file marks new = (id : List ℕ) → new id ≡ (if bytes_eq id file then marks else old id)
 
+-- this file has this lock, and all else stays
+abbrev pub SetsLock : Pages → List ℕ → Option Lock → Pages → Type 0
+SetsLock old file lock new = WritesPage old file (record (old file) { lock = lock }) new
+
+-- this file has one put more, and all else stays
+abbrev pub CountsPut : Pages → List ℕ → Pages → Type 0
+CountsPut old file new = WritesPage old file (record (old file) { puts = (old file).puts + 1 }) new
+
+-- what a host has: the files of its keeper, where they are told, and the marks of each
+pub record HostAt : Type 0 where
+  pub files : Option Files
+  pub pages : Pages
+
+-- the same, where the files are told
+abbrev pub told_host : Files → Pages → HostAt
+told_host files pages = record { files = Some files; pages = pages }
+
+-- nothing of it changed
+pub record HostStays (old new : HostAt) : Type 0 where
+  pub files : SameFiles old.files new.files
+  pub pages : SamePages old.pages new.pages
+
+-- what is asked at a moment of a file, or of its contents
+pub record Asking : Type 0 where
+  pub file : List ℕ
+  pub contents : Bool
+  pub request : Request
+  pub now : ℕ
+
+-- the id of the lock that counts
+abbrev pub current_lock : Asking → HostAt → Option (List ℕ)
+current_lock a h = counting (h.pages a.file).lock a.now
+
 -- a token without a right comes before a missing file, and that before the rest
-abbrev pub verdict_at : Bool → Option Bool → Option (List ℕ) → Request → Option (List ℕ) → Verdict
-verdict_at contents None content r current = Refused 401
-verdict_at contents (Some writer) None r current = Refused 404
-verdict_at contents (Some writer) (Some bytes) r current =
+abbrev pub action_at : Bool → Option Bool → Option (List ℕ) → Request → Option (List ℕ) → Action
+action_at contents None content r current = Refused 401
+action_at contents (Some writer) None r current = Refused 404
+action_at contents (Some writer) (Some bytes) r current =
     by_operation (operation_of r.method contents r.over) r.old_lock writer r.lock current (length bytes == 0)
 
 -- the status
-abbrev pub status_of : Verdict → ℕ
+abbrev pub status_of : Action → ℕ
 status_of (Refused status) = status
 status_of Info = 200
 status_of Content = 200
@@ -44,7 +78,7 @@ status_of Replaces = 200
 status_of Conflict = 409
 
 -- a conflict and GetLock tell the id of the lock that counts, empty where there is none
-abbrev pub lock_told : Verdict → Option (List ℕ) → Option (List ℕ)
+abbrev pub lock_told : Action → Option (List ℕ) → Option (List ℕ)
 lock_told (Refused status) current = None
 lock_told Info current = None
 lock_told Content current = None
@@ -58,10 +92,15 @@ lock_told Conflict current = Some (unwrap_or current [])
 abbrev pub user_of : Bool → List ℕ
 user_of writer = if writer then codes "rw" else codes "ro"
 
+-- what CheckFileInfo tells of a file with this content and so many puts
+abbrev pub info_for : List ℕ → List ℕ → Bool → ℕ → List ℕ
+info_for file content writer puts =
+    info_text file (length content) writer (user_of writer) (decimal puts)
+
 -- the body
-abbrev pub body_of : Verdict → List ℕ → List ℕ → Bool → ℕ → List ℕ
+abbrev pub body_of : Action → List ℕ → List ℕ → Bool → ℕ → List ℕ
 body_of (Refused status) file content writer puts = []
-body_of Info file content writer puts = info_text file (length content) writer (user_of writer) (decimal puts)
+body_of Info file content writer puts = info_for file content writer puts
 body_of Content file content writer puts = content
 body_of Sets file content writer puts = []
 body_of Removes file content writer puts = []
@@ -70,19 +109,27 @@ body_of Replaces file content writer puts = []
 body_of Conflict file content writer puts = []
 
 -- the response
-abbrev pub response_for : Verdict → List ℕ → List ℕ → Bool → Option (List ℕ) → ℕ → Response
-response_for verdict file content writer current puts = record {
-  status = status_of verdict;
-  lock = lock_told verdict current;
-  body = body_of verdict file content writer puts;
+abbrev pub response_for : Action → List ℕ → List ℕ → Bool → Option (List ℕ) → ℕ → Response
+response_for action file content writer current puts = record {
+  status = status_of action;
+  lock = lock_told action current;
+  body = body_of action file content writer puts;
 }
 
 -- a response with a status alone
 abbrev pub bare : ℕ → Response
 bare status = record { status = status; lock = None; body = [] }
 
--- the keeper's files behind the verdict: a replaced content, or what they were
-abbrev pub FilesAfter : Verdict → Option Files → List ℕ → List ℕ → Option Files → Type 0
+-- a response with a body
+abbrev pub with_content : List ℕ → Response
+with_content body = record { status = 200; lock = None; body = body }
+
+-- a response that tells the id of the lock that counts, empty where there is none
+abbrev pub with_current : ℕ → Option (List ℕ) → Response
+with_current status current = record { status = status; lock = Some (unwrap_or current []); body = [] }
+
+-- the keeper's files after the action: a replaced content, or what they were
+abbrev pub FilesAfter : Action → Option Files → List ℕ → List ℕ → Option Files → Type 0
 FilesAfter (Refused status) old file body new = SameFiles old new
 FilesAfter Info old file body new = SameFiles old new
 FilesAfter Content old file body new = SameFiles old new
@@ -92,29 +139,53 @@ FilesAfter TellsLock old file body new = SameFiles old new
 FilesAfter Replaces old file body new = Keeps old file body new
 FilesAfter Conflict old file body new = SameFiles old new
 
--- the table's answer at a file, and what stands behind it
-pub record AnswersAt
-    (contents : Bool) (right : Option Bool) (file : List ℕ)
-    (files1 : Option Files) (pages1 : Pages) (r : Request) (now : ℕ) (response : Response)
-    (files2 : Option Files) (pages2 : Pages) : Type 0 where
-  pub content : Option (List ℕ)
-  pub verdict : Verdict
-  pub kept : IsKept files1 file content
-  pub judged : verdict ≡ verdict_at contents right content r (counting (pages1 file).lock now)
-  pub told : response ≡ response_for verdict file (unwrap_or content []) (unwrap_or right false) (counting (pages1 file).lock now) (pages1 file).puts
-  pub marked : WritesPage pages1 file (marks_after verdict (pages1 file) r.lock now) pages2
-  pub filed : FilesAfter verdict files1 file r.body files2
+-- what the host does at a file with this content, or without one
+abbrev pub chosen_action : Option Bool → Asking → Option (List ℕ) → HostAt → Action
+chosen_action right a content h = action_at a.contents right content a.request (current_lock a h)
 
--- nothing changed
-pub record Unchanged (files1 : Option Files) (pages1 : Pages) (files2 : Option Files) (pages2 : Pages) : Type 0 where
-  pub files : SameFiles files1 files2
-  pub pages : SamePages pages1 pages2
+-- the response to it
+abbrev pub told_response : Option Bool → Asking → Option (List ℕ) → HostAt → Action → Response
+told_response right a content h action =
+    response_for action a.file (unwrap_or content []) (unwrap_or right false) (current_lock a h)
+    (h.pages a.file).puts
+
+-- the file's marks after it
+abbrev pub MarksAfter : Asking → HostAt → Action → HostAt → Type 0
+MarksAfter a old action new =
+    WritesPage old.pages a.file (marks_after action (old.pages a.file) a.request.lock a.now) new.pages
+
+-- what the host has after it
+pub record ActsAt (a : Asking) (old : HostAt) (action : Action) (new : HostAt) : Type 0 where
+  pub filed : FilesAfter action old.files a.file a.request.body new.files
+  pub marked : MarksAfter a old action new
+
+-- the table's answer at a file, and what the host has after it
+pub record AnswersAt (right : Option Bool) (a : Asking) (old : HostAt) (response : Response)
+    (new : HostAt) : Type 0 where
+  pub content : Option (List ℕ)
+  pub action : Action
+  pub kept : IsKept old.files a.file content
+  pub chosen : action ≡ chosen_action right a content old
+  pub told : response ≡ told_response right a content old action
+  pub acts : ActsAt a old action new
 
 -- the answer where the path names nothing, or by the table
-abbrev pub Answers : Named → Option Bool → Option Files → Pages → Request → ℕ → Response → Option Files → Pages → Type 0
-Answers Nothing right files1 pages1 r now response files2 pages2 = (response ≡ bare 404) × Unchanged files1 pages1 files2 pages2
-Answers (TheFile file) right files1 pages1 r now response files2 pages2 = AnswersAt false right file files1 pages1 r now response files2 pages2
-Answers (TheContents file) right files1 pages1 r now response files2 pages2 = AnswersAt true right file files1 pages1 r now response files2 pages2
+abbrev pub Answers : Named → Option Bool → HostAt → Request → ℕ → Response → HostAt → Type 0
+Answers Nothing right old r now response new = (response ≡ bare 404) × HostStays old new
+Answers (TheFile file) right old r now response new =
+    AnswersAt right (record { file = file; contents = false; request = r; now = now }) old response new
+Answers (TheContents file) right old r now response new =
+    AnswersAt right (record { file = file; contents = true; request = r; now = now }) old response new
+
+-- a request is answered at a moment by the table
+abbrev pub TableAnswers : HostAt → Request → ℕ → Response → HostAt → Type 0
+TableAnswers old r now response new =
+    Answers (named_at (path_of r.target)) (target_right r.target) old r now response new
+
+-- by the table, or with 500, which changes nothing
+abbrev pub HostAnswers : HostAt → Request → ℕ → Response → HostAt → Type 0
+HostAnswers old r now response new =
+    TableAnswers old r now response new ⊎ ((response ≡ bare 500) × HostStays old new)
 
 -- a status that is not that of a failed keeper, and that has a body
 abbrev pub is_ordinary : ℕ → Bool
@@ -123,21 +194,6 @@ is_ordinary status = not (nat_eq status 500) && not (is_bodiless status)
 -- the same of a response
 abbrev pub IsOrdinary : Response → Type 0
 IsOrdinary r = is_ordinary r.status ≡ true
-
--- what a host has: the files of its keeper, where they are told, and the marks of each
-pub record HostAt : Type 0 where
-  pub files : Option Files
-  pub pages : Pages
-
--- nothing of it changed
-abbrev pub HostStays : HostAt → HostAt → Type 0
-HostStays old new = Unchanged old.files old.pages new.files new.pages
-
--- a request is answered at a moment: by the table, or with 500, which changes nothing
-abbrev pub HostAnswers : HostAt → Request → ℕ → Response → HostAt → Type 0
-HostAnswers old r now response new =
-    Answers (named_at (path_of r.target)) (target_right r.target) old.files old.pages r now response new.files new.pages
-    ⊎ ((response ≡ bare 500) × HostStays old new)
 
 -- the answer is 500, which the table never gives
 abbrev pub host_failed : {E : Type 0} → Result Response E → Bool

@@ -3,8 +3,8 @@ use Rattle.std.specs.Prelude.{ℕ, ◌+◌, ◌-◌, ◌^◌, min, nat_lt, List,
 use Rattle.std.specs.BTreeMap.{BTreeMap, get_by_text}
 use Rattle.wopi_host.specs.declared.marks.Lock.{Lock}
 use Rattle.wopi_host.specs.declared.marks.Marks.{Marks}
-use Rattle.wopi_host.specs.declared.table.Verdict.{Verdict}
-use Rattle.wopi_host.specs.declared.table.Verdict.TheVariants.{Refused, Info, Content, Sets, Removes, TellsLock, Replaces, Conflict}
+use Rattle.wopi_host.specs.declared.table.Action.{Action}
+use Rattle.wopi_host.specs.declared.table.Action.TheVariants.{Refused, Info, Content, Sets, Removes, TellsLock, Replaces, Conflict}
 
 -- no lock and no put
 abbrev pub unmarked : Marks
@@ -27,8 +27,8 @@ lock_end now = min (now + 1800) (2 ^ 64 - 1)
 abbrev pub lock_of : List ℕ → ℕ → Lock
 lock_of id now = record { id = id; end = lock_end now }
 
--- the marks behind the verdict
-abbrev pub marks_after : Verdict → Marks → Option (List ℕ) → ℕ → Marks
+-- the marks behind the action
+abbrev pub marks_after : Action → Marks → Option (List ℕ) → ℕ → Marks
 marks_after (Refused status) marks asked now = marks
 marks_after Info marks asked now = marks
 marks_after Content marks asked now = marks

@@ -7,8 +7,8 @@ use Rattle.wopi_host.specs.declared.table.Operation.{Operation}
 use Rattle.wopi_host.specs.declared.table.Operation.TheVariants as Asks
 use Rattle.wopi_host.specs.declared.table.Held.{Held}
 use Rattle.wopi_host.specs.declared.table.Held.TheVariants.{NoLock, TheSame, Another}
-use Rattle.wopi_host.specs.declared.table.Verdict.{Verdict}
-use Rattle.wopi_host.specs.declared.table.Verdict.TheVariants.{Refused, Info, Content, Sets, Removes, TellsLock, Replaces, Conflict}
+use Rattle.wopi_host.specs.declared.table.Action.{Action}
+use Rattle.wopi_host.specs.declared.table.Action.TheVariants.{Refused, Info, Content, Sets, Removes, TellsLock, Replaces, Conflict}
 use Rattle.wopi_host.specs.Targets.{Named, Nothing, TheFile, TheContents}
 
 -- the operation that `X-WOPI-Override` names at a file
@@ -79,7 +79,7 @@ held_for (Some id) None = Another
 held_for (Some id) (Some asked) = if bytes_eq id asked then TheSame else Another
 
 -- the table, where the flag says that the file has no byte
-abbrev pub table : Operation → Held → Bool → Verdict
+abbrev pub table : Operation → Held → Bool → Action
 table Asks.CheckFileInfo held empty = Info
 table Asks.GetFile held empty = Content
 table Asks.Lock NoLock empty = Sets
@@ -97,17 +97,17 @@ table Asks.PutFile TheSame empty = Replaces
 table Asks.PutFile Another empty = Conflict
 
 -- 400 where an operation that wants an id has none
-abbrev pub by_id : Operation → Option (List ℕ) → Option (List ℕ) → Bool → Verdict
+abbrev pub by_id : Operation → Option (List ℕ) → Option (List ℕ) → Bool → Action
 by_id op asked current empty =
     if wants_id op && not (is_lock_id asked) then Refused 400 else table op (held_for current asked) empty
 
 -- 401 where a token that may not write asks what wants it
-abbrev pub by_right : Operation → Bool → Option (List ℕ) → Option (List ℕ) → Bool → Verdict
+abbrev pub by_right : Operation → Bool → Option (List ℕ) → Option (List ℕ) → Bool → Action
 by_right op writer asked current empty =
     if wants_right op && not writer then Refused 401 else by_id op asked current empty
 
 -- 501 where no operation is named or the old lock is there
-abbrev pub by_operation : Option Operation → Bool → Bool → Option (List ℕ) → Option (List ℕ) → Bool → Verdict
+abbrev pub by_operation : Option Operation → Bool → Bool → Option (List ℕ) → Option (List ℕ) → Bool → Action
 by_operation None old_lock writer asked current empty = Refused 501
 by_operation (Some op) old_lock writer asked current empty =
     if old_lock then Refused 501 else by_right op writer asked current empty

@@ -1,8 +1,8 @@
 -- What a request's target names: a file or its contents, and the token of its query.
 use Rattle.std.specs.Prelude.{ℕ, ◌+◌, ◌-◌, unwrap_or, position, Bool, true, false, ◌&&◌, ◌==◌, List, [], ◌∷◌, length, drop, take, Option, Some, None, if◌then◌else◌, codes, nat_eq, bytes_eq}
 use Rattle.std.specs.List.{starts_with, ends_with}
-use Rattle.wopi_host.specs.declared.targets.Place.{Place}
-use Rattle.wopi_host.specs.declared.targets.Place.TheVariants as Places
+use Rattle.wopi_host.specs.declared.targets.Resource.{Resource}
+use Rattle.wopi_host.specs.declared.targets.Resource.TheVariants as Resources
 use Rattle.cool_base.specs.Words.{file_id}
 
 -- where the byte stands first, or the length where it doesn't
@@ -70,8 +70,8 @@ right_of (Some token) =
 abbrev pub target_right : List ℕ → Option Bool
 target_right target = right_of (token_from true (query_of target))
 
--- what the code's place says
-abbrev pub named_view : Place → Named
-named_view Places.Nothing = Nothing
-named_view (Places.File file) = TheFile file
-named_view (Places.Contents file) = TheContents file
+-- what the code's resource says
+abbrev pub named_view : Resource → Named
+named_view Resources.Nothing = Nothing
+named_view (Resources.File file) = TheFile file
+named_view (Resources.Contents file) = TheContents file

@@ -1,11 +1,9 @@
-//! The response to a verdict.
+//! The response to an action.
 ghost use Rattle.std.specs.Prelude.{◌≡◌, length, List, [], IfOk, unwrap_or, string_bytes, Option, None, Some};
 ghost use Rattle.std.specs.Option.{option_copied};
-ghost use Rattle.std.specs.Fmt.{decimal};
-ghost use Rattle.wopi_info.specs.Infos.{info_text};
-ghost use Rattle.wopi_host.specs.Hosts.{bare, response_for, user_of};
+ghost use Rattle.wopi_host.specs.Hosts.{bare, with_content, with_current, info_for, response_for, user_of};
 
-use crate::table::Verdict;
+use crate::table::Action;
 use bytes::Bytes;
 use cool_base::{FileId, Memory, TextOf};
 use http_message::Response;
@@ -24,7 +22,7 @@ pub fn bare_response(status: u16) -> Response
 }
 
 fn with_body(body: Bytes) -> Response
-    ensures { result ≡ record { status = 200; lock = None; body = body } }
+    ensures { result ≡ with_content body }
 {
     Response {
         status: 200,
@@ -44,7 +42,7 @@ pub fn text_or_empty(alloc: Global, text: Option<&str>) -> Result<TextOf, Memory
 }
 
 fn with_lock(alloc: Global, status: u16, current: Option<&str>) -> Result<Response, Memory>
-    ensures { IfOk result (λ r. r ≡ record { status = status; lock = Some (unwrap_or (option_copied current.entry) []); body = [] }) }
+    ensures { IfOk result (λ r. r ≡ with_current status (option_copied current.entry)) }
 {
     let lock = text_or_empty(alloc, current)?;
     Ok(Response {
@@ -67,7 +65,7 @@ fn info(
     writer: bool,
     puts: u64,
 ) -> Result<Bytes, Memory>
-    ensures { IfOk result (λ b. b ≡ info_text file.now (length content.now) writer (user_of writer) (decimal puts)) }
+    ensures { IfOk result (λ b. b ≡ info_for file.now content.now writer puts) }
 {
     let version = puts.to_string(alloc)?;
     let size = content.len() as u64;
@@ -82,26 +80,27 @@ fn info(
     Ok(Bytes::from_string(text)?)
 }
 
-/// The response to the verdict.
+/// The response to the action.
 pub fn respond(
     alloc: Global,
-    verdict: Verdict,
+    action: Action,
     file: &FileId,
     content: &Bytes,
     writer: bool,
     current: Option<&str>,
     puts: u64,
 ) -> Result<Response, Memory>
-    ensures { IfOk result (λ r. r ≡ response_for verdict file.now content.now writer (option_copied current.entry) puts) }
+    ensures { IfOk result (λ r.
+        r ≡ response_for action file.now content.now writer (option_copied current.entry) puts) }
 {
-    match verdict {
-        Verdict::Refused(status) => Ok(bare_response(status)),
-        Verdict::Info => Ok(with_body(info(alloc, file, content, writer, puts)?)),
-        Verdict::Content => Ok(with_body(content.clone()?)),
-        Verdict::Sets => Ok(bare_response(200)),
-        Verdict::Removes => Ok(bare_response(200)),
-        Verdict::TellsLock => with_lock(alloc, 200, current),
-        Verdict::Replaces => Ok(bare_response(200)),
-        Verdict::Conflict => with_lock(alloc, 409, current),
+    match action {
+        Action::Refused(status) => Ok(bare_response(status)),
+        Action::Info => Ok(with_body(info(alloc, file, content, writer, puts)?)),
+        Action::Content => Ok(with_body(content.clone()?)),
+        Action::Sets => Ok(bare_response(200)),
+        Action::Removes => Ok(bare_response(200)),
+        Action::TellsLock => with_lock(alloc, 200, current),
+        Action::Replaces => Ok(bare_response(200)),
+        Action::Conflict => with_lock(alloc, 409, current),
     }
 }

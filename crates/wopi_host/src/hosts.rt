@@ -1,18 +1,18 @@
 //! The host.
-ghost use Rattle.std.specs.Prelude.{◌≡◌, ◌<◌, ◌+◌, ◌^◌, ◌⊎◌, ◌==◌, min, ℕ, List, [], length, Option, Some, None, true, false, IsTrue, IfOk, OnOk, OnErr, option_map, unwrap_or};
+ghost use Rattle.std.specs.Prelude.{◌≡◌, ℕ, List, [], Option, Some, None, IfOk, OnOk, OnErr, unwrap_or};
 ghost use Rattle.std.specs.Option.{option_copied};
-ghost use Rattle.outside.specs.Causes.{HasCause};
 ghost use Rattle.wopi_host.specs.Targets.{named_at, path_of, target_right};
-ghost use Rattle.wopi_host.specs.Table.{operation_of, by_operation, is_lock_text};
-ghost use Rattle.wopi_host.specs.Keepers.{Files, IsKept, Keeps, SameFiles, keeper_failed};
-ghost use Rattle.wopi_host.specs.Marks.{marks_in, counting, marks_after, lock_end, lock_of, unmarked};
-ghost use Rattle.wopi_host.specs.Hosts.{Pages, SamePages, WritesPage, verdict_at, response_for, bare, FilesAfter, AnswersAt, Answers, IsOrdinary};
+ghost use Rattle.wopi_host.specs.Table.{is_lock_text};
+ghost use Rattle.wopi_host.specs.Keepers.{IsKept, Keeps, SameFiles};
+ghost use Rattle.wopi_host.specs.Marks.{marks_in, lock_end, lock_of, unmarked};
+ghost use Rattle.wopi_host.specs.Hosts.{SamePages, SetsLock, action_at};
+ghost use Rattle.wopi_host.specs.Kept.{asking};
 
 use crate::answers::{bare_response, respond, text_or_empty};
 use crate::keepers::{Keeper, KeeperFault};
-use crate::marks::{Book, Lock, count_put, erase_lock, lock_at, make_place, puts_of, write_lock};
-use crate::table::{Verdict, asked_operation, judge};
-use crate::targets::{Place, place_of, writer};
+use crate::marks::{Book, Lock, count_put, erase_lock, lock_at, make_room, puts_of, write_lock};
+use crate::table::{Action, action_by_operation, asked_operation};
+use crate::targets::{Resource, resource_of, writer};
 use bytes::Bytes;
 use cool_base::{FileId, Memory, TextOf};
 use http_message::{Request, Response};
@@ -28,6 +28,16 @@ pub const LOCK_SECONDS: u64 = 1800;
 pub struct Host<Q: Keeper> {
     keeper: Q,
     book: Book,
+    alloc: Global,
+}
+
+// What is asked of a file, or of its contents, at a moment in seconds.
+#[derive(Drop)]
+struct Asked<'a> {
+    file: &'a FileId,
+    contents: bool,
+    request: &'a Request,
+    moment: u64,
 }
 
 fn text_in(text: &Option<TextOf>) -> Option<&str>
@@ -48,23 +58,20 @@ fn bytes_in(text: Option<&str>) -> Option<&[u8]>
     }
 }
 
-fn verdict_for(
-    request: &Request,
-    contents: bool,
-    writer: bool,
-    content: &Bytes,
-    current: Option<&str>,
-) -> Verdict
-    ensures { result ≡ verdict_at contents (Some writer) (Some content.now) request.now (option_copied current.entry) }
+// What the host does at a file with this content, by the lock that counts.
+fn action_for(asked: &Asked<'_>, writer: bool, content: &Bytes, current: Option<&str>) -> Action
+    ensures { let asks = asking asked.now in
+        result ≡ action_at asks.contents (Some writer) (Some content.now) asks.request
+        (option_copied current.entry) }
 {
+    let request = asked.request;
     let over = bytes_in(text_in(&request.over));
-    let asked = bytes_in(text_in(&request.lock));
-    let operation = asked_operation(request.method, contents, over);
-    judge(
+    let operation = asked_operation(request.method, asked.contents, over);
+    action_by_operation(
         operation,
         request.old_lock,
         writer,
-        asked,
+        bytes_in(text_in(&request.lock)),
         bytes_in(current),
         content.is_empty(),
     )
@@ -84,11 +91,12 @@ fn put_lock(
     id: Option<&str>,
     now: u64,
 ) -> Result<(), Memory>
-    ensures ok { OnOk result (WritesPage (marks_in book.old) file.now (record (marks_in book.old file.now) { lock = Some (lock_of (unwrap_or (option_copied id.entry) []) now) }) (marks_in book.new)) }
+    ensures ok { OnOk result (let lock = lock_of (unwrap_or (option_copied id.entry) []) now in
+        SetsLock (marks_in book.old) file.now (Some lock) (marks_in book.new)) }
     ensures err { OnErr result (SamePages (marks_in book.old) (marks_in book.new)) }
 {
     let id = text_or_empty(alloc, id)?;
-    make_place(alloc, book, file)?;
+    make_room(alloc, book, file)?;
     let lock = Lock {
         id,
         end: end_of(now),
@@ -99,207 +107,162 @@ fn put_lock(
 
 // Takes the lock away.
 fn drop_lock(alloc: Global, book: &mut Book, file: &FileId) -> Result<(), Memory>
-    ensures ok { OnOk result (WritesPage (marks_in book.old) file.now (record (marks_in book.old file.now) { lock = None }) (marks_in book.new)) }
+    ensures ok { OnOk result (SetsLock (marks_in book.old) file.now None (marks_in book.new)) }
     ensures err { OnErr result (SamePages (marks_in book.old) (marks_in book.new)) }
 {
-    make_place(alloc, book, file)?;
+    make_room(alloc, book, file)?;
     write_lock(book, file, None);
     Ok(())
 }
 
-#[tactic(auto, using(crate::proofs::Same::same_files))]
-// Replaces the content and counts the put. The place for the count is made before the keeper is asked.
-fn replace<Q: Keeper>(
-    alloc: Global,
-    keeper: &mut Q,
-    book: &mut Book,
-    file: &FileId,
-    content: &Bytes,
-) -> Result<(), KeeperFault>
-    ensures keeps { OnOk result (Keeps (Q.files keeper.old) file.now content.now (Q.files keeper.new)) }
-    ensures counts { OnOk result (WritesPage (marks_in book.old) file.now (record (marks_in book.old file.now) { puts = (marks_in book.old file.now).puts + 1 }) (marks_in book.new)) }
-    ensures files { OnErr result (SameFiles (Q.files keeper.old) (Q.files keeper.new)) }
-    ensures pages { OnErr result (SamePages (marks_in book.old) (marks_in book.new)) }
-    ensures cause { HasCause (Q.faults keeper.old) (Q.faults keeper.new) (keeper_failed result ≡ true) }
-{
-    if puts_of(book, file) == u64::MAX {
-        return Err(KeeperFault::Memory);
-    }
-    if make_place(alloc, book, file).is_err() {
-        return Err(KeeperFault::Memory);
-    }
-    keeper.keep(alloc, file, content)?;
-    count_put(book, file);
-    Ok(())
-}
+impl<Q: Keeper + Drop> Host<Q> {
+    ghost use Rattle.std.specs.Prelude.{◌≡◌, ℕ, List, [], Some, None, IfOk, OnOk, OnErr};
+    ghost use Rattle.wopi_host.specs.Hosts.{CountsPut, ActsAt, AnswersAt, TableAnswers, IsOrdinary};
+    ghost use Rattle.wopi_host.specs.Kept.{files_of, pages_of, host_at, StaysAt, FailsByKeeper, asking};
 
-// Does what the verdict says.
-#[tactic(auto, using(crate::proofs::Same::same_files))]
-fn carry_out<Q: Keeper>(
-    alloc: Global,
-    keeper: &mut Q,
-    book: &mut Book,
-    file: &FileId,
-    request: &Request,
-    now: u64,
-    verdict: Verdict,
-) -> Result<(), KeeperFault>
-    ensures filed { OnOk result (FilesAfter verdict (Q.files keeper.old) file.now request.now.body (Q.files keeper.new)) }
-    ensures marked { OnOk result (WritesPage (marks_in book.old) file.now (marks_after verdict (marks_in book.old file.now) request.now.lock now) (marks_in book.new)) }
-    ensures files { OnErr result (SameFiles (Q.files keeper.old) (Q.files keeper.new)) }
-    ensures pages { OnErr result (SamePages (marks_in book.old) (marks_in book.new)) }
-    ensures cause { HasCause (Q.faults keeper.old) (Q.faults keeper.new) (keeper_failed result ≡ true) }
-{
-    match verdict {
-        Verdict::Sets => match put_lock(alloc, book, file, text_in(&request.lock), now) {
-            Ok(()) => Ok(()),
-            Err(Memory) => Err(KeeperFault::Memory),
-        },
-        Verdict::Removes => match drop_lock(alloc, book, file) {
-            Ok(()) => Ok(()),
-            Err(Memory) => Err(KeeperFault::Memory),
-        },
-        Verdict::Replaces => replace(alloc, keeper, book, file, &request.body),
-        Verdict::Refused(_) => Ok(()),
-        Verdict::Info => Ok(()),
-        Verdict::Content => Ok(()),
-        Verdict::TellsLock => Ok(()),
-        Verdict::Conflict => Ok(()),
+    // Replaces the content and counts the put. There is room for the count before the keeper is
+    // asked.
+    #[tactic(auto, using(crate::proofs::Same::same_files))]
+    fn replace(&mut self, file: &FileId, content: &Bytes) -> Result<(), KeeperFault>
+        ensures keeps { let before = files_of Q.files self.old in
+            OnOk result (Keeps before file.now content.now (files_of Q.files self.new)) }
+        ensures counts { OnOk result (CountsPut (pages_of self.old) file.now (pages_of self.new)) }
+        ensures err { OnErr result (StaysAt Q.files self.old self.new) }
+        ensures cause { FailsByKeeper Q.faults self.old self.new result }
+    {
+        if puts_of(&self.book, file) == u64::MAX {
+            return Err(KeeperFault::Memory);
+        }
+        if make_room(self.alloc, &mut self.book, file).is_err() {
+            return Err(KeeperFault::Memory);
+        }
+        self.keeper.keep(self.alloc, file, content)?;
+        count_put(&mut self.book, file);
+        Ok(())
     }
-}
 
-// The answer at a file that the keeper has.
-fn answer_found<Q: Keeper>(
-    alloc: Global,
-    keeper: &mut Q,
-    book: &mut Book,
-    file: &FileId,
-    request: &Request,
-    now: u64,
-    contents: bool,
-    writer: bool,
-    content: &Bytes,
-) -> Result<Response, KeeperFault>
-    ensures ok { IfOk result (λ r. IsKept (Q.files keeper.old) file.now (Some content.now)
-        → AnswersAt contents (Some writer) file.now (Q.files keeper.old) (marks_in book.old) request.now now r (Q.files keeper.new) (marks_in book.new)) }
-    ensures files { OnErr result (SameFiles (Q.files keeper.old) (Q.files keeper.new)) }
-    ensures pages { OnErr result (SamePages (marks_in book.old) (marks_in book.new)) }
-    ensures cause { HasCause (Q.faults keeper.old) (Q.faults keeper.new) (keeper_failed result ≡ true) }
-{
-    let current = lock_at(book, file, now);
-    let verdict = verdict_for(request, contents, writer, content, current);
-    let puts = puts_of(book, file);
-    let Ok(response) = respond(alloc, verdict, file, content, writer, current, puts) else {
-        return Err(KeeperFault::Memory);
-    };
-    match carry_out(alloc, keeper, book, file, request, now, verdict) {
-        Ok(()) => Ok(response),
-        Err(fault) => Err(fault),
+    // Does the action.
+    #[tactic(auto, using(crate::proofs::Same::same_files))]
+    fn carry_out(&mut self, asked: &Asked<'_>, action: Action) -> Result<(), KeeperFault>
+        ensures ok { let before = host_at Q.files self.old in
+            OnOk result (ActsAt (asking asked.now) before action (host_at Q.files self.new)) }
+        ensures err { OnErr result (StaysAt Q.files self.old self.new) }
+        ensures cause { FailsByKeeper Q.faults self.old self.new result }
+    {
+        match action {
+            Action::Sets => {
+                let id = text_in(&asked.request.lock);
+                match put_lock(self.alloc, &mut self.book, asked.file, id, asked.moment) {
+                    Ok(()) => Ok(()),
+                    Err(Memory) => Err(KeeperFault::Memory),
+                }
+            }
+            Action::Removes => match drop_lock(self.alloc, &mut self.book, asked.file) {
+                Ok(()) => Ok(()),
+                Err(Memory) => Err(KeeperFault::Memory),
+            },
+            Action::Replaces => self.replace(asked.file, &asked.request.body),
+            Action::Refused(_) => Ok(()),
+            Action::Info => Ok(()),
+            Action::Content => Ok(()),
+            Action::TellsLock => Ok(()),
+            Action::Conflict => Ok(()),
+        }
     }
-}
 
-// The answer at a file, by the content that the keeper gave.
-fn answer_with<Q: Keeper>(
-    alloc: Global,
-    keeper: &mut Q,
-    book: &mut Book,
-    file: &FileId,
-    request: &Request,
-    now: u64,
-    contents: bool,
-    writer: bool,
-    content: Option<Bytes>,
-) -> Result<Response, KeeperFault>
-    ensures ok { IfOk result (λ r. IsKept (Q.files keeper.old) file.now content
-        → AnswersAt contents (Some writer) file.now (Q.files keeper.old) (marks_in book.old) request.now now r (Q.files keeper.new) (marks_in book.new)) }
-    ensures files { OnErr result (SameFiles (Q.files keeper.old) (Q.files keeper.new)) }
-    ensures pages { OnErr result (SamePages (marks_in book.old) (marks_in book.new)) }
-    ensures cause { HasCause (Q.faults keeper.old) (Q.faults keeper.new) (keeper_failed result ≡ true) }
-{
-    match content {
-        None => Ok(bare_response(404)),
-        Some(content) => answer_found(
-            alloc, keeper, book, file, request, now, contents, writer, &content,
-        ),
+    // The answer at a file that the keeper has.
+    fn answer_found(
+        &mut self,
+        asked: &Asked<'_>,
+        writer: bool,
+        content: &Bytes,
+    ) -> Result<Response, KeeperFault>
+        ensures ok { let before = host_at Q.files self.old in
+            let after = host_at Q.files self.new in
+            IfOk result (λ r. IsKept before.files asked.now.file.now (Some content.now)
+            → AnswersAt (Some writer) (asking asked.now) before r after) }
+        ensures err { OnErr result (StaysAt Q.files self.old self.new) }
+        ensures cause { FailsByKeeper Q.faults self.old self.new result }
+    {
+        let current = lock_at(&self.book, asked.file, asked.moment);
+        let action = action_for(asked, writer, content, current);
+        let puts = puts_of(&self.book, asked.file);
+        let Ok(response) = respond(
+            self.alloc, action, asked.file, content, writer, current, puts,
+        ) else {
+            return Err(KeeperFault::Memory);
+        };
+        match self.carry_out(asked, action) {
+            Ok(()) => Ok(response),
+            Err(fault) => Err(fault),
+        }
     }
-}
 
-// The answer at a file, where the token is known.
-fn answer_file<Q: Keeper>(
-    alloc: Global,
-    keeper: &mut Q,
-    book: &mut Book,
-    file: &FileId,
-    request: &Request,
-    now: u64,
-    contents: bool,
-    writer: bool,
-) -> Result<Response, KeeperFault>
-    ensures ok { IfOk result (λ r. AnswersAt contents (Some writer) file.now (Q.files keeper.old) (marks_in book.old) request.now now r (Q.files keeper.new) (marks_in book.new)) }
-    ensures files { OnErr result (SameFiles (Q.files keeper.old) (Q.files keeper.new)) }
-    ensures pages { OnErr result (SamePages (marks_in book.old) (marks_in book.new)) }
-    ensures cause { HasCause (Q.faults keeper.old) (Q.faults keeper.new) (keeper_failed result ≡ true) }
-{
-    match keeper.find(alloc, file) {
-        Ok(content) => answer_with(
-            alloc, keeper, book, file, request, now, contents, writer, content,
-        ),
-        Err(fault) => Err(fault),
+    // The answer at a file, where the token is known.
+    fn answer_file(&mut self, asked: &Asked<'_>, writer: bool) -> Result<Response, KeeperFault>
+        ensures ok { let before = host_at Q.files self.old in
+            let after = host_at Q.files self.new in
+            IfOk result (λ r. AnswersAt (Some writer) (asking asked.now) before r after) }
+        ensures err { OnErr result (StaysAt Q.files self.old self.new) }
+        ensures cause { FailsByKeeper Q.faults self.old self.new result }
+    {
+        match self.keeper.find(self.alloc, asked.file) {
+            Ok(Some(content)) => self.answer_found(asked, writer, &content),
+            Ok(None) => Ok(bare_response(404)),
+            Err(fault) => Err(fault),
+        }
     }
-}
 
-// The answer at a file.
-fn answer_at<Q: Keeper>(
-    alloc: Global,
-    keeper: &mut Q,
-    book: &mut Book,
-    file: &FileId,
-    request: &Request,
-    now: u64,
-    contents: bool,
-    right: Option<bool>,
-) -> Result<Response, KeeperFault>
-    ensures ok { IfOk result (λ r. AnswersAt contents right file.now (Q.files keeper.old) (marks_in book.old) request.now now r (Q.files keeper.new) (marks_in book.new)) }
-    ensures files { OnErr result (SameFiles (Q.files keeper.old) (Q.files keeper.new)) }
-    ensures pages { OnErr result (SamePages (marks_in book.old) (marks_in book.new)) }
-    ensures cause { HasCause (Q.faults keeper.old) (Q.faults keeper.new) (keeper_failed result ≡ true) }
-{
-    match right {
-        None => Ok(bare_response(401)),
-        Some(writer) => answer_file(alloc, keeper, book, file, request, now, contents, writer),
+    // The answer at a file.
+    #[tactic(auto, using(crate::proofs::Same::same_files))]
+    fn answer_at(&mut self, asked: &Asked<'_>, right: Option<bool>) -> Result<Response, KeeperFault>
+        ensures ok { let before = host_at Q.files self.old in
+            let after = host_at Q.files self.new in
+            IfOk result (λ r. AnswersAt right (asking asked.now) before r after) }
+        ensures err { OnErr result (StaysAt Q.files self.old self.new) }
+        ensures cause { FailsByKeeper Q.faults self.old self.new result }
+    {
+        match right {
+            None => Ok(bare_response(401)),
+            Some(writer) => self.answer_file(asked, writer),
+        }
     }
-}
 
-// The answer to a request, but for the keeper's faults.
-fn answer_request<Q: Keeper>(
-    alloc: Global,
-    keeper: &mut Q,
-    book: &mut Book,
-    request: &Request,
-    now: u64,
-) -> Result<Response, KeeperFault>
-    ensures ok { IfOk result (λ r. Answers (named_at (path_of request.now.target)) (target_right request.now.target) (Q.files keeper.old) (marks_in book.old) request.now now r (Q.files keeper.new) (marks_in book.new)) }
-    ensures files { OnErr result (SameFiles (Q.files keeper.old) (Q.files keeper.new)) }
-    ensures pages { OnErr result (SamePages (marks_in book.old) (marks_in book.new)) }
-    ensures ordinary { IfOk result IsOrdinary }
-    ensures cause { HasCause (Q.faults keeper.old) (Q.faults keeper.new) (keeper_failed result ≡ true) }
-{
-    let target = request.target.get().as_bytes();
-    let right = writer(target);
-    match place_of(target) {
-        Place::Nothing => Ok(bare_response(404)),
-        Place::File(file) => answer_at(alloc, keeper, book, &file, request, now, false, right),
-        Place::Contents(file) => answer_at(alloc, keeper, book, &file, request, now, true, right),
+    // The answer to a request at this moment, but for the keeper's faults.
+    fn answer_request(&mut self, request: &Request, moment: u64) -> Result<Response, KeeperFault>
+        ensures ok { let before = host_at Q.files self.old in
+            let after = host_at Q.files self.new in
+            IfOk result (λ r. TableAnswers before request.now moment r after) }
+        ensures err { OnErr result (StaysAt Q.files self.old self.new) }
+        ensures ordinary { IfOk result IsOrdinary }
+        ensures cause { FailsByKeeper Q.faults self.old self.new result }
+    {
+        let target = request.target.get().as_bytes();
+        let right = writer(target);
+        let (file, contents) = match resource_of(target) {
+            Resource::Nothing => return Ok(bare_response(404)),
+            Resource::File(file) => (file, false),
+            Resource::Contents(file) => (file, true),
+        };
+        let asked = Asked {
+            file: &file,
+            contents,
+            request,
+            moment,
+        };
+        self.answer_at(&asked, right)
     }
 }
 
 impl<Q: Keeper + Drop> Host<Q> {
-    ghost use Rattle.std.specs.Prelude.{◌≡◌, ◌⊎◌, ℕ, List, Some, IfOk, OnOk, OnErr, unwrap_or, None, IsTrue};
+    ghost use Rattle.std.specs.Prelude.{◌≡◌, ℕ, List, Some, None, IfOk, OnOk, OnErr, IsTrue, true};
+    ghost use Rattle.outside.specs.Causes.{HasCause};
     ghost use Rattle.http_message.specs.Statuses.{HasDueBody};
-    ghost use Rattle.wopi_host.specs.Hosts.{HostAnswers, HostStays, host_failed};
-    ghost use Rattle.wopi_host.specs.Kept.{keeper_of, pages_of, host_at};
+    ghost use Rattle.wopi_host.specs.Hosts.{HostAnswers, host_failed};
+    ghost use Rattle.wopi_host.specs.Kept.{keeper_of, files_of, pages_of, host_at, StaysAt, FailsByKeeper};
 
-    /// A host over the keeper: no file has a lock and each has 0 puts.
+    /// A host over the keeper: no file has a lock and each has 0 puts. Later calls take their memory
+    /// from `alloc` too.
     pub fn new(alloc: Global, keeper: Q) -> Result<Host<Q>, Memory>
         ensures keeper { IfOk result (λ host. keeper_of host ≡ keeper) }
         ensures pages { IfOk result (λ host. (id : List ℕ) → pages_of host id ≡ unmarked) }
@@ -307,66 +270,68 @@ impl<Q: Keeper + Drop> Host<Q> {
         Ok(Host {
             keeper,
             book: BTreeMap::new(alloc),
+            alloc,
         })
     }
 
-    /// The response to a request at this moment, in seconds. Where the keeper fails it is a bare 500 and
-    /// nothing changes; no other answer has that status. There is a body only where the status has one. Where no memory is left no content, lock or count of puts changes.
+    /// The response to a request at this moment, in seconds. Where the keeper fails it is a bare
+    /// 500 and nothing changes; no other answer has that status. There is a body only where the
+    /// status has one. Where no memory is left, no content, lock or count of puts changes.
     #[tactic(auto, using(crate::proofs::Statuses::ordinary_cause, crate::proofs::Statuses::ordinary_body))]
-    pub fn answer(&mut self, alloc: Global, request: &Request, now: u64) -> Result<Response, Memory>
-        ensures ok { IfOk result (λ r. HostAnswers (host_at Q.files self.old) request.now now r (host_at Q.files self.new)) }
-        ensures err { OnErr result (HostStays (host_at Q.files self.old) (host_at Q.files self.new)) }
+    pub fn answer(&mut self, request: &Request, now: u64) -> Result<Response, Memory>
+        ensures ok { let before = host_at Q.files self.old in
+            let after = host_at Q.files self.new in
+            IfOk result (λ r. HostAnswers before request.now now r after) }
+        ensures err { OnErr result (StaysAt Q.files self.old self.new) }
 
         // The status is 500 exactly where the keeper failed.
-        ensures cause { HasCause (Q.faults (keeper_of self.old)) (Q.faults (keeper_of self.new)) (host_failed result ≡ true) }
+        ensures cause { let before = Q.faults (keeper_of self.old) in
+            HasCause before (Q.faults (keeper_of self.new)) (host_failed result ≡ true) }
         ensures body { IfOk result HasDueBody }
     {
-        match answer_request(alloc, &mut self.keeper, &mut self.book, request, now) {
+        match self.answer_request(request, now) {
             Ok(response) => Ok(response),
             Err(KeeperFault::Failed) => Ok(bare_response(500)),
             Err(KeeperFault::Memory) => Err(Memory),
         }
     }
 
-    /// Keeps the file with this content.
-    pub fn add(&mut self, alloc: Global, file: &FileId, content: &Bytes) -> Result<(), KeeperFault>
-        ensures keeps { OnOk result (Keeps (Q.files (keeper_of self.old)) file.now content.now (Q.files (keeper_of self.new))) }
-        ensures stays { OnErr result (SameFiles (Q.files (keeper_of self.old)) (Q.files (keeper_of self.new))) }
+    /// Keeps the file with this content. A refused keep keeps nothing.
+    pub fn add(&mut self, file: &FileId, content: &Bytes) -> Result<(), KeeperFault>
+        ensures keeps { let before = files_of Q.files self.old in
+            OnOk result (Keeps before file.now content.now (files_of Q.files self.new)) }
+        ensures stays { let before = files_of Q.files self.old in
+            OnErr result (SameFiles before (files_of Q.files self.new)) }
         ensures pages { pages_of self.new ≡ pages_of self.old }
-        ensures cause { HasCause (Q.faults (keeper_of self.old)) (Q.faults (keeper_of self.new)) (keeper_failed result ≡ true) }
+        ensures cause { FailsByKeeper Q.faults self.old self.new result }
     {
-        self.keeper.keep(alloc, file, content)
+        self.keeper.keep(self.alloc, file, content)
     }
 
     /// The file's content; None exactly where the keeper lacks the file.
-    pub fn content(&mut self, alloc: Global, file: &FileId) -> Result<Option<Bytes>, KeeperFault>
-        ensures finds { IfOk result (IsKept (Q.files (keeper_of self.old)) file.now) }
-        ensures stays { SameFiles (Q.files (keeper_of self.old)) (Q.files (keeper_of self.new)) }
+    pub fn content(&mut self, file: &FileId) -> Result<Option<Bytes>, KeeperFault>
+        ensures finds { IfOk result (IsKept (files_of Q.files self.old) file.now) }
+        ensures stays { SameFiles (files_of Q.files self.old) (files_of Q.files self.new) }
         ensures pages { pages_of self.new ≡ pages_of self.old }
-        ensures cause { HasCause (Q.faults (keeper_of self.old)) (Q.faults (keeper_of self.new)) (keeper_failed result ≡ true) }
+        ensures cause { FailsByKeeper Q.faults self.old self.new result }
     {
-        self.keeper.find(alloc, file)
+        self.keeper.find(self.alloc, file)
     }
 
     /// The file's lock becomes this id, and ends 1,800 seconds later.
-    pub fn set_lock(
-        &mut self,
-        alloc: Global,
-        file: &FileId,
-        id: &str,
-        now: u64,
-    ) -> Result<(), Memory>
+    pub fn set_lock(&mut self, file: &FileId, id: &str, now: u64) -> Result<(), Memory>
         requires { IsTrue (is_lock_text id.now) }
-        ensures ok { OnOk result (WritesPage (pages_of self.old) file.now (record (pages_of self.old file.now) { lock = Some (lock_of id.now now) }) (pages_of self.new)) }
+        ensures ok { let lock = lock_of id.now now in
+            OnOk result (SetsLock (pages_of self.old) file.now (Some lock) (pages_of self.new)) }
         ensures err { OnErr result (SamePages (pages_of self.old) (pages_of self.new)) }
         ensures keeper { keeper_of self.new ≡ keeper_of self.old }
     {
-        put_lock(alloc, &mut self.book, file, Some(id), now)
+        put_lock(self.alloc, &mut self.book, file, Some(id), now)
     }
 
     /// The file has no lock. It takes no memory.
     pub fn clear_lock(&mut self, file: &FileId)
-        ensures cleared { WritesPage (pages_of self.old) file.now (record (pages_of self.old file.now) { lock = None }) (pages_of self.new) }
+        ensures cleared { SetsLock (pages_of self.old) file.now None (pages_of self.new) }
         ensures keeper { keeper_of self.new ≡ keeper_of self.old }
     {
         erase_lock(&mut self.book, file);
@@ -376,7 +341,11 @@ impl<Q: Keeper + Drop> Host<Q> {
     pub fn into_keeper(self) -> Q
         ensures { result ≡ keeper_of self }
     {
-        let Host { keeper, book: _ } = self;
+        let Host {
+            keeper,
+            book: _,
+            alloc: _,
+        } = self;
         keeper
     }
 }

@@ -77,8 +77,10 @@ fn store(
     file: &FileId,
     content: &Bytes,
 ) -> Result<(), KeeperFault>
-    ensures keeps { OnOk result (Keeps (Some (get_by_text files.old)) file.now content.now (Some (get_by_text files.new))) }
-    ensures stays { OnErr result (SameFiles (Some (get_by_text files.old)) (Some (get_by_text files.new))) }
+    ensures keeps { let before = Some (get_by_text files.old) in
+        OnOk result (Keeps before file.now content.now (Some (get_by_text files.new))) }
+    ensures stays { let before = Some (get_by_text files.old) in
+        OnErr result (SameFiles before (Some (get_by_text files.new))) }
     ensures memory { keeper_failed result ≡ false }
 {
     let Ok(key) = String::from_str(alloc, file.text()) else {

@@ -5,7 +5,7 @@
 //! - `table`: what each operation does to a file, by its lock.
 //! - `keepers`: what the files are kept in.
 //! - `marks`: the locks and counts of puts.
-//! - `answers`: the response to a verdict.
+//! - `answers`: the response to a action.
 //! - `hosts`: the host, which joins them.
 //! - `laws`: there is one answer.
 #![tactic(auto)]

@@ -1,8 +1,9 @@
 //! The locks and counts of puts that a host keeps, by file.
-ghost use Rattle.std.specs.Prelude.{◌≡◌, ◌<◌, ◌+◌, ◌^◌, ℕ, List, Option, Some, None, IsSome, OnOk, OnErr, if◌then◌else◌, bytes_eq};
+ghost use Rattle.std.specs.Prelude.{◌≡◌, ◌<◌, ◌+◌, ◌^◌, Option, Some, None, IsSome, OnOk};
 ghost use Rattle.std.specs.BTreeMap.{get_by_text};
 ghost use Rattle.std.specs.Option.{option_copied};
 ghost use Rattle.wopi_host.specs.Marks.{marks_in, counting, unmarked};
+ghost use Rattle.wopi_host.specs.Hosts.{SamePages, SetsLock, CountsPut};
 
 use cool_base::{FileId, Memory, TextOf};
 use std::alloc::Global;
@@ -61,11 +62,11 @@ pub fn puts_of(book: &Book, file: &FileId) -> u64
     }
 }
 
-/// Makes a place for the file's marks, so that they can be written without taking memory.
+/// Makes room for the file's marks, so that they can be written without taking memory.
 #[tactic(auto, using(std::proofs::lemmas::Map::Text::text_keys))]
-pub fn make_place(alloc: Global, book: &mut Book, file: &FileId) -> Result<(), Memory>
-    ensures place { OnOk result (IsSome (get_by_text book.new file.now)) }
-    ensures same { (id : List ℕ) → marks_in book.new id ≡ marks_in book.old id }
+pub fn make_room(alloc: Global, book: &mut Book, file: &FileId) -> Result<(), Memory>
+    ensures room { OnOk result (IsSome (get_by_text book.new file.now)) }
+    ensures same { SamePages (marks_in book.old) (marks_in book.new) }
 {
     if book.contains_key(file.text()) {
         return Ok(());
@@ -85,7 +86,7 @@ pub fn make_place(alloc: Global, book: &mut Book, file: &FileId) -> Result<(), M
 #[tactic(auto, using(std::proofs::lemmas::Map::Text::text_keys))]
 pub fn write_lock(book: &mut Book, file: &FileId, lock: Option<Lock>)
     requires { IsSome (get_by_text book.old file.now) }
-    ensures { (id : List ℕ) → marks_in book.new id ≡ (if bytes_eq id file.now then record (marks_in book.old file.now) { lock = lock } else marks_in book.old id) }
+    ensures { SetsLock (marks_in book.old) file.now lock (marks_in book.new) }
 {
     if let Some(marks) = book.get_mut(file.text()) {
         marks.lock = lock;
@@ -95,9 +96,9 @@ pub fn write_lock(book: &mut Book, file: &FileId, lock: Option<Lock>)
 /// Counts one more put.
 #[tactic(auto, using(std::proofs::lemmas::Map::Text::text_keys))]
 pub fn count_put(book: &mut Book, file: &FileId)
-    requires place { IsSome (get_by_text book.old file.now) }
+    requires made { IsSome (get_by_text book.old file.now) }
     requires room { (marks_in book.old file.now).puts + 1 < 2 ^ 64 }
-    ensures { (id : List ℕ) → marks_in book.new id ≡ (if bytes_eq id file.now then record (marks_in book.old file.now) { puts = (marks_in book.old file.now).puts + 1 } else marks_in book.old id) }
+    ensures { CountsPut (marks_in book.old) file.now (marks_in book.new) }
 {
     if let Some(marks) = book.get_mut(file.text()) {
         marks.puts += 1;
@@ -107,7 +108,7 @@ pub fn count_put(book: &mut Book, file: &FileId)
 /// Takes the file's lock away, where it has one.
 #[tactic(auto, using(std::proofs::lemmas::Map::Text::text_keys))]
 pub fn erase_lock(book: &mut Book, file: &FileId)
-    ensures { (id : List ℕ) → marks_in book.new id ≡ (if bytes_eq id file.now then record (marks_in book.old file.now) { lock = None } else marks_in book.old id) }
+    ensures { SetsLock (marks_in book.old) file.now None (marks_in book.new) }
 {
     if let Some(marks) = book.get_mut(file.text()) {
         marks.lock = None;

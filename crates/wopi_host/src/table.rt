@@ -28,7 +28,7 @@ pub enum Held {
 
 /// What the host does.
 #[derive(Clone, Copy, Debug, PartialEq, Eq)]
-pub enum Verdict {
+pub enum Action {
     /// Answers with this status and nothing else.
     Refused(u16),
     /// Tells what the token may do with the file.
@@ -174,27 +174,27 @@ fn holding(current: Option<&[u8]>, asked: Option<&[u8]>) -> Held
     }
 }
 
-fn look_up(operation: Operation, held: Held, empty: bool) -> Verdict
+fn look_up(operation: Operation, held: Held, empty: bool) -> Action
     ensures { result ≡ table operation held empty }
 {
     match (operation, held) {
-        (Operation::CheckFileInfo, _) => Verdict::Info,
-        (Operation::GetFile, _) => Verdict::Content,
-        (Operation::GetLock, _) => Verdict::TellsLock,
-        (Operation::Lock, Held::NoLock | Held::TheSame) => Verdict::Sets,
-        (Operation::RefreshLock, Held::TheSame) => Verdict::Sets,
-        (Operation::Unlock, Held::TheSame) => Verdict::Removes,
-        (Operation::PutFile, Held::TheSame) => Verdict::Replaces,
+        (Operation::CheckFileInfo, _) => Action::Info,
+        (Operation::GetFile, _) => Action::Content,
+        (Operation::GetLock, _) => Action::TellsLock,
+        (Operation::Lock, Held::NoLock | Held::TheSame) => Action::Sets,
+        (Operation::RefreshLock, Held::TheSame) => Action::Sets,
+        (Operation::Unlock, Held::TheSame) => Action::Removes,
+        (Operation::PutFile, Held::TheSame) => Action::Replaces,
         (Operation::PutFile, Held::NoLock) => {
             if empty {
-                Verdict::Replaces
+                Action::Replaces
             } else {
-                Verdict::Conflict
+                Action::Conflict
             }
         }
-        (Operation::Lock | Operation::PutFile, Held::Another) => Verdict::Conflict,
+        (Operation::Lock | Operation::PutFile, Held::Another) => Action::Conflict,
         (Operation::RefreshLock | Operation::Unlock, Held::NoLock | Held::Another) => {
-            Verdict::Conflict
+            Action::Conflict
         }
     }
 }
@@ -211,55 +211,58 @@ fn lacks_right(operation: Operation, writer: bool) -> bool
     needs_right(operation) && !writer
 }
 
-fn judge_id(
+fn action_by_id(
     operation: Operation,
     asked: Option<&[u8]>,
     current: Option<&[u8]>,
     empty: bool,
-) -> Verdict
-    ensures { result ≡ by_id operation (option_copied asked.entry) (option_copied current.entry) empty }
+) -> Action
+    ensures { let asks = option_copied asked.entry in
+        result ≡ by_id operation asks (option_copied current.entry) empty }
 {
     if lacks_id(operation, asked) {
-        Verdict::Refused(400)
+        Action::Refused(400)
     } else {
         look_up(operation, holding(current, asked), empty)
     }
 }
 
-fn judge_right(
+fn action_by_right(
     operation: Operation,
     writer: bool,
     asked: Option<&[u8]>,
     current: Option<&[u8]>,
     empty: bool,
-) -> Verdict
-    ensures { result ≡ by_right operation writer (option_copied asked.entry) (option_copied current.entry) empty }
+) -> Action
+    ensures { let asks = option_copied asked.entry in
+        result ≡ by_right operation writer asks (option_copied current.entry) empty }
 {
     if lacks_right(operation, writer) {
-        Verdict::Refused(401)
+        Action::Refused(401)
     } else {
-        judge_id(operation, asked, current, empty)
+        action_by_id(operation, asked, current, empty)
     }
 }
 
 /// What the host does for the operation at a file that it has.
-pub fn judge(
+pub fn action_by_operation(
     operation: Option<Operation>,
     old_lock: bool,
     writer: bool,
     asked: Option<&[u8]>,
     current: Option<&[u8]>,
     empty: bool,
-) -> Verdict
-    ensures { result ≡ by_operation operation old_lock writer (option_copied asked.entry) (option_copied current.entry) empty }
+) -> Action
+    ensures { let asks = option_copied asked.entry in
+        result ≡ by_operation operation old_lock writer asks (option_copied current.entry) empty }
 {
     match operation {
-        None => Verdict::Refused(501),
+        None => Action::Refused(501),
         Some(operation) => {
             if old_lock {
-                Verdict::Refused(501)
+                Action::Refused(501)
             } else {
-                judge_right(operation, writer, asked, current, empty)
+                action_by_right(operation, writer, asked, current, empty)
             }
         }
     }

@@ -9,7 +9,7 @@ use cool_base::FileId;
 
 /// What a path names.
 #[derive(Drop)]
-pub enum Place {
+pub enum Resource {
     Nothing,
     File(FileId),
     Contents(FileId),
@@ -60,43 +60,43 @@ fn file_in(bytes: &[u8]) -> Option<FileId>
 }
 
 #[tactic(auto, unfolding(crate::specs::Targets::contents_by))]
-fn contents_in(rest: &[u8]) -> Place
+fn contents_in(rest: &[u8]) -> Resource
     ensures { named_view result ≡ contents_by rest.now }
 {
     if !rest.ends_with(b"/contents") {
-        return Place::Nothing;
+        return Resource::Nothing;
     }
     match file_in(&rest[..rest.len() - 9]) {
-        Some(file) => Place::Contents(file),
-        None => Place::Nothing,
+        Some(file) => Resource::Contents(file),
+        None => Resource::Nothing,
     }
 }
 
-fn place_in(rest: &[u8]) -> Place
+fn resource_in(rest: &[u8]) -> Resource
     ensures { named_view result ≡ named_by rest.now }
 {
     match file_in(rest) {
-        Some(file) => Place::File(file),
+        Some(file) => Resource::File(file),
         None => contents_in(rest),
     }
 }
 
 #[tactic(auto, unfolding(crate::specs::Targets::named_at))]
-fn place_at(path: &[u8]) -> Place
+fn resource_at(path: &[u8]) -> Resource
     ensures { named_view result ≡ named_at path.now }
 {
     if path.starts_with(b"/wopi/files/") {
-        place_in(&path[12..])
+        resource_in(&path[12..])
     } else {
-        Place::Nothing
+        Resource::Nothing
     }
 }
 
 /// What the target's path names.
-pub fn place_of(target: &[u8]) -> Place
+pub fn resource_of(target: &[u8]) -> Resource
     ensures { named_view result ≡ named_at (path_of target.now) }
 {
-    place_at(path(target))
+    resource_at(path(target))
 }
 
 fn word(bytes: &[u8]) -> &[u8]

@@ -1,0 +1,2 @@
+pub mod ServedWires
+pub mod Runs

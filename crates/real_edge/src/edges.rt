@@ -1,0 +1,198 @@
+// The edge.
+ghost use Rattle.std.specs.Prelude.{◌≡◌, IfOk};
+
+use crate::clocks::{MachineClock, OpenGate};
+use crate::none::{NoNet, NoStore};
+use edge::{Edge, EdgeFault};
+use folder_keeper::FolderKeeper;
+use std::alloc::Global;
+use std::io;
+use std::net::{self, Ipv4Addr, SocketAddr, TcpListener, TcpStream};
+use std::rt::{Clock, Files};
+use std::time::Duration;
+use tcp_wire::TimedWire;
+use wopi_host::KeeperFault;
+
+/// How many seconds one read or write over a wire of the host waits at most.
+const WAIT_SECONDS: u64 = 5;
+
+/// How many seconds a wire of the host has in all.
+const WIRE_SECONDS: u64 = 20;
+
+/// How many streams in a row may be lost before an accept fails.
+const MOST_LOST: u32 = 1_000;
+
+/// The edge of this machine. The host listens on the loopback address alone.
+#[derive(Drop)]
+pub struct RealEdge<'a, R> {
+    rt: &'a R,
+    listener: Option<TcpListener>,
+    wires: u64,
+    keepers: u64,
+    faults: u64,
+}
+
+impl<'a, R> RealEdge<'a, R> {
+    /// An edge that gave nothing yet.
+    pub fn new(rt: &'a R) -> RealEdge<'a, R> {
+        RealEdge {
+            rt,
+            listener: None,
+            wires: 0,
+            keepers: 0,
+            faults: 0,
+        }
+    }
+}
+
+// The next wire of the listener. A stream that is lost before it is a wire is left for the next
+// one.
+fn next_wire<'a, R: Clock>(rt: &'a R, listener: &TcpListener) -> io::Result<TimedWire<'a, R>>
+    ensures { IfOk result (λ wire. wire.faults ≡ 0) }
+{
+    let mut lost = io::Error::from(io::ErrorKind::ConnectionAborted);
+    for _ in 0..MOST_LOST {
+        match accepted(rt, listener) {
+            Ok(wire) => return Ok(wire),
+            Err(error) => lost = error,
+        }
+    }
+    Err(lost)
+}
+
+fn accepted<'a, R: Clock>(rt: &'a R, listener: &TcpListener) -> io::Result<TimedWire<'a, R>>
+    ensures { IfOk result (λ wire. wire.faults ≡ 0) }
+{
+    let (stream, _) = listener.accept()?;
+    TimedWire::of(
+        rt,
+        stream,
+        Duration::from_secs(WAIT_SECONDS),
+        Duration::from_secs(WIRE_SECONDS),
+    )
+}
+
+impl<'a, R> RealEdge<'a, R>
+where
+    R: net::Net<Stream = TcpStream, Listener = TcpListener> + Clock,
+{
+    ghost use Rattle.std.specs.Prelude.{◌≡◌, IfOk};
+
+    // Listens, where it doesn't yet, and accepts.
+    fn listen_and_accept(&mut self, port: u16) -> io::Result<TimedWire<'a, R>>
+        ensures sound { IfOk result (λ wire. wire.faults ≡ 0) }
+        ensures wires { self.new.wires ≡ self.old.wires }
+        ensures keepers { self.new.keepers ≡ self.old.keepers }
+        ensures faults { self.new.faults ≡ self.old.faults }
+    {
+        if self.listener.is_none() {
+            self.listener = Some(TcpListener::bind(self.rt, ("127.0.0.1", port))?);
+        }
+        match &self.listener {
+            Some(listener) => next_wire(self.rt, listener),
+            None => Err(io::Error::from(io::ErrorKind::NotConnected)),
+        }
+    }
+}
+
+impl<'a, R> Edge for RealEdge<'a, R>
+where
+    R: net::Net<Stream = TcpStream, Listener = TcpListener> + Clock + Files + Sync,
+{
+    type Net = NoNet;
+
+    type Store = NoStore;
+
+    type Gate = OpenGate;
+
+    type Clock = MachineClock<'a, R>;
+
+    type Wire = TimedWire<'a, R>;
+
+    type Keeper = FolderKeeper<'a, R>;
+
+    ghost use Rattle.std.specs.Prelude.{None};
+
+    ghost told = { λ e. record {
+      nets = None;
+      wires = None;
+      stores = None;
+      opened = None;
+      closed = None;
+      moments = None;
+      nets_out = 0;
+      wires_out = e.wires;
+      stores_out = 0;
+      keepers_out = e.keepers;
+    } };
+
+    ghost faults = { λ e. e.faults };
+
+    fn net(
+        &mut self,
+        _alloc: Global,
+        _port: Option<u16>,
+        _sessions: u64,
+    ) -> Result<NoNet, EdgeFault> {
+        self.faults = self.faults.saturating_add(1);
+        Err(EdgeFault::Net)
+    }
+
+    fn store(&mut self, _alloc: Global, _host: &str) -> Result<NoStore, EdgeFault> {
+        self.faults = self.faults.saturating_add(1);
+        Err(EdgeFault::Net)
+    }
+
+    fn gate(&mut self) -> OpenGate {
+        OpenGate
+    }
+
+    fn clock(&mut self) -> MachineClock<'a, R> {
+        MachineClock::new(self.rt)
+    }
+
+    fn keeper(&mut self, alloc: Global, folder: &str) -> Result<FolderKeeper<'a, R>, EdgeFault> {
+        if self.keepers == u64::MAX {
+            return Err(EdgeFault::Memory);
+        }
+        match FolderKeeper::open(self.rt, alloc, folder) {
+            Ok(keeper) => {
+                self.keepers += 1;
+                Ok(keeper)
+            }
+            Err(KeeperFault::Failed) => {
+                self.faults = self.faults.saturating_add(1);
+                Err(EdgeFault::Net)
+            }
+            Err(KeeperFault::Memory) => Err(EdgeFault::Memory),
+        }
+    }
+
+    fn close_net(&mut self, _net: NoNet) {}
+
+    fn close_wire(&mut self, _wire: TimedWire<'a, R>) {
+        self.wires -= 1;
+    }
+
+    fn close_store(&mut self, _store: NoStore) {}
+
+    fn close_keeper(&mut self, _keeper: FolderKeeper<'a, R>) {
+        self.keepers -= 1;
+    }
+
+    fn accept(&mut self, _alloc: Global, port: u16) -> Result<TimedWire<'a, R>, EdgeFault> {
+        if self.wires == u64::MAX {
+            return Err(EdgeFault::Memory);
+        }
+        match self.listen_and_accept(port) {
+            Ok(wire) => {
+                self.wires += 1;
+                Ok(wire)
+            }
+            Err(_) => {
+                self.faults = self.faults.saturating_add(1);
+                Err(EdgeFault::Net)
+            }
+        }
+    }
+}
