@@ -18,9 +18,6 @@ use Rattle.wopi_client.specs.declared.asks.Ask.TheVariants as Asks
 use Rattle.wopi_client.specs.Asks.{file_target, contents_target, lock_id, getting, posting, request_for}
 use Rattle.wopi_limits.specs.Sound.{IsNamed, IsSound}
 
-through : (a b c : ℕ) → a ≤ b → b ≤ c → a ≤ c
-through a b c p q = omega arith
-
 -- a line has four bytes more than its name and its value
 line_length : (name value : List ℕ) → length (print_header (name, value)) ≡ length name + length value + 4
 line_length name value =
@@ -30,13 +27,21 @@ line_length name value =
     let three : length crlf_bytes ≡ 2 = refl in
     omega (arith, one, two, three)
 
-line_small : (name value : List ℕ) (hs : List Header) (n v s : ℕ) → length name ≤ n → length value ≤ v → length (print_headers hs) ≤ s → length (print_headers ((name, value) ∷ hs)) ≤ n + v + 4 + s
-line_small name value hs n v s a b c =
-    let one : length (print_headers ((name, value) ∷ hs)) ≡ length (print_header (name, value)) + length (print_headers hs) = length-append (print_header (name, value)) (print_headers hs) in
-    omega (arith, one, line_length name value, a, b, c)
+-- lines of at most so many bytes
+record Few (hs : List Header) (most : ℕ) : Type 0 where
+  few : length (print_headers hs) ≤ most
 
-head_small : (method target : List ℕ) (hs : List Header) (m t s : ℕ) → length method ≤ m → length target ≤ t → length (print_headers hs) ≤ s → length (request_text method target 1 hs) ≤ m + t + 14 + s
-head_small method target hs m t s a b c =
+none_few : Few [] 0
+none_few = record { few = omega arith }
+
+line_few : {hs : List Header} {s : ℕ} (name value : List ℕ) (n v : ℕ) → length name ≤ n → length value ≤ v → Few hs s → Few ((name, value) ∷ hs) (n + v + 4 + s)
+line_few {hs} {s} name value n v a b rest =
+    let one : length (print_headers ((name, value) ∷ hs)) ≡ length (print_header (name, value)) + length (print_headers hs) = length-append (print_header (name, value)) (print_headers hs) in
+    let few : length (print_headers ((name, value) ∷ hs)) ≤ n + v + 4 + s = omega (arith, one, line_length name value, a, b, rest.few) in
+    record { few = few }
+
+head_small : {hs : List Header} {s : ℕ} (method target : List ℕ) (m t : ℕ) → length method ≤ m → length target ≤ t → Few hs s → m + t + 14 + s ≤ head_limit → length (request_text method target 1 hs) ≤ head_limit
+head_small {hs} {s} method target m t a b lines within =
     let tail : List ℕ = codes " HTTP/1." ++ ((48 + 1) ∷ 13 ∷ 10 ∷ []) in
     let line : List ℕ = method ++ (32 ∷ (target ++ tail)) in
     let text : length (request_text method target 1 hs) ≡ 2 + length line + length (print_headers []) + length (print_headers hs)
@@ -45,27 +50,26 @@ head_small method target hs m t s a b c =
     let two : length (target ++ tail) ≡ length target + length tail = length-append target tail in
     let three : length tail ≡ 11 = refl in
     let four : length (print_headers []) ≡ 0 = refl in
-    let five : length (32 ∷ (target ++ tail)) ≡ 1 + length (target ++ tail) = refl in
-    omega (arith, text, one, two, three, four, five, a, b, c)
+    omega (arith, text, one, two, three, four, a, b, lines.few, within)
 
 get_small : (host target : List ℕ) → length host ≤ 8192 → length target ≤ 2200 → length (request_head host (getting target)) ≤ head_limit
 get_small host target a b =
-    let last : length (print_headers []) ≤ 0 = omega arith in
-    let close = line_small (codes "Connection") (codes "close") [] 10 5 0 (omega arith) (omega arith) last in
-    let whole = line_small (codes "Host") host _ 4 8192 _ (omega arith) a close in
-    through _ _ _ (head_small (codes "GET") target _ 3 2200 _ (omega arith) b whole) (omega arith)
+    head_small (codes "GET") target 3 2200 (omega arith) b
+    (line_few (codes "Host") host 4 8192 (omega arith) a
+    (line_few (codes "Connection") (codes "close") 10 5 (omega arith) (omega arith) none_few))
+    (omega arith)
 
 post_small : (host target lock over body : List ℕ) → length host ≤ 8192 → length target ≤ 2200 → length lock ≤ 70 → length over ≤ 12 → length body ≤ body_limit
     → length (request_text (codes "POST") target 1 ((codes "Host", host) ∷ (codes "Connection", codes "close") ∷ (codes "Content-Length", decimal (length body)) ∷ (codes "X-WOPI-Lock", lock) ∷ (codes "X-WOPI-Override", over) ∷ [])) ≤ head_limit
 post_small host target lock over body a b c d e =
     let digits : length (decimal (length body)) ≤ 8 = length-decimal-le 8 (length body) (omega arith) (omega (arith, e)) (omega (arith, e)) in
-    let last : length (print_headers []) ≤ 0 = omega arith in
-    let five = line_small (codes "X-WOPI-Override") over [] 15 12 0 (omega arith) d last in
-    let four = line_small (codes "X-WOPI-Lock") lock _ 11 70 _ (omega arith) c five in
-    let three = line_small (codes "Content-Length") (decimal (length body)) _ 14 8 _ (omega arith) digits four in
-    let two = line_small (codes "Connection") (codes "close") _ 10 5 _ (omega arith) (omega arith) three in
-    let one = line_small (codes "Host") host _ 4 8192 _ (omega arith) a two in
-    through _ _ _ (head_small (codes "POST") target _ 4 2200 _ (omega arith) b one) (omega arith)
+    head_small (codes "POST") target 4 2200 (omega arith) b
+    (line_few (codes "Host") host 4 8192 (omega arith) a
+    (line_few (codes "Connection") (codes "close") 10 5 (omega arith) (omega arith)
+    (line_few (codes "Content-Length") (decimal (length body)) 14 8 (omega arith) digits
+    (line_few (codes "X-WOPI-Lock") lock 11 70 (omega arith) c
+    (line_few (codes "X-WOPI-Override") over 15 12 (omega arith) d none_few)))))
+    (omega arith)
 
 up_to : (a b : ℕ) → nat_le a b ≡ true → a ≤ b
 up_to a b is = grind (arith, nat_tests)
