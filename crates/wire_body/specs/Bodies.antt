@@ -23,7 +23,7 @@ in_phase phase s = record s { phase = phase }
 -- how many bytes of a body in chunks are framing at most: all that are no content, as the lines of
 -- sizes with their extensions, the line ends behind content, and the trailers
 abbrev pub framing_limit : ℕ
-framing_limit = 1048576
+framing_limit = 67108864
 
 -- at the first byte of a line, or of the trailers
 abbrev pub on_new_line : Phase → BodyState → BodyState

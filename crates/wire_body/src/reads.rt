@@ -41,7 +41,7 @@ fn answer_of(place: Progress, body: Vec<u8>, ended: bool) -> Result<Bytes, HttpF
 
 /// Reads a body that begins in the given state, of which the bytes in `front` have come already. Where
 /// its bytes are past a limit or not in the grammar, that is the answer as soon as they say so:
-/// BodyTooLong past 67,108,864 bytes of content, BadChunk past 1,048,576 bytes of framing, or past
+/// BodyTooLong past 67,108,864 bytes of content, BadChunk past 67,108,864 bytes of framing, or past
 /// 16,384 in the line of a size or in all trailers.
 pub fn read_body<W: Wire>(
     alloc: Global,
