@@ -10,7 +10,7 @@ nothing with the crates but the form of the lines.
 import re
 import sys
 
-HEAD, BODY, LINE, LINES = 16384, 67108864, 16384, 64
+HEAD, BODY, LINE, LINES, FRAMING = 16384, 67108864, 16384, 64, 1048576
 TOKEN = set(b"!#$%&'*+-.^_`|~0123456789ABCDEFGHIJKLMNOPQRSTUVWXYZabcdefghijklmnopqrstuvwxyz")
 VALUE = {9} | set(range(32, 127)) | set(range(128, 256))
 HEX = set(b'0123456789abcdefABCDEF')
@@ -145,14 +145,22 @@ class Chunks(Reader):
 
     def __init__(self, data):
         super().__init__(data)
-        self.line = LINE
+        self.line, self.framing = LINE, FRAMING
+
+    def frame(self):
+        """A byte that is no content."""
+        self.peek()
+        if self.framing == 0:
+            raise Fault('BadChunk')
+        self.framing -= 1
+        return self.take()
 
     def step(self):
         self.peek()
         if self.line == 0:
             raise Fault('BadChunk')
         self.line -= 1
-        return self.take()
+        return self.frame()
 
     def size_line(self, room):
         size, digits = 0, 0
@@ -211,7 +219,7 @@ class Chunks(Reader):
             if len(piece) < size:
                 raise Fault('CutOff')
             for wanted in b'\r\n':
-                if self.take() != wanted:
+                if self.frame() != wanted:
                     raise Fault('BadChunk')
 
 
@@ -382,6 +390,16 @@ def cases():
                  r'\*16382.0\r\n\r\n', r'\*16383.0\r\n\r\n', r'0\r\nA:\*16378.x\r\n\r\n', r'0\r\nA:\*16379.x\r\n\r\n', r'0\r\nA:\*16380.x\r\n\r\n', r'0\r\n\*16384.A', r'0\r\n\*16385.A'):
         yield 'request ' + post + chunked + case
         yield 'response ' + ok + chunked + case
+    yield '# All framing of a body in chunks: 1,048,576 bytes of size lines, line ends and trailers'
+    most = r'1;\*16378.x\r\nc\r\n' * 63
+    for case in (r'0;\*16377.x\r\n\r\nmore', r'0;\*16378.x\r\n\r\nmore', r'0;\*16378.x\r\n\r', r'0\r\nA:\*16375.x\r\n\r\n',
+                 r'0\r\nA:\*16376.x\r\n\r\n', r'0\r\nA:\*16377.x\r\n', r'0\r\nA:\*16377.x\r\n\r', r'1;\*16372.x\r\nc\r\n0\r\n\r\n',
+                 r'1;\*16378.x\r\nc\r\n', r'1;\*16379.x\r\nc\r', r'1;\*16379.x\r\nc\r\n', r'1;\*16378.x\r\nc\r\n0',
+                 r'1;\*16371.x\r\nc\r\n3ffffc1', r'1;\*16372.x\r\nc\r\n3ffffc1'):
+        yield 'request ' + post + chunked + most + case
+    yield 'response ' + ok + chunked + most + r'0;\*16378.x\r\n\r\n'
+    yield 'response ' + ok + chunked + most + r'1;\*16378.x\r\nc\r\n0'
+    yield 'response ' + ok + chunked + r'1\r\nx\r\n' * 1000 + r'0\r\n\r\n'
     yield '# Each proper front of a message is cut off'
     for case in ('request ' + put + 'abc', 'request ' + get + r'Host: h\r\n\r\n', 'request ' + post + chunked + r'5;x=y\r\nhello\r\n0\r\nA: b\r\n\r\n',
                  'response ' + r'HTTP/1.1 200 OK\r\nContent-Length: 5\r\n\r\nhello', 'response ' + ok + chunked + r'5\r\nhello\r\n0\r\n\r\n',

@@ -1,5 +1,5 @@
 -- Bodies whose bytes are only counted.
-use Rattle.std.proofs.Common.{ℕ, ◌≡◌, ◌-◌, ◌<◌, ◌≤◌, Bool, true, cond, List, [], ◌∷◌, length, take, drop, Some, None, Ok, Err, refl, sym, ap, ◌∙◌, arith, zero, suc, inl, inr}
+use Rattle.std.proofs.Common.{ℕ, ◌≡◌, ◌+◌, ◌-◌, ◌<◌, ◌≤◌, Bool, true, false, cond, List, [], ◌∷◌, length, take, drop, Some, None, Ok, Err, refl, sym, ap, ◌∙◌, arith, zero, suc, inl, inr}
 use Rattle.std.proofs.lemmas.Bool.Decides.{nat_tests}
 use Rattle.std.proofs.lemmas.Bool.{cases_lt}
 use Rattle.std.proofs.lemmas.List.{take_all, drop_all, length-drop}
@@ -7,8 +7,8 @@ use Rattle.outside.specs.declared.faults.WireFault.TheVariants.{BodyTooLong, Cut
 use Rattle.wire_body.specs.declared.states.BodyState.{BodyState}
 use Rattle.wire_body.specs.declared.states.Phase.{Phase}
 use Rattle.wire_body.specs.declared.states.Phase.TheVariants.{Counted, Open, Full, Done, TooLong}
-use Rattle.wire_body.specs.Bodies.{run, reached, Reached, taken, behind, verdict, body_says, body_of, open_body, no_body, body_limit, is_content}
-use Rattle.wire_body.proofs.Runs.{run_none, run_one, block_of_piece}
+use Rattle.wire_body.specs.Bodies.{run, reached, Reached, taken, behind, step, verdict, verdict_behind, body_says, framing_at, framing_in, body_of, open_body, no_body, body_limit, is_content}
+use Rattle.wire_body.proofs.Runs.{run_none, run_one, block_of_piece, framing_none, framing_one}
 use Rattle.http_laws.specs.Lengths.{said_of_length, said_of_open}
 use Rattle.http_laws.proofs.Finals.{run_final}
 
@@ -41,9 +41,44 @@ part p n (b ∷ bytes) is less =
     ∙ ap (λ xs. run (place p (n - length (b ∷ bytes))) (b ∷ bytes) xs) rest
     ∙ run_none (place p (n - length (b ∷ bytes))) (b ∷ bytes)
 
+-- a body that isn't in chunks has no framing
+abbrev is_unframed : Phase → Bool
+is_unframed Counted = true
+is_unframed Open = true
+is_unframed Full = true
+is_unframed Done = true
+is_unframed TooLong = true
+is_unframed _ = false
+
+unframed_step : (p : Phase) (left room line b : ℕ) → is_unframed p ≡ true → is_unframed (step (record { phase = p; left = left; room = room; line = line }) b).phase ≡ true
+unframed_step Counted left room line b is = grind (arith, nat_tests)
+unframed_step Open left room line b is = grind (arith, nat_tests)
+unframed_step Full left room line b is = refl
+unframed_step Done left room line b is = refl
+unframed_step TooLong left room line b is = refl
+unframed_step _ left room line b is = cc
+
+unframed_byte : (p : Phase) → is_unframed p ≡ true → framing_at p ≡ 0
+unframed_byte Counted is = refl
+unframed_byte Open is = refl
+unframed_byte Full is = refl
+unframed_byte Done is = refl
+unframed_byte TooLong is = refl
+unframed_byte _ is = cc
+
+no_framing : (s : BodyState) (bytes : List ℕ) → is_unframed s.phase ≡ true → framing_in s bytes ≡ 0
+no_framing s [] is = framing_none s
+no_framing s (b ∷ bytes) is =
+    omega (arith, framing_one s b bytes, unframed_byte s.phase is, no_framing (step s b) bytes (unframed_step s.phase s.left s.room s.line b is))
+
+unframed_length : (len : ℕ) → is_unframed (body_of len).phase ≡ true
+unframed_length len = grind (arith, nat_tests)
+
 -- what is said where the bytes lead there
-says : (start s : BodyState) (bytes body : List ℕ) (ended : Bool) → run start [] bytes ≡ reached s body → body_says start bytes ended ≡ verdict s.phase body ended
-says start s bytes body ended is = ap (λ (r : Reached). verdict r.state.phase r.body ended) is
+says : (start s : BodyState) (bytes body : List ℕ) (ended : Bool) → is_unframed start.phase ≡ true → run start [] bytes ≡ reached s body → body_says start bytes ended ≡ verdict s.phase body ended
+says start s bytes body ended unframed is =
+    ap (λ k. verdict_behind k (run start [] bytes).state.phase (run start [] bytes).body ended) (no_framing start bytes unframed)
+    ∙ ap (λ (r : Reached). verdict r.state.phase r.body ended) is
 
 is_counted : (len : ℕ) → 0 < len → len ≤ body_limit → body_of len ≡ place Counted len
 is_counted len some fits = grind (arith, nat_tests)
@@ -60,26 +95,29 @@ said_part len bytes ended fits less = grind (arith, nat_tests)
 said_too_long : (len : ℕ) (bytes : List ℕ) (ended : Bool) → body_limit < len → said_of_length len bytes ended ≡ Some (Err BodyTooLong)
 said_too_long len bytes ended more = grind (arith, nat_tests)
 
+unframed_at : (start : BodyState) (len : ℕ) → start ≡ body_of len → is_unframed start.phase ≡ true
+unframed_at start len is = ap (λ (s : BodyState). is_unframed s.phase) is ∙ unframed_length len
+
 length_at : (start : BodyState) (len : ℕ) (bytes : List ℕ) (ended : Bool) → start ≡ body_of len → 0 < len → body_says start bytes ended ≡ said_of_length len bytes ended
 length_at start len bytes ended is some =
     elim (cases_lt body_limit len) [
       | inl more ↦
-          says start (place TooLong 0) bytes [] ended (ap (λ s. run s [] bytes) (is ∙ is_too_long len more) ∙ run_final (place TooLong 0) [] bytes refl)
+          says start (place TooLong 0) bytes [] ended (unframed_at start len is) (ap (λ s. run s [] bytes) (is ∙ is_too_long len more) ∙ run_final (place TooLong 0) [] bytes refl)
           ∙ sym (said_too_long len bytes ended more)
       | inr fits ↦
           elim (cases_lt (length bytes) len) [
             | inl less ↦
-                says start (place Counted (len - length bytes)) bytes bytes ended (ap (λ s. run s [] bytes) (is ∙ is_counted len some fits) ∙ part Counted len bytes refl less)
+                says start (place Counted (len - length bytes)) bytes bytes ended (unframed_at start len is) (ap (λ s. run s [] bytes) (is ∙ is_counted len some fits) ∙ part Counted len bytes refl less)
                 ∙ sym (said_part len bytes ended fits less)
             | inr there ↦
-                says start (place Done 0) bytes (take len bytes) ended
+                says start (place Done 0) bytes (take len bytes) ended (unframed_at start len is)
                 (ap (λ s. run s [] bytes) (is ∙ is_counted len some fits) ∙ whole Counted len bytes refl some there ∙ run_final (place Done 0) (take len bytes) (drop len bytes) refl)
                 ∙ sym (said_whole len bytes ended fits there)
           ]
     ]
 
 pub by_length : (len : ℕ) (bytes : List ℕ) (ended : Bool) → body_says (body_of len) bytes ended ≡ said_of_length len bytes ended
-by_length zero bytes ended = says no_body no_body bytes [] ended (run_final no_body [] bytes refl) ∙ sym (said_whole 0 bytes ended (omega arith) (omega arith))
+by_length zero bytes ended = says no_body no_body bytes [] ended refl (run_final no_body [] bytes refl) ∙ sym (said_whole 0 bytes ended (omega arith) (omega arith))
 by_length (suc n) bytes ended = length_at (body_of (suc n)) (suc n) bytes ended refl (omega arith)
 
 open_within : (bytes : List ℕ) (ended : Bool) → length bytes ≤ body_limit → said_of_open bytes ended ≡ cond ended (Some (Ok bytes)) None
@@ -121,9 +159,9 @@ pub to_the_end : (bytes : List ℕ) (ended : Bool) → body_says open_body bytes
 to_the_end bytes ended =
     elim (cases_lt body_limit (length bytes)) [
       | inl more ↦
-          says open_body (place TooLong 0) bytes (take body_limit bytes) ended (too_long_at body_limit bytes (omega arith) more) ∙ sym (open_beyond bytes ended more)
+          says open_body (place TooLong 0) bytes (take body_limit bytes) ended refl (too_long_at body_limit bytes (omega arith) more) ∙ sym (open_beyond bytes ended more)
       | inr fits ↦
           let found : (p : Phase) × (run (place Open body_limit) [] bytes ≡ reached (place p (body_limit - length bytes)) bytes) × ((e : Bool) → verdict p bytes e ≡ cond e (Some (Ok bytes)) None)
           = open_at body_limit bytes (omega arith) fits in
-          says open_body (place found.0 (body_limit - length bytes)) bytes bytes ended found.1 ∙ found.2 ended ∙ sym (open_within bytes ended fits)
+          says open_body (place found.0 (body_limit - length bytes)) bytes bytes ended refl found.1 ∙ found.2 ended ∙ sym (open_within bytes ended fits)
     ]

@@ -6,3 +6,8 @@ pub mod Leads
 pub mod SizeLines
 pub mod Sections
 pub mod ChunkTexts
+pub mod Kept
+pub mod Ends
+pub mod SizeLinesIn
+pub mod SectionsIn
+pub mod Spelled

@@ -8,7 +8,7 @@ use Rattle.httparse.specs.Grammar.{AllPass, ChunkLine, IsExtension, print_chunk_
 use Rattle.wire_body.specs.declared.states.BodyState.{BodyState}
 use Rattle.wire_body.specs.declared.states.Phase.{Phase}
 use Rattle.wire_body.specs.declared.states.Phase.TheVariants.{Size, Digits, Pad, Extension, SizeEnd, Bad, TooLong}
-use Rattle.wire_body.specs.Bodies.{step, line_step, with_digit, behind_size, behind_size_line, in_phase, line_limit, is_content, expects}
+use Rattle.wire_body.specs.Bodies.{step, line_step, with_digit, behind_size, behind_size_line, in_phase, line_limit, framing_at, expects}
 use Rattle.http_laws.specs.Spellings.{IsSizeLine}
 use Rattle.http_laws.proofs.Leads.{place, Leads, leads_none, leads_then, leads_one, leads_first, fits, in_line, first_passes, others_pass}
 
@@ -77,16 +77,16 @@ is_before_end Pad = true
 is_before_end Extension = true
 is_before_end _ = false
 
-line_no_content : (p : Phase) → is_behind p ≡ true → is_content p ≡ false
-line_no_content Digits is = refl
-line_no_content Pad is = refl
-line_no_content _ is = cc
+behind_is_framing : (p : Phase) → is_behind p ≡ true → framing_at p ≡ 1
+behind_is_framing Digits is = refl
+behind_is_framing Pad is = refl
+behind_is_framing _ is = cc
 
-before_no_content : (p : Phase) → is_before_end p ≡ true → is_content p ≡ false
-before_no_content Digits is = refl
-before_no_content Pad is = refl
-before_no_content Extension is = refl
-before_no_content _ is = cc
+before_is_framing : (p : Phase) → is_before_end p ≡ true → framing_at p ≡ 1
+before_is_framing Digits is = refl
+before_is_framing Pad is = refl
+before_is_framing Extension is = refl
+before_is_framing _ is = cc
 
 before_end : (p : Phase) → is_behind p ≡ true → is_before_end p ≡ true
 before_end Digits is = refl
@@ -118,7 +118,7 @@ pads (b ∷ xs) p left room n m is all len =
     = pads xs Pad left room (length xs + m) m refl (others_pass is_ows b xs all) refl in (
       rest.0,
       rest.1,
-      leads_first b (line_no_content p is) (blank p left room n (length xs + m) b is (first_passes is_ows b xs all) (omega arith)) rest.2,
+      leads_first b (behind_is_framing p is) (blank p left room n (length xs + m) b is (first_passes is_ows b xs all) (omega arith)) rest.2,
     )
 
 -- a byte of an extension
@@ -148,13 +148,13 @@ extensions None p left room n m is ok len = (p, before_end p is, leads_none _ _ 
 extensions (Some xs) p left room n m is ok len = (
   Extension,
   refl,
-  leads_first 59 (line_no_content p is) (semicolon_step p left room n (length xs + m) is (omega arith)) (texts xs left room (length xs + m) m ok refl),
+  leads_first 59 (behind_is_framing p is) (semicolon_step p left room n (length xs + m) is (omega arith)) (texts xs left room (length xs + m) m ok refl),
 )
 
 -- the line's end
 line_end : (p : Phase) (left room n m : ℕ) → is_before_end p ≡ true → n ≡ m + 2 → Leads (place p left room n) (print_end crlf) (behind_size_line (place SizeEnd left room m))
 line_end p left room n m is e =
-    leads_first 13 (before_no_content p is) (return_step p left room n (m + 1) is (omega arith))
+    leads_first 13 (before_is_framing p is) (return_step p left room n (m + 1) is (omega arith))
     (leads_one (place SizeEnd left room (m + 1)) (behind_size_line (place SizeEnd left room m)) 10 refl (in_line SizeEnd left room (m + 1) m 10 refl refl))
 
 -- how long a size line is

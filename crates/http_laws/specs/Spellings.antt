@@ -1,10 +1,10 @@
 -- How a body may be written in chunks.
-use Rattle.std.specs.Prelude.{ℕ, ◌≡◌, ◌<◌, ◌≤◌, List, [], ◌∷◌, ◌++◌, length, All, ⊤}
+use Rattle.std.specs.Prelude.{ℕ, ◌≡◌, ◌+◌, ◌<◌, ◌≤◌, List, [], ◌∷◌, ◌++◌, length, All, ⊤}
 use Rattle.std.specs.List.{flat_map}
 use Rattle.std.specs.Char.{is_ascii_hexdigit}
 use Rattle.httparse.specs.Ascii.{crlf_bytes}
 use Rattle.httparse.specs.Grammar.{AllPass, ChunkLine, IsExtension, chunk_size, print_chunk_line, is_ows, Field, IsField, LineEnd, print_section}
-use Rattle.wire_body.specs.Bodies.{body_limit, line_limit}
+use Rattle.wire_body.specs.Bodies.{body_limit, line_limit, framing_limit}
 
 -- a size line that writes this size in any number of digits, within its limit
 pub record IsSizeLine (l : ChunkLine) (size : ℕ) : Type 0 where
@@ -45,10 +45,12 @@ print_spelling m = flat_map print_chunk m.chunks ++ (print_chunk_line m.last ++ 
 abbrev pub content : Spelling → List ℕ
 content m = flat_map content_of m.chunks
 
--- it is in the grammar and within the limits
+-- it is in the grammar and within the limits: of the content, of each size line, of the trailers, and of
+-- all that is no content
 pub record IsSpelling (m : Spelling) : Type 0 where
   pub chunks : AreChunks m.chunks
   pub last : IsSizeLine m.last 0
   pub trailers : All IsField m.trailers
   pub few : length (print_section m.trailers m.end) ≤ line_limit
   pub fits : length (content m) ≤ body_limit
+  pub framed : length (print_spelling m) ≤ length (content m) + framing_limit

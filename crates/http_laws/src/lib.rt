@@ -3,7 +3,7 @@
 //!
 //! - `messages`: bytes say one thing, and what they say stays whatever follows.
 //! - `bodies`: bodies by length and to the end of the wire; what they say stays.
-//! - `chunks`: what is written in chunks is read again.
+//! - `chunks`: a body in chunks is read exactly where one is written.
 #![tactic(auto)]
 
 mod bodies;
@@ -11,5 +11,5 @@ mod chunks;
 mod messages;
 
 pub use bodies::{bodies_have_their_length, bodies_stay};
-pub use chunks::chunks_are_read_again;
+pub use chunks::{chunks_are_read_again, read_chunks_are_spelled};
 pub use messages::{requests_say_one_thing, responses_say_one_thing};

@@ -1,6 +1,6 @@
 -- The pieces of a body that came over a wire, and what they lead to.
-use Rattle.std.proofs.Common.{ℕ, ◌≡◌, Bool, true, false, List, [], ◌++◌, Option, None, Result, Err, refl, sym, ap, ◌∙◌, subst, append_assoc, append-nil}
-use Rattle.outside.specs.declared.faults.WireFault.TheVariants.{ReadFault}
+use Rattle.std.proofs.Common.{ℕ, ◌≡◌, ◌+◌, ◌≤◌, Bool, true, false, List, [], ◌++◌, Option, Some, None, Result, Err, refl, sym, ap, ◌∙◌, subst, arith, not, ◌||◌, nat_le, cond, append_assoc, append-nil}
+use Rattle.outside.specs.declared.faults.WireFault.TheVariants.{ReadFault, BadChunk}
 use Rattle.outside.specs.Wires.{Talk, Hears}
 use Rattle.outside.proofs.Talks.{hears_nothing, hears_more}
 use Rattle.wire_body.specs.declared.faults.HttpFault.{HttpFault}
@@ -8,27 +8,30 @@ use Rattle.wire_body.specs.declared.faults.HttpFault.TheVariants.{Wire, Memory a
 use Rattle.wire_body.specs.declared.states.BodyState.{BodyState}
 use Rattle.wire_body.specs.declared.states.Phase.{Phase}
 use Rattle.wire_body.specs.declared.states.Phase.TheVariants.{Counted, Open, Full, Size, Digits, Pad, Extension, SizeEnd, Data, DataEnd, DataFeed, Trailer, Name, Value, ValueEnd, LastEnd, Done, TooLong, Bad}
-use Rattle.wire_body.specs.Bodies.{run, reached, Reached, verdict, is_final, body_says}
+use Rattle.wire_body.specs.Bodies.{run, reached, Reached, verdict, verdict_behind, is_final, body_says, framing_in, framing_limit}
 use Rattle.wire_body.specs.Reads.{IsSaid, ReadsBody}
-use Rattle.wire_body.proofs.Runs.{run_append}
+use Rattle.wire_body.proofs.Runs.{run_append, framing_append}
 
--- the bytes that were received so far, and where they lead
-pub record Gathers (old new : Option Talk) (start : BodyState) (front : List ℕ) (s : BodyState) (body : List ℕ) : Type 0 where
+-- the bytes that were received so far, where they lead, and how much framing they had
+pub record Gathers (old new : Option Talk) (start : BodyState) (front : List ℕ) (s : BodyState) (body : List ℕ) (n : ℕ) : Type 0 where
   pub more : List ℕ
   pub heard : Hears old more false new
   pub made : run start [] (front ++ more) ≡ reached s body
+  pub framed : framing_in start (front ++ more) ≡ n
 
-pub gathers_none : (t : Option Talk) (start : BodyState) (front : List ℕ) (s : BodyState) (body : List ℕ)
-    → run start [] front ≡ reached s body → Gathers t t start front s body
-gathers_none t start front s body made = record {
+pub gathers_none : (t : Option Talk) (start : BodyState) (front : List ℕ) (s : BodyState) (body : List ℕ) (n : ℕ)
+    → run start [] front ≡ reached s body → n ≡ 0 + framing_in start front → Gathers t t start front s body n
+gathers_none t start front s body n made framed = record {
   more = [];
   heard = hears_nothing t;
   made = ap (λ xs. run start [] xs) (append-nil front) ∙ made;
+  framed = ap (λ xs. framing_in start xs) (append-nil front) ∙ omega (arith, framed);
 }
 
-pub gathers_more : (old new new' : Option Talk) (start : BodyState) (front : List ℕ) (s s' : BodyState) (body body' piece : List ℕ)
-    → Gathers old new start front s body → Hears new piece false new' → run s body piece ≡ reached s' body' → Gathers old new' start front s' body'
-gathers_more old new new' start front s s' body body' piece g heard made = record {
+pub gathers_more : (old new new' : Option Talk) (start : BodyState) (front : List ℕ) (s s' : BodyState) (body body' piece : List ℕ) (n n' : ℕ)
+    → Gathers old new start front s body n → Hears new piece false new' → run s body piece ≡ reached s' body' → n' ≡ n + framing_in s piece
+    → Gathers old new' start front s' body' n'
+gathers_more old new new' start front s s' body body' piece n n' g heard made framed = record {
   more = g.more ++ piece;
   heard = hears_more old new new' g.more piece false g.heard heard;
   made =
@@ -36,18 +39,30 @@ gathers_more old new new' start front s s' body body' piece g heard made = recor
       ∙ run_append start [] (front ++ g.more) piece
       ∙ ap (λ (r : Reached). run r.state r.body piece) g.made
       ∙ made;
+  framed =
+      ap (λ xs. framing_in start xs) (sym (append_assoc front g.more piece))
+      ∙ framing_append start [] (front ++ g.more) piece
+      ∙ ap (λ k. k + framing_in (run start [] (front ++ g.more)).state piece) g.framed
+      ∙ ap (λ (r : Reached). n + framing_in r.state piece) g.made
+      ∙ sym framed;
 }
 
--- what was gathered says what the state says
-says : (old new : Option Talk) (start : BodyState) (front : List ℕ) (s : BodyState) (body : List ℕ) (g : Gathers old new start front s body) (ended : Bool)
-    → verdict s.phase body ended ≡ body_says start (front ++ g.more) ended
-says old new start front s body g ended = ap (λ (r : Reached). verdict r.state.phase r.body ended) (sym g.made)
+-- what was gathered says what the state and the count say
+says : (old new : Option Talk) (start : BodyState) (front : List ℕ) (s : BodyState) (body : List ℕ) (n : ℕ) (g : Gathers old new start front s body n) (ended : Bool)
+    → verdict_behind n s.phase body ended ≡ body_says start (front ++ g.more) ended
+says old new start front s body n g ended =
+    ap (λ k. verdict_behind k s.phase body ended) (sym g.framed)
+    ∙ ap (λ (r : Reached). verdict_behind (framing_in start (front ++ g.more)) r.state.phase r.body ended) (sym g.made)
 
--- the answer once the body has reached its end
-pub reads_whole : (old new : Option Talk) (start : BodyState) (front : List ℕ) (s : BodyState) (body : List ℕ) (result : Result (List ℕ) HttpFault)
-    → Gathers old new start front s body → IsSaid (verdict s.phase body false) result → ReadsBody old new start front result
-reads_whole old new start front s body result g said =
-    (g.more, false, g.heard, subst (λ v. IsSaid v result) (says old new start front s body g false) said, λ is. cc)
+-- whether the bytes say something without the wire's end
+abbrev pub speaks : ℕ → Phase → Bool
+speaks n p = not (nat_le n framing_limit) || is_final p
+
+-- the answer once the bytes say something
+pub reads_whole : (old new : Option Talk) (start : BodyState) (front : List ℕ) (s : BodyState) (body : List ℕ) (n : ℕ) (result : Result (List ℕ) HttpFault)
+    → Gathers old new start front s body n → IsSaid (verdict_behind n s.phase body false) result → ReadsBody old new start front result
+reads_whole old new start front s body n result g said =
+    (g.more, false, g.heard, subst (λ v. IsSaid v result) (says old new start front s body n g false) said, λ is. cc)
 
 -- before its end a body says nothing
 nothing_said : (p : Phase) (body : List ℕ) → is_final p ≡ false → verdict p body false ≡ None
@@ -71,29 +86,45 @@ nothing_said Done body is = cc
 nothing_said TooLong body is = cc
 nothing_said Bad body is = cc
 
+-- nor does it where its framing is within the limit
+nothing_behind : (within : Bool) (p : Phase) (body : List ℕ) → not within || is_final p ≡ false → cond within (verdict p body false) (Some (Err BadChunk)) ≡ None
+nothing_behind true p body is = nothing_said p body is
+nothing_behind false p body is = cc
+
+pub nothing_yet : (n : ℕ) (p : Phase) (body : List ℕ) → speaks n p ≡ false → verdict_behind n p body false ≡ None
+nothing_yet n p body is = nothing_behind (nat_le n framing_limit) p body is
+
+within_behind : (within final : Bool) → not within || final ≡ false → (within ≡ true) × (final ≡ false)
+within_behind true final is = (refl, is)
+within_behind false final is = cc
+
+-- where nothing is said, the framing is within its limit and more bytes are due
+pub goes_on : (n : ℕ) (p : Phase) → speaks n p ≡ false → (nat_le n framing_limit ≡ true) × (is_final p ≡ false)
+goes_on n p is = within_behind (nat_le n framing_limit) (is_final p) is
+
 -- the answer once the wire gave its end
-pub reads_end : (old new new' : Option Talk) (start : BodyState) (front : List ℕ) (s : BodyState) (body : List ℕ) (result : Result (List ℕ) HttpFault)
-    → Gathers old new start front s body → Hears new [] true new' → is_final s.phase ≡ false → IsSaid (verdict s.phase body true) result → ReadsBody old new' start front result
-reads_end old new new' start front s body result g ended is said = (
+pub reads_end : (old new new' : Option Talk) (start : BodyState) (front : List ℕ) (s : BodyState) (body : List ℕ) (n : ℕ) (result : Result (List ℕ) HttpFault)
+    → Gathers old new start front s body n → Hears new [] true new' → speaks n s.phase ≡ false → IsSaid (verdict_behind n s.phase body true) result → ReadsBody old new' start front result
+reads_end old new new' start front s body n result g ended is said = (
   g.more,
   true,
   subst (λ xs. Hears old xs true new') (append-nil g.more) (hears_more old new new' g.more [] true g.heard ended),
-  subst (λ v. IsSaid v result) (says old new start front s body g true) said,
-  λ end. sym (says old new start front s body g false) ∙ nothing_said s.phase body is,
+  subst (λ v. IsSaid v result) (says old new start front s body n g true) said,
+  λ end. sym (says old new start front s body n g false) ∙ nothing_yet n s.phase body is,
 )
 
 -- the answer where a read failed
-pub reads_fault : (old new new' : Option Talk) (start : BodyState) (front : List ℕ) (s : BodyState) (body : List ℕ)
-    → Gathers old new start front s body → new' ≡ new → is_final s.phase ≡ false → ReadsBody old new' start front (Err (Wire ReadFault))
-reads_fault old new new' start front s body g same is =
-    (g.more, false, subst (λ t. Hears old g.more false t) (sym same) g.heard, sym (says old new start front s body g false) ∙ nothing_said s.phase body is, λ is. cc)
+pub reads_fault : (old new new' : Option Talk) (start : BodyState) (front : List ℕ) (s : BodyState) (body : List ℕ) (n : ℕ)
+    → Gathers old new start front s body n → new' ≡ new → speaks n s.phase ≡ false → ReadsBody old new' start front (Err (Wire ReadFault))
+reads_fault old new new' start front s body n g same is =
+    (g.more, false, subst (λ t. Hears old g.more false t) (sym same) g.heard, sym (says old new start front s body n g false) ∙ nothing_yet n s.phase body is, λ is. cc)
 
 -- memory ran out before a byte was received
 pub reads_no_memory : (t : Option Talk) (start : BodyState) (front : List ℕ) → ReadsBody t t start front (Err NoMemory)
 reads_no_memory t start front = ([], false, hears_nothing t, tt, λ is. cc)
 
 -- memory ran out over a piece that was received
-pub reads_piece_no_memory : (old new new' : Option Talk) (start : BodyState) (front : List ℕ) (s : BodyState) (body piece : List ℕ)
-    → Gathers old new start front s body → Hears new piece false new' → ReadsBody old new' start front (Err NoMemory)
-reads_piece_no_memory old new new' start front s body piece g heard =
+pub reads_piece_no_memory : (old new new' : Option Talk) (start : BodyState) (front : List ℕ) (s : BodyState) (body piece : List ℕ) (n : ℕ)
+    → Gathers old new start front s body n → Hears new piece false new' → ReadsBody old new' start front (Err NoMemory)
+reads_piece_no_memory old new new' start front s body piece n g heard =
     (g.more ++ piece, false, hears_more old new new' g.more piece false g.heard heard, tt, λ is. cc)

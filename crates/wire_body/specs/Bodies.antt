@@ -20,6 +20,11 @@ line_limit = 16384
 abbrev pub in_phase : Phase → BodyState → BodyState
 in_phase phase s = record s { phase = phase }
 
+-- how many bytes of a body in chunks are framing at most: all that are no content, as the lines of
+-- sizes with their extensions, the line ends behind content, and the trailers
+abbrev pub framing_limit : ℕ
+framing_limit = 67108864
+
 -- at the first byte of a line, or of the trailers
 abbrev pub on_new_line : Phase → BodyState → BodyState
 on_new_line phase s = record s { phase = phase; left = 0; line = line_limit }
@@ -141,6 +146,27 @@ unfoldable pub run : BodyState → List ℕ → List ℕ → Reached
 run s body [] = reached s body
 run s body (b ∷ bytes) = run (step s b) (if is_content s.phase then body ++ b ∷ [] else body) bytes
 
+-- 1 where the next byte is framing, else 0
+abbrev pub framing_at : Phase → ℕ
+framing_at Size = 1
+framing_at Digits = 1
+framing_at Pad = 1
+framing_at Extension = 1
+framing_at SizeEnd = 1
+framing_at DataEnd = 1
+framing_at DataFeed = 1
+framing_at Trailer = 1
+framing_at Name = 1
+framing_at Value = 1
+framing_at ValueEnd = 1
+framing_at LastEnd = 1
+framing_at _ = 0
+
+-- how many of the bytes are framing
+unfoldable pub framing_in : BodyState → List ℕ → ℕ
+framing_in s [] = 0
+framing_in s (b ∷ bytes) = framing_at s.phase + framing_in (step s b) bytes
+
 -- what is said where the wire ended there, and where it didn't: a body, a fault, or that more bytes are needed
 abbrev pub verdict : Phase → List ℕ → Bool → Option (Result (List ℕ) WireFault)
 verdict Done body ended = Some (Ok body)
@@ -150,6 +176,10 @@ verdict Open body ended = if ended then Some (Ok body) else None
 verdict Full body ended = if ended then Some (Ok body) else None
 verdict _ body ended = if ended then Some (Err CutOff) else None
 
+-- the same behind so much framing, which makes the chunks bad where it is past its limit
+abbrev pub verdict_behind : ℕ → Phase → List ℕ → Bool → Option (Result (List ℕ) WireFault)
+verdict_behind framing phase body ended = if nat_le framing framing_limit then verdict phase body ended else Some (Err BadChunk)
+
 -- what the bytes of a body say
 abbrev pub body_says : BodyState → List ℕ → Bool → Option (Result (List ℕ) WireFault)
-body_says start bytes ended = let r = run start [] bytes in verdict r.state.phase r.body ended
+body_says start bytes ended = let r = run start [] bytes in verdict_behind (framing_in start bytes) r.state.phase r.body ended

@@ -1,6 +1,6 @@
 // A piece of a body: its content by blocks, all else byte by byte.
-ghost use Rattle.std.specs.Prelude.{◌≡◌, ◌<◌, ◌≤◌, ◌++◌, [], ◌∷◌, List, ℕ, length, drop, take, min, max, true, false, if◌then◌else◌, IfOk};
-ghost use Rattle.wire_body.specs.Bodies.{run, reached, is_content, behind, taken};
+ghost use Rattle.std.specs.Prelude.{◌≡◌, ◌<◌, ◌≤◌, ◌++◌, [], ◌∷◌, List, ℕ, length, drop, take, min, max, true, false, if◌then◌else◌, IfOk, ◌+◌};
+ghost use Rattle.wire_body.specs.Bodies.{run, reached, is_content, behind, taken, framing_at, framing_in, framing_limit};
 
 use crate::states::{BodyState, Phase};
 use cool_base::Memory;
@@ -20,6 +20,13 @@ fn block_of(state: BodyState, room: usize) -> u32
     }
 }
 
+// Where a body stands, and how many of its bytes were framing.
+#[derive(Clone, Copy)]
+pub struct Progress {
+    pub state: BodyState,
+    pub framing: usize,
+}
+
 // Takes a front of the piece, which isn't empty, and says how long it was.
 fn feed_front(
     state: BodyState,
@@ -27,7 +34,7 @@ fn feed_front(
     piece: &[u8],
 ) -> Result<(BodyState, usize), Memory>
     requires { 0 < length piece.now }
-    ensures { IfOk result (λ r. (0 < r.1) × (r.1 ≤ length piece.now) × (run state body.old.items piece.now ≡ run r.0 body.new.items (drop r.1 piece.now))) }
+    ensures { IfOk result (λ r. (0 < r.1) × (r.1 ≤ length piece.now) × (run state body.old.items piece.now ≡ run r.0 body.new.items (drop r.1 piece.now)) × (framing_in state piece.now ≡ framing_at state.phase + framing_in r.0 (drop r.1 piece.now))) }
 {
     if !state.phase.is_content() {
         return Ok((state.step(piece[0]), 1));
@@ -37,16 +44,23 @@ fn feed_front(
     Ok((state.taken(state.phase.behind(), count), count as usize))
 }
 
-// Takes the piece, and adds its content to the body. The time is linear in the piece.
-pub fn feed(start: BodyState, body: &mut Vec<u8>, piece: &[u8]) -> Result<BodyState, Memory>
-    ensures { IfOk result (λ s. run start body.old.items piece.now ≡ reached s body.new.items) }
+// Takes the piece, adds its content to the body, and counts its framing. The time is linear in the
+// piece.
+pub fn feed(start: Progress, body: &mut Vec<u8>, piece: &[u8]) -> Result<Progress, Memory>
+    requires { start.framing ≤ framing_limit }
+    ensures leads { IfOk result (λ to. run start.state body.old.items piece.now ≡ reached to.state body.new.items) }
+    ensures counts { IfOk result (λ to. to.framing ≡ start.framing + framing_in start.state piece.now) }
 {
-    let mut state = start;
+    let Progress {
+        mut state,
+        mut framing,
+    } = start;
     let mut rest = piece;
     while !rest.is_empty() {
+        framing += state.phase.framing();
         let (next, count) = feed_front(state, body, rest)?;
         state = next;
         rest = &rest[count..];
     }
-    Ok(state)
+    Ok(Progress { state, framing })
 }

@@ -1,13 +1,13 @@
 // A body read from a wire, piece by piece.
-ghost use Rattle.std.specs.Prelude.{◌≡◌, ◌≢◌, ◌<◌, ◌≤◌, ◌++◌, [], ℕ, List, Bool, true, false, length, Some, None, Err, IfOk};
+ghost use Rattle.std.specs.Prelude.{◌≡◌, ◌≢◌, ◌<◌, ◌≤◌, ◌++◌, [], ℕ, List, Bool, true, false, length, Some, None, Err, IfOk, not, ◌||◌, nat_le};
 ghost use Rattle.outside.specs.Causes.{HasCause};
 ghost use Rattle.outside.specs.Wires.{Hears};
-ghost use Rattle.wire_body.specs.Bodies.{run, is_final, verdict, reached};
+ghost use Rattle.wire_body.specs.Bodies.{run, is_final, verdict_behind, reached, framing_in, framing_limit};
 ghost use Rattle.wire_body.specs.Reads.{IsSaid, ReadsBody};
 
 use crate::faults::HttpFault;
-use crate::feeds::feed;
-use crate::states::{BodyState, Phase};
+use crate::feeds::{Progress, feed};
+use crate::states::{BodyState, FRAMING_LIMIT, Phase};
 use bytes::Bytes;
 use outside::{ReadStep, Wire, WireFault};
 use std::alloc::Global;
@@ -15,13 +15,23 @@ use std::alloc::Global;
 // How many bytes are received at once, at most.
 const PIECE: usize = 4096;
 
+// Whether the bytes say something without the wire's end.
+fn is_said(place: Progress) -> bool
+    ensures { result ≡ not (nat_le place.framing framing_limit) || is_final place.state.phase }
+{
+    place.framing > FRAMING_LIMIT || place.state.phase.is_final()
+}
+
 // What is said where the bytes say something.
-fn answer_of(phase: Phase, body: Vec<u8>, ended: bool) -> Result<Bytes, HttpFault>
-    requires { verdict phase body.items ended ≢ None }
-    ensures said { IsSaid (verdict phase body.items ended) result }
+fn answer_of(place: Progress, body: Vec<u8>, ended: bool) -> Result<Bytes, HttpFault>
+    requires { verdict_behind place.framing place.state.phase body.items ended ≢ None }
+    ensures said { IsSaid (verdict_behind place.framing place.state.phase body.items ended) result }
     ensures no_fault { result ≢ Err (HttpFault.Wire WireFault.ReadFault) }
 {
-    match phase {
+    if place.framing > FRAMING_LIMIT {
+        return Err(HttpFault::Wire(WireFault::BadChunk));
+    }
+    match place.state.phase {
         Phase::Done | Phase::Open | Phase::Full => Ok(Bytes::from_vec(body)?),
         Phase::TooLong => Err(HttpFault::Wire(WireFault::BodyTooLong)),
         Phase::Bad => Err(HttpFault::Wire(WireFault::BadChunk)),
@@ -29,7 +39,10 @@ fn answer_of(phase: Phase, body: Vec<u8>, ended: bool) -> Result<Bytes, HttpFaul
     }
 }
 
-/// Reads a body that begins in the given state, of which the bytes in `front` have come already.
+/// Reads a body that begins in the given state, of which the bytes in `front` have come already. Where
+/// its bytes are past a limit or not in the grammar, that is the answer as soon as they say so:
+/// BodyTooLong past 67,108,864 bytes of content, BadChunk past 67,108,864 bytes of framing, or past
+/// 16,384 in the line of a size or in all trailers.
 pub fn read_body<W: Wire>(
     alloc: Global,
     wire: &mut W,
@@ -40,14 +53,18 @@ pub fn read_body<W: Wire>(
     ensures cause { HasCause (W.faults wire.old) (W.faults wire.new) (result ≡ Err (HttpFault.Wire WireFault.ReadFault)) }
 {
     let mut body = Vec::new(alloc);
-    let mut state = feed(start, &mut body, front)?;
+    let begun = Progress {
+        state: start,
+        framing: 0,
+    };
+    let mut place = feed(begun, &mut body, front)?;
     let mut room = [0u8; PIECE];
-    while !state.phase.is_final() {
+    while !is_said(place) {
         match wire.receive(&mut room) {
-            ReadStep::Read(count) => state = feed(state, &mut body, &room[..count])?,
-            ReadStep::End => return answer_of(state.phase, body, true),
+            ReadStep::Read(count) => place = feed(place, &mut body, &room[..count])?,
+            ReadStep::End => return answer_of(place, body, true),
             ReadStep::Failed => return Err(HttpFault::Wire(WireFault::ReadFault)),
         }
     }
-    answer_of(state.phase, body, false)
+    answer_of(place, body, false)
 }

@@ -60,3 +60,7 @@ pub const BODY_LIMIT: u32 = 67_108_864;
 
 /// How many bytes the line of a chunk's size has at most, its end included, and all trailers together.
 pub const LINE_LIMIT: u32 = 16_384;
+
+/// How many bytes of a body in chunks are framing at most, that is all that are no content: the lines
+/// of sizes with their extensions, the line ends behind content, and the trailers.
+pub const FRAMING_LIMIT: usize = 67_108_864;

@@ -1,7 +1,7 @@
 // One byte of a body.
 ghost use Rattle.std.specs.Prelude.{◌≡◌, ◌<◌, ◌≤◌, if◌then◌else◌};
 ghost use Rattle.std.specs.Char.{is_ascii_hexdigit, digit_value};
-ghost use Rattle.wire_body.specs.Bodies.{no_body, body_of, chunked_body, open_body, in_phase, on_new_line, expects, taken, with_digit, behind_size, behind_size_line, ends_line, line_step, within_line, step, is_content, behind, is_final};
+ghost use Rattle.wire_body.specs.Bodies.{no_body, body_of, chunked_body, open_body, in_phase, on_new_line, expects, taken, with_digit, behind_size, behind_size_line, ends_line, line_step, within_line, step, is_content, behind, is_final, framing_at};
 
 use crate::states::{BODY_LIMIT, BodyState, LINE_LIMIT, Phase};
 use httparse::{is_header_name_token, is_header_value_token, parse_hex_digit};
@@ -23,6 +23,27 @@ impl Phase {
             Phase::Open => Phase::Full,
             Phase::Data => Phase::DataEnd,
             other => other,
+        }
+    }
+
+    // 1 where the next byte is framing of chunks, else 0.
+    pub(crate) fn framing(self) -> usize
+        ensures { result ≡ framing_at self }
+    {
+        match self {
+            Phase::Size
+            | Phase::Digits
+            | Phase::Pad
+            | Phase::Extension
+            | Phase::SizeEnd
+            | Phase::DataEnd
+            | Phase::DataFeed
+            | Phase::Trailer
+            | Phase::Name
+            | Phase::Value
+            | Phase::ValueEnd
+            | Phase::LastEnd => 1,
+            _ => 0,
         }
     }
 

@@ -1,21 +1,23 @@
 -- The chunks that were read.
-use Rattle.std.proofs.Common.{ℕ, ◌≡◌, ◌-◌, ◌<◌, ◌≤◌, Bool, true, false, cond, eqb, List, [], ◌∷◌, ◌++◌, length, take, drop, Some, None, Ok, Err, refl, sym, ap, ◌∙◌, subst, arith, append_assoc, append-nil, zero, suc, inl, inr}
+use Rattle.std.proofs.Common.{ℕ, ◌≡◌, ◌+◌, ◌-◌, ◌<◌, ◌≤◌, Bool, true, false, cond, eqb, nat_le, List, [], ◌∷◌, ◌++◌, length, take, drop, Option, Some, None, Result, Ok, Err, refl, sym, ap, ◌∙◌, subst, arith, append_assoc, append-nil, zero, suc, inl, inr}
 use Rattle.std.specs.List.{flat_map, All}
 use Rattle.std.proofs.lemmas.Bool.{cases_lt}
 use Rattle.std.proofs.lemmas.Bool.Decides.{nat_tests}
 use Rattle.std.proofs.lemmas.List.{length-append, length-take-le, take-append-drop}
 use Rattle.httparse.specs.Grammar.{print_chunk_line, print_section, IsField}
-use Rattle.outside.specs.declared.faults.WireFault.TheVariants.{CutOff}
+use Rattle.outside.specs.declared.faults.WireFault.{WireFault}
+use Rattle.outside.specs.declared.faults.WireFault.TheVariants.{BadChunk, CutOff}
 use Rattle.wire_body.specs.declared.states.Phase.{Phase}
 use Rattle.wire_body.specs.declared.states.Phase.TheVariants.{Counted, Open, Full, Size, Data, DataEnd, DataFeed, Trailer, Done, TooLong, Bad}
-use Rattle.wire_body.specs.Bodies.{run, reached, Reached, taken, verdict, body_says, chunked_body, line_limit, body_limit}
+use Rattle.wire_body.specs.Bodies.{run, reached, Reached, taken, verdict, body_says, chunked_body, line_limit, body_limit, framing_in, framing_limit}
 use Rattle.wire_body.proofs.Runs.{run_none, block_of_piece, block}
 use Rattle.http_laws.specs.Spellings.{print_chunk, AreChunks, IsSizeLine, Spelling, print_spelling, content, IsSpelling}
 use Rattle.http_laws.proofs.Leads.{place}
-use Rattle.chunk_laws.proofs.Kept.{is_of_chunks, run_kept}
-use Rattle.chunk_laws.proofs.Ends.{Ends, ends_next, not_yet, split, expect_next}
-use Rattle.chunk_laws.proofs.SizeLinesIn.{SizeLineIn, size_line_in}
-use Rattle.chunk_laws.proofs.SectionsIn.{SectionIn, section_in}
+use Rattle.http_laws.proofs.Kept.{is_of_chunks, run_kept}
+use Rattle.http_laws.proofs.Ends.{Ends, ends_next, not_yet, split, expect_next}
+use Rattle.http_laws.proofs.SizeLinesIn.{SizeLineIn, size_line_in, test_holds}
+use Rattle.http_laws.proofs.ChunkTexts.{spelling_counts}
+use Rattle.http_laws.proofs.SectionsIn.{SectionIn, section_in}
 
 taken_all : (n room line : ℕ) → taken DataEnd n (place Data n room line) ≡ place DataEnd 0 room line
 taken_all n room line = grind (arith, nat_tests)
@@ -169,12 +171,25 @@ said_done Open body out ended kept is = cc
 said_done Full body out ended kept is = cc
 said_done _ body out ended kept is = absurd (no_body_yet ended out is)
 
+-- a body is said where its framing is within the limit
+body_within : (within : Bool) (v : Option (Result (List ℕ) WireFault)) (out : List ℕ) → cond within v (Some (Err BadChunk)) ≡ Some (Ok out) → (within ≡ true) × (v ≡ Some (Ok out))
+body_within true v out is = (refl, is)
+body_within false v out is = cc
+
+-- what was read is within the limit of framing
+framed_in : {bytes body : List ℕ} (s : SpelledIn body_limit [] bytes body) → nat_le (framing_in chunked_body bytes) framing_limit ≡ true → length (print_spelling s.m) ≤ length (content s.m) + framing_limit
+framed_in {bytes} {body} s within =
+    let here : framing_in chunked_body bytes ≡ framing_in chunked_body (print_spelling s.m ++ s.rest) = ap (λ xs. framing_in chunked_body xs) s.text in
+    omega (arith, here, test_holds (framing_in chunked_body bytes) framing_limit within, spelling_counts s.m s.rest s.chunks s.last s.trailers s.few s.fits)
+
 pub read_is_spelled : (bytes body : List ℕ) (ended : Bool) → body_says chunked_body bytes ended ≡ Some (Ok body)
     → (m : Spelling) × IsSpelling m × (body ≡ content m) × ((rest : List ℕ) × (bytes ≡ print_spelling m ++ rest))
 read_is_spelled bytes body ended is =
+    let said : (nat_le (framing_in chunked_body bytes) framing_limit ≡ true) × (verdict (run chunked_body [] bytes).state.phase (run chunked_body [] bytes).body ended ≡ Some (Ok body))
+    = body_within (nat_le (framing_in chunked_body bytes) framing_limit) (verdict (run chunked_body [] bytes).state.phase (run chunked_body [] bytes).body ended) body is in
     let done : ((run chunked_body [] bytes).state.phase ≡ Done) × ((run chunked_body [] bytes).body ≡ body)
-    = said_done (run chunked_body [] bytes).state.phase (run chunked_body [] bytes).body body ended (run_kept chunked_body [] bytes refl) is in
+    = said_done (run chunked_body [] bytes).state.phase (run chunked_body [] bytes).body body ended (run_kept chunked_body [] bytes refl) said.1 in
     let ends : Ends chunked_body [] bytes body
     = record { to = (run chunked_body [] bytes).state; runs = ap (λ b. reached (run chunked_body [] bytes).state b) done.1; done = done.0 } in
     let s : SpelledIn body_limit [] bytes body = spelled_in (length bytes) bytes body_limit [] body (omega arith) ends in
-    (s.m, record { chunks = s.chunks; last = s.last; trailers = s.trailers; few = s.few; fits = s.fits }, sym s.same, (s.rest, s.text))
+    (s.m, record { chunks = s.chunks; last = s.last; trailers = s.trailers; few = s.few; fits = s.fits; framed = framed_in s said.0 }, sym s.same, (s.rest, s.text))

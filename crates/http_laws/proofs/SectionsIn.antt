@@ -7,7 +7,7 @@ use Rattle.wire_body.specs.declared.states.Phase.{Phase}
 use Rattle.wire_body.specs.declared.states.Phase.TheVariants.{Trailer, Name, Value, ValueEnd, LastEnd, Done}
 use Rattle.wire_body.specs.Bodies.{expects, ends_line}
 use Rattle.http_laws.proofs.Leads.{place}
-use Rattle.chunk_laws.proofs.Ends.{Ends, ends_final, not_yet, line_next, split, same_byte, expect_next, none_pass, one_passes}
+use Rattle.http_laws.proofs.Ends.{Ends, ends_final, not_yet, line_next, split, same_byte, expect_next, none_pass, one_passes}
 
 record NamesIn (left room n : ℕ) (body bytes out : List ℕ) : Type 0 where
   xs : List ℕ

@@ -11,7 +11,7 @@ use Rattle.wire_body.specs.declared.states.Phase.TheVariants.{Size, Digits, Pad,
 use Rattle.wire_body.specs.Bodies.{with_digit, behind_size, behind_size_line, expects, line_limit}
 use Rattle.http_laws.specs.Spellings.{IsSizeLine}
 use Rattle.http_laws.proofs.Leads.{place}
-use Rattle.chunk_laws.proofs.Ends.{Ends, ends_at, bad_ends, long_ends, not_yet, line_next, split, same_byte, expect_next, none_pass, one_passes}
+use Rattle.http_laws.proofs.Ends.{Ends, ends_at, bad_ends, long_ends, not_yet, line_next, split, same_byte, expect_next, none_pass, one_passes}
 
 swap : (n d : ℕ) → 16 * n + d ≡ n * 16 + d
 swap n d = omega arith
@@ -19,7 +19,8 @@ swap n d = omega arith
 through : (a b c : ℕ) → a ≤ b → b ≤ c → a ≤ c
 through a b c p q = omega arith
 
-test_holds : (a b : ℕ) → leb a b ≡ true → a ≤ b
+-- a test that holds
+pub test_holds : (a b : ℕ) → leb a b ≡ true → a ≤ b
 test_holds a b is = grind (arith, nat_tests)
 
 -- one digit that kept the size within the room

@@ -1,5 +1,0 @@
-pub mod Ends
-pub mod SizeLinesIn
-pub mod SectionsIn
-pub mod Kept
-pub mod Spelled
