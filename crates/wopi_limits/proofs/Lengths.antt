@@ -1,5 +1,5 @@
 -- How many bytes the head of a request has.
-use Rattle.std.proofs.Common.{ℕ, ◌≡◌, ◌+◌, ◌≤◌, ◌<◌, ◌^◌, Bool, true, ◌&&◌, nat_le, List, [], ◌∷◌, ◌++◌, length, map, codes, decimal, refl, sym, ap, ◌∙◌, arith}
+use Rattle.std.proofs.Common.{ℕ, ◌≡◌, ◌+◌, ◌≤◌, true, ◌&&◌, nat_le, List, [], ◌∷◌, ◌++◌, length, codes, decimal, refl, sym, ap, ◌∙◌, arith}
 use Rattle.std.specs.List.{list_all}
 use Rattle.std.proofs.lemmas.Bool.{and_parts}
 use Rattle.std.proofs.lemmas.Bool.Decides.{nat_tests}
@@ -15,7 +15,7 @@ use Rattle.http_write.specs.Texts.{request_head}
 use Rattle.wire_body.specs.Bodies.{body_limit}
 use Rattle.wopi_client.specs.declared.asks.Ask.{Ask}
 use Rattle.wopi_client.specs.declared.asks.Ask.TheVariants as Asks
-use Rattle.wopi_client.specs.Asks.{file_target, contents_target, lock_id, getting, posting, request_for}
+use Rattle.wopi_client.specs.Asks.{file_target, contents_target, lock_id, getting, request_for}
 use Rattle.wopi_limits.specs.Sound.{IsNamed, IsSound}
 
 -- a line has four bytes more than its name and its value

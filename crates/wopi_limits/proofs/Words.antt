@@ -1,5 +1,5 @@
 -- What the client writes are words.
-use Rattle.std.proofs.Common.{ℕ, ◌≡◌, ◌≤◌, ◌<◌, Bool, true, false, ◌&&◌, nat_lt, nat_le, List, [], ◌∷◌, ◌++◌, length, codes, refl, sym, ap, ◌∙◌, arith}
+use Rattle.std.proofs.Common.{ℕ, ◌≡◌, ◌≤◌, ◌<◌, true, ◌&&◌, nat_lt, nat_le, List, [], ◌++◌, length, codes, refl, ◌∙◌, arith}
 use Rattle.std.specs.List.{list_all}
 use Rattle.std.specs.Char.{is_ascii_graphic}
 use Rattle.std.proofs.lemmas.Bool.{and_parts}
@@ -7,7 +7,6 @@ use Rattle.std.proofs.lemmas.Bool.Decides.{nat_tests}
 use Rattle.std.proofs.lemmas.List.{length-append}
 use Rattle.std.proofs.lemmas.List.Folds.{list_all-append}
 use Rattle.cool_base.specs.Words.{is_file_character, is_token_byte, is_file_id, is_token}
-use Rattle.http_message.specs.declared.Method.TheVariants.{Get, Post}
 use Rattle.http_write.specs.Again.{IsReadable, is_word, is_clean}
 use Rattle.http_write.proofs.Again.{wider, word_is_clean}
 use Rattle.wire_body.specs.Bodies.{body_limit}
