@@ -3,7 +3,7 @@
 # the program is killed in the middle of puts; peers that say nothing, too little or nonsense get their answer or
 # none, and the next request is answered.
 # The program is the first of those in COOLWSD, paths that blanks divide, else the one that `rt ci` left in
-# crates/coolwsd/out. Without curl or python3 it is skipped. It takes about 40 seconds, of which 25 wait for limits.
+# crates/coolwsd/out. Without curl or python3 it is skipped. It takes about 32 seconds, of which 26 wait for limits.
 set -u
 top="$(cd "$(dirname "$0")/../.." && pwd)"
 for needed in curl python3; do
@@ -112,7 +112,9 @@ def ask(data, shut=True, seconds=30):
                 wire.shutdown(socket.SHUT_WR)
             while piece := wire.recv(65536):
                 answer += piece
-        except (ConnectionResetError, BrokenPipeError):
+        except TimeoutError:
+            raise
+        except OSError:  # the host has hung up
             pass
         return answer
 
@@ -140,7 +142,7 @@ with socket.create_connection(("127.0.0.1", port)) as wire:
         while time.monotonic() - begin < 60:
             wire.sendall(b"G")
             time.sleep(1)
-    except (ConnectionResetError, BrokenPipeError):
+    except OSError:  # the host has hung up
         pass
 if time.monotonic() - begin > 45:
     print("a peer of a byte a second holds the host for more than 45 seconds")

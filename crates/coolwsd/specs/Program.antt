@@ -1,5 +1,5 @@
 -- What the program tells where it can't replay.
-use Rattle.std.specs.Prelude.{ℕ, ◌≡◌, List, [], ◌∷◌, Option, codes, ◌⊎◌}
+use Rattle.std.specs.Prelude.{ℕ, List, Option, codes, ◌⊎◌}
 use Rattle.outside.specs.Causes.{Rose}
 use Rattle.outside.specs.Streams.{Adds}
 use Rattle.script_lines.specs.Records.{AddsPart}
@@ -18,8 +18,3 @@ usage = codes "usage: coolwsd replay <patch or sheet>\n"
 -- the usage was written; or its sink failed, and a front of it was
 abbrev pub TellsUsage : (before now : Option (List ℕ)) (faults faults_now : ℕ) → Type 0
 TellsUsage before now faults faults_now = Adds before usage now ⊎ (AddsPart before usage now × Rose faults faults_now)
-
--- the first word is `host`
-abbrev pub IsHost : List (List ℕ) → Type 0
-IsHost [] = ⊥
-IsHost (first ∷ rest) = first ≡ codes "host"

@@ -2,7 +2,7 @@
 ghost use Rattle.std.specs.Prelude.{◌≡◌, ◌↔◌, IsTrue, map, string_bytes};
 ghost use Rattle.outside.specs.Causes.{HasCause};
 ghost use Rattle.cool_server.specs.Hosting.{HostServes};
-ghost use Rattle.coolwsd.specs.Program.{IsHost};
+ghost use Rattle.coolwsd.specs.Hosts.{IsHost};
 
 use crate::program::WRONG_WORDS;
 use cool_server::{host_serve, refusal_text};

@@ -14,6 +14,8 @@ pub(crate) struct FailingKeeper {
 }
 
 impl FailingKeeper {
+    ghost use Rattle.std.specs.Prelude.{◌≡◌};
+
     // Whether this call fails.
     fn fails(&mut self) -> bool
         ensures { self.new.faults ≡ self.old.faults }

@@ -53,10 +53,10 @@ fn the_answer_is_500_where_the_keeper_fails(rt: HostRuntime) -> Result<(), Fail>
         (4, 200, 200, 3, 3),
     ] {
         let mut host = host_over(&rt, alloc, fails_at)?;
-        let answer = host.answer(alloc, &put, 10)?;
+        let answer = host.answer(&put, 10)?;
         assert_eq!(rt; answer.status, first);
         assert!(rt; answer.lock.is_none() && answer.body.is_empty());
-        let answer = host.answer(alloc, &get, 10)?;
+        let answer = host.answer(&get, 10)?;
         assert_eq!(rt; answer.status, second);
         assert_eq!(rt; answer.body.len(), if second == 500 { 0 } else { kept });
         let keeper = host.into_keeper();
@@ -74,7 +74,7 @@ fn a_put_is_asked_again_after_a_fault(rt: HostRuntime) -> Result<(), Fail> {
     let put = request(alloc, Method::Post, Some("PUT"))?;
     let mut host = host_over(&rt, alloc, 2)?;
     for status in [500u16, 200, 409] {
-        assert_eq!(rt; host.answer(alloc, &put, 10)?.status, status);
+        assert_eq!(rt; host.answer(&put, 10)?.status, status);
     }
     Ok(())
 }

@@ -20,6 +20,8 @@ pub(crate) struct FailingWire {
 }
 
 impl FailingWire {
+    ghost use Rattle.std.specs.Prelude.{◌≡◌};
+
     pub(crate) fn new(bytes: &'static [u8], good: usize) -> FailingWire {
         FailingWire {
             bytes,

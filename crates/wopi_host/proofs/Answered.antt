@@ -1,13 +1,11 @@
 -- Answers of the host, over plain variables.
-use Rattle.std.proofs.Common.{ℕ, ◌≡◌, List, Option, Some, None, Bool, true, false, unwrap_or, refl, sym, ap, ◌∙◌, subst, cond, bytes_eq, Result, Ok, Err, IfOk, OnErr}
+use Rattle.std.proofs.Common.{ℕ, ◌≡◌, List, Option, Some, None, Bool, true, false, refl, sym, ap, ◌∙◌, subst, cond, bytes_eq, Result, Ok, Err, IfOk, OnErr}
 use Rattle.std.proofs.lemmas.Slice.Eq.{bytes_eq-Decides}
 use Rattle.http_message.specs.declared.Request.{Request}
 use Rattle.http_message.specs.declared.Response.{Response}
 use Rattle.wopi_host.specs.declared.table.Action.{Action}
 use Rattle.wopi_host.specs.declared.table.Action.TheVariants.{Refused, Info, Content, Sets, Removes, TellsLock, Replaces, Conflict}
-use Rattle.wopi_host.specs.declared.marks.Marks.{Marks}
 use Rattle.wopi_host.specs.Keepers.{Files, IsKept, Keeps, SameFiles}
-use Rattle.wopi_host.specs.Marks.{counting, marks_after}
 use Rattle.wopi_host.specs.Targets.{Named, Nothing}
 use Rattle.wopi_host.specs.Hosts.{Pages, SamePages, WritesPage, HostAt, HostStays, Asking, FilesAfter, ActsAt, AnswersAt, Answers, bare}
 use Rattle.wopi_host.proofs.Same.{same_files, some_kept}

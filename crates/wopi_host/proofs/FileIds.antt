@@ -1,5 +1,5 @@
 -- A file id is ASCII, so it is text.
-use Rattle.std.proofs.Common.{lit<, ℕ, zero, suc, ◌≡◌, ◌<◌, ◌≤◌, List, [], ◌∷◌, Bool, true, false, ◌&&◌, get_or, length, arith, IsUtf8, Option, Some, None, cond, refl}
+use Rattle.std.proofs.Common.{lit<, ℕ, zero, suc, ◌≡◌, ◌<◌, List, [], ◌∷◌, Bool, true, false, ◌&&◌, get_or, arith, IsUtf8, Some, None, cond, refl}
 use Rattle.std.proofs.lemmas.Grind.{common_steps}
 use Rattle.std.specs.List.{list_all}
 use Rattle.std.proofs.lemmas.Str.{IsUtf8-from_ascii}

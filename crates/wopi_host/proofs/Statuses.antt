@@ -1,5 +1,5 @@
 -- The statuses that the table gives: none of them is 500, and each has a body.
-use Rattle.std.proofs.Common.{ℕ, ◌≡◌, Bool, true, false, not, ◌&&◌, nat_eq, nat_lt, List, [], Option, Some, None, length, Result, Ok, Err, IfOk, refl, sym, subst, ◌∙◌}
+use Rattle.std.proofs.Common.{ℕ, ◌≡◌, Bool, true, false, not, ◌&&◌, nat_eq, List, Option, Some, None, length, Result, Ok, Err, IfOk, refl, sym, subst}
 use Rattle.std.specs.Prelude.{if◌then◌else◌}
 use Rattle.outside.specs.Causes.{HasCause}
 use Rattle.http_message.specs.declared.Request.{Request}

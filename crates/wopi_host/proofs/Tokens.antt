@@ -1,5 +1,5 @@
 -- The token of a query, word by word.
-use Rattle.std.proofs.Common.{ℕ, ◌≡◌, ◌<◌, List, [], ◌∷◌, length, drop, get_or, Option, Some, None, Bool, true, false, ◌&&◌, nat_eq, codes, refl, ap, ◌∙◌, cond, arith}
+use Rattle.std.proofs.Common.{ℕ, ◌≡◌, ◌<◌, List, [], ◌∷◌, length, drop, get_or, Some, None, Bool, true, false, ◌&&◌, nat_eq, codes, refl, ap, cond, arith}
 use Rattle.std.specs.List.{starts_with}
 use Rattle.wopi_host.specs.Targets.{token_from, word_of}
 

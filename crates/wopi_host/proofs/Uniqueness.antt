@@ -1,12 +1,12 @@
 -- The table allows one answer.
-use Rattle.std.proofs.Common.{ℕ, ◌≡◌, List, [], Option, Some, None, Bool, true, false, unwrap_or, refl, sym, ap, ◌∙◌, subst, cond, bytes_eq}
+use Rattle.std.proofs.Common.{ℕ, ◌≡◌, List, Option, Some, None, Bool, true, false, sym, ap, ◌∙◌, subst, cond, bytes_eq}
 use Rattle.http_message.specs.declared.Request.{Request}
 use Rattle.http_message.specs.declared.Response.{Response}
 use Rattle.wopi_host.specs.declared.table.Action.{Action}
 use Rattle.wopi_host.specs.declared.table.Action.TheVariants.{Refused, Info, Content, Sets, Removes, TellsLock, Replaces, Conflict}
 use Rattle.wopi_host.specs.declared.marks.Marks.{Marks}
 use Rattle.wopi_host.specs.Keepers.{Files, IsKept, Keeps, SameFiles}
-use Rattle.wopi_host.specs.Marks.{counting, marks_after}
+use Rattle.wopi_host.specs.Marks.{marks_after}
 use Rattle.wopi_host.specs.Targets.{Named, Nothing, TheFile, TheContents}
 use Rattle.wopi_host.specs.Hosts.{Pages, SamePages, WritesPage, HostAt, HostStays, Asking, FilesAfter, AnswersAt, Answers, chosen_action, told_response, told_host}
 

@@ -1,12 +1,11 @@
 -- What is seen of a host and of a keeper in memory.
-use Rattle.std.specs.Prelude.{ℕ, ◌≡◌, true, List, Option, Some, Result}
+use Rattle.std.specs.Prelude.{ℕ, ◌≡◌, true, List, Option, Result}
 use Rattle.std.specs.BTreeMap.{get_by_text}
 use Rattle.outside.specs.Causes.{HasCause}
 use Rattle.wopi_host.specs.declared.hosts.Host.{Host}
 use Rattle.wopi_host.specs.declared.hosts.Asked.{Asked}
 use Rattle.wopi_host.specs.declared.keepers.KeeperFault.{KeeperFault}
 use Rattle.wopi_host.specs.declared.keepers.MemoryKeeper.{MemoryKeeper}
-use Rattle.wopi_host.specs.declared.marks.Marks.{Marks}
 use Rattle.wopi_host.specs.Keepers.{Files, keeper_failed}
 use Rattle.wopi_host.specs.Marks.{marks_in}
 use Rattle.wopi_host.specs.Hosts.{HostAt, HostStays, Pages, Asking}

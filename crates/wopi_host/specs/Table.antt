@@ -1,5 +1,5 @@
 -- The host's table: what each operation does to a file, by its lock.
-use Rattle.std.specs.Prelude.{ℕ, Bool, true, false, ◌&&◌, not, nat_lt, nat_le, List, [], length, Option, Some, None, if◌then◌else◌, codes, bytes_eq}
+use Rattle.std.specs.Prelude.{ℕ, Bool, true, false, ◌&&◌, not, nat_le, List, length, Option, Some, None, if◌then◌else◌, codes, bytes_eq}
 use Rattle.std.specs.List.{list_all}
 use Rattle.http_message.specs.declared.Method.{Method}
 use Rattle.http_message.specs.declared.Method.TheVariants.{Get, Post, Other}
@@ -9,7 +9,6 @@ use Rattle.wopi_host.specs.declared.table.Held.{Held}
 use Rattle.wopi_host.specs.declared.table.Held.TheVariants.{NoLock, TheSame, Another}
 use Rattle.wopi_host.specs.declared.table.Action.{Action}
 use Rattle.wopi_host.specs.declared.table.Action.TheVariants.{Refused, Info, Content, Sets, Removes, TellsLock, Replaces, Conflict}
-use Rattle.wopi_host.specs.Targets.{Named, Nothing, TheFile, TheContents}
 
 -- the operation that `X-WOPI-Override` names at a file
 unfoldable pub file_operation : List ℕ → Option Operation

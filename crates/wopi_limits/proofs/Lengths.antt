@@ -1,67 +1,75 @@
 -- How many bytes the head of a request has.
-use Rattle.std.proofs.Common.{ℕ, ◌≡◌, ◌+◌, ◌≤◌, ◌<◌, ◌^◌, Bool, true, ◌&&◌, nat_le, List, [], ◌∷◌, ◌++◌, length, map, codes, decimal, refl, arith}
+use Rattle.std.proofs.Common.{ℕ, ◌≡◌, ◌+◌, ◌≤◌, true, ◌&&◌, nat_le, List, [], ◌∷◌, ◌++◌, length, codes, decimal, refl, sym, ap, ◌∙◌, arith}
 use Rattle.std.specs.List.{list_all}
 use Rattle.std.proofs.lemmas.Bool.{and_parts}
 use Rattle.std.proofs.lemmas.Bool.Decides.{nat_tests}
 use Rattle.std.proofs.lemmas.List.{length-append}
 use Rattle.std.proofs.lemmas.Fmt.{length-decimal-le}
-use Rattle.std.specs.List.{flat_map}
 use Rattle.httparse.specs.Ascii.{crlf_bytes}
-use Rattle.httparse.specs.Grammar.{crlf, print_field, print_section, print_request}
-use Rattle.http1.specs.Head.{Header, field_of, request_text}
+use Rattle.http1.specs.Fields.{Header}
+use Rattle.http1.specs.Head.{print_header, print_headers, request_text}
+use Rattle.http1.proofs.HeadLemmas.{request_text_is, length-section_text}
 use Rattle.cool_base.specs.Words.{is_file_character, is_token_byte, is_file_id, is_token}
 use Rattle.http_wire.specs.Messages.{head_limit}
 use Rattle.http_write.specs.Texts.{request_head}
 use Rattle.wire_body.specs.Bodies.{body_limit}
 use Rattle.wopi_client.specs.declared.asks.Ask.{Ask}
 use Rattle.wopi_client.specs.declared.asks.Ask.TheVariants as Asks
-use Rattle.wopi_client.specs.Asks.{file_target, contents_target, lock_id, getting, posting, request_for}
+use Rattle.wopi_client.specs.Asks.{file_target, contents_target, lock_id, getting, request_for}
 use Rattle.wopi_limits.specs.Sound.{IsNamed, IsSound}
 
--- the lines of a head and the empty line
-abbrev lines_text : List Header → List ℕ
-lines_text hs = print_section (map field_of hs) crlf
+-- a line has four bytes more than its name and its value
+line_length : (name value : List ℕ) → length (print_header (name, value)) ≡ length name + length value + 4
+line_length name value =
+    let raw : List ℕ = 58 ∷ 32 ∷ value in
+    let one : length (print_header (name, value)) ≡ length (name ++ raw) + length crlf_bytes = length-append (name ++ raw) crlf_bytes in
+    let two : length (name ++ raw) ≡ length name + length raw = length-append name raw in
+    let three : length crlf_bytes ≡ 2 = refl in
+    omega (arith, one, two, three)
 
-field_length : (name value : List ℕ) → length (print_field (field_of (name, value))) ≡ length name + (length value + 4)
-field_length name value = omega (arith, length-append name (58 ∷ (32 ∷ value ++ crlf_bytes)), length-append value crlf_bytes)
+-- lines of at most so many bytes
+record Few (hs : List Header) (most : ℕ) : Type 0 where
+  few : length (print_headers hs) ≤ most
 
-line_small : (name value : List ℕ) (hs : List Header) (n v s : ℕ) → length name ≤ n → length value ≤ v → length (lines_text hs) ≤ s → length (lines_text ((name, value) ∷ hs)) ≤ n + (v + (4 + s))
-line_small name value hs n v s a b c =
-    let fields : List ℕ = flat_map print_field (map field_of hs) in
-    let one : length ((print_field (field_of (name, value)) ++ fields) ++ crlf_bytes) ≡ length (print_field (field_of (name, value)) ++ fields) + length crlf_bytes = length-append (print_field (field_of (name, value)) ++ fields) crlf_bytes in
-    let two : length (print_field (field_of (name, value)) ++ fields) ≡ length (print_field (field_of (name, value))) + length fields = length-append (print_field (field_of (name, value))) fields in
-    let three : length (fields ++ crlf_bytes) ≡ length fields + length crlf_bytes = length-append fields crlf_bytes in
-    let four = field_length name value in
-    omega (arith, one, two, three, four, a, b, c)
+none_few : Few [] 0
+none_few = record { few = omega arith }
 
-head_small : (method target : List ℕ) (hs : List Header) (m t s : ℕ) → length method ≤ m → length target ≤ t → length (lines_text hs) ≤ s → length (request_text method target 1 hs) ≤ m + (t + (12 + s))
-unfolding print_request
-head_small method target hs m t s a b c =
-    let rest : List ℕ = codes "HTTP/1.1" ++ (crlf_bytes ++ lines_text hs) in
-    let one : length (method ++ (32 ∷ (target ++ (32 ∷ rest)))) ≡ length method + length (32 ∷ (target ++ (32 ∷ rest))) = length-append method (32 ∷ (target ++ (32 ∷ rest))) in
-    let two : length (target ++ (32 ∷ rest)) ≡ length target + length (32 ∷ rest) = length-append target (32 ∷ rest) in
-    omega (arith, one, two, a, b, c)
+line_few : {hs : List Header} {s : ℕ} (name value : List ℕ) (n v : ℕ) → length name ≤ n → length value ≤ v → Few hs s → Few ((name, value) ∷ hs) (n + v + 4 + s)
+line_few {hs} {s} name value n v a b rest =
+    let one : length (print_headers ((name, value) ∷ hs)) ≡ length (print_header (name, value)) + length (print_headers hs) = length-append (print_header (name, value)) (print_headers hs) in
+    let few : length (print_headers ((name, value) ∷ hs)) ≤ n + v + 4 + s = omega (arith, one, line_length name value, a, b, rest.few) in
+    record { few = few }
+
+head_small : {hs : List Header} {s : ℕ} (method target : List ℕ) (m t : ℕ) → length method ≤ m → length target ≤ t → Few hs s → m + t + 14 + s ≤ head_limit → length (request_text method target 1 hs) ≤ head_limit
+head_small {hs} {s} method target m t a b lines within =
+    let tail : List ℕ = codes " HTTP/1." ++ ((48 + 1) ∷ 13 ∷ 10 ∷ []) in
+    let line : List ℕ = method ++ (32 ∷ (target ++ tail)) in
+    let text : length (request_text method target 1 hs) ≡ 2 + length line + length (print_headers []) + length (print_headers hs)
+    = ap length (sym (request_text_is method target 1 hs)) ∙ length-section_text line [] hs in
+    let one : length line ≡ length method + length (32 ∷ (target ++ tail)) = length-append method (32 ∷ (target ++ tail)) in
+    let two : length (target ++ tail) ≡ length target + length tail = length-append target tail in
+    let three : length tail ≡ 11 = refl in
+    let four : length (print_headers []) ≡ 0 = refl in
+    omega (arith, text, one, two, three, four, a, b, lines.few, within)
 
 get_small : (host target : List ℕ) → length host ≤ 8192 → length target ≤ 2200 → length (request_head host (getting target)) ≤ head_limit
 get_small host target a b =
-    let last : length (lines_text []) ≤ 2 = omega arith in
-    let close = line_small (codes "Connection") (codes "close") [] 10 5 2 (omega arith) (omega arith) last in
-    let whole = line_small (codes "Host") host _ 4 8192 _ (omega arith) a close in
-    let head = head_small (codes "GET") target _ 3 2200 _ (omega arith) b whole in
-    omega (arith, head)
+    head_small (codes "GET") target 3 2200 (omega arith) b
+    (line_few (codes "Host") host 4 8192 (omega arith) a
+    (line_few (codes "Connection") (codes "close") 10 5 (omega arith) (omega arith) none_few))
+    (omega arith)
 
 post_small : (host target lock over body : List ℕ) → length host ≤ 8192 → length target ≤ 2200 → length lock ≤ 70 → length over ≤ 12 → length body ≤ body_limit
     → length (request_text (codes "POST") target 1 ((codes "Host", host) ∷ (codes "Connection", codes "close") ∷ (codes "Content-Length", decimal (length body)) ∷ (codes "X-WOPI-Lock", lock) ∷ (codes "X-WOPI-Override", over) ∷ [])) ≤ head_limit
 post_small host target lock over body a b c d e =
     let digits : length (decimal (length body)) ≤ 8 = length-decimal-le 8 (length body) (omega arith) (omega (arith, e)) (omega (arith, e)) in
-    let last : length (lines_text []) ≤ 2 = omega arith in
-    let five = line_small (codes "X-WOPI-Override") over [] 15 12 2 (omega arith) d last in
-    let four = line_small (codes "X-WOPI-Lock") lock _ 11 70 _ (omega arith) c five in
-    let three = line_small (codes "Content-Length") (decimal (length body)) _ 14 8 _ (omega arith) digits four in
-    let two = line_small (codes "Connection") (codes "close") _ 10 5 _ (omega arith) (omega arith) three in
-    let one = line_small (codes "Host") host _ 4 8192 _ (omega arith) a two in
-    let head = head_small (codes "POST") target _ 4 2200 _ (omega arith) b one in
-    omega (arith, head)
+    head_small (codes "POST") target 4 2200 (omega arith) b
+    (line_few (codes "Host") host 4 8192 (omega arith) a
+    (line_few (codes "Connection") (codes "close") 10 5 (omega arith) (omega arith)
+    (line_few (codes "Content-Length") (decimal (length body)) 14 8 (omega arith) digits
+    (line_few (codes "X-WOPI-Lock") lock 11 70 (omega arith) c
+    (line_few (codes "X-WOPI-Override") over 15 12 (omega arith) d none_few)))))
+    (omega arith)
 
 up_to : (a b : ℕ) → nat_le a b ≡ true → a ≤ b
 up_to a b is = grind (arith, nat_tests)
@@ -72,8 +80,8 @@ file_few file is = up_to (length file) 64 (and_parts (nat_le 1 (length file)) (n
 token_few : (token : List ℕ) → is_token token ≡ true → length token ≤ 2048
 token_few token is = up_to (length token) 2048 (and_parts (nat_le 1 (length token)) (nat_le (length token) 2048) (and_parts (nat_le 1 (length token) && nat_le (length token) 2048) (list_all is_token_byte token) is).0).1
 
-four_parts : (a b c d : List ℕ) → length (a ++ (b ++ (c ++ d))) ≡ length a + (length b + (length c + length d))
-four_parts a b c d = omega (arith, length-append a (b ++ (c ++ d)), length-append b (c ++ d), length-append c d)
+four_parts : (a b c d : List ℕ) → length (a ++ b ++ c ++ d) ≡ length a + length b + length c + length d
+four_parts a b c d = omega (arith, length-append (a ++ b ++ c) d, length-append (a ++ b) c, length-append a b)
 
 file_small : (file token : List ℕ) → IsNamed file token → length (file_target file token) ≤ 2200
 unfolding file_target

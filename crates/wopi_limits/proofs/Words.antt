@@ -1,12 +1,12 @@
 -- What the client writes are words.
-use Rattle.std.proofs.Common.{ℕ, ◌≡◌, ◌≤◌, Bool, true, false, ◌&&◌, nat_lt, nat_le, List, [], ◌∷◌, ◌++◌, length, codes, refl, sym, ap, ◌∙◌, arith}
+use Rattle.std.proofs.Common.{ℕ, ◌≡◌, ◌≤◌, ◌<◌, true, ◌&&◌, nat_lt, nat_le, List, [], ◌++◌, length, codes, refl, ◌∙◌, arith}
 use Rattle.std.specs.List.{list_all}
 use Rattle.std.specs.Char.{is_ascii_graphic}
 use Rattle.std.proofs.lemmas.Bool.{and_parts}
 use Rattle.std.proofs.lemmas.Bool.Decides.{nat_tests}
+use Rattle.std.proofs.lemmas.List.{length-append}
 use Rattle.std.proofs.lemmas.List.Folds.{list_all-append}
 use Rattle.cool_base.specs.Words.{is_file_character, is_token_byte, is_file_id, is_token}
-use Rattle.http_message.specs.declared.Method.TheVariants.{Get, Post}
 use Rattle.http_write.specs.Again.{IsReadable, is_word, is_clean}
 use Rattle.http_write.proofs.Again.{wider, word_is_clean}
 use Rattle.wire_body.specs.Bodies.{body_limit}
@@ -30,24 +30,32 @@ word_graphic token is = wider is_token_byte is_ascii_graphic token_graphic token
 both : (xs ys : List ℕ) → list_all is_ascii_graphic xs ≡ true → list_all is_ascii_graphic ys ≡ true → list_all is_ascii_graphic (xs ++ ys) ≡ true
 both xs ys a b = list_all-append is_ascii_graphic xs ys ∙ rw (a, b) refl
 
-word : (x : ℕ) (xs : List ℕ) → list_all is_ascii_graphic (x ∷ xs) ≡ true → is_word (x ∷ xs) ≡ true
-word x xs all =
-    let some : nat_lt 0 (length (x ∷ xs)) ≡ true = grind (arith, nat_tests) in
-    rw (some, all) refl
+word : (text : List ℕ) → 0 < length text → list_all is_ascii_graphic text ≡ true → is_word text ≡ true
+word text some all =
+    let is : nat_lt 0 (length text) ≡ true = grind (arith, nat_tests) in
+    rw (is, all) refl
+
+-- bytes are there where the first of four parts has some
+four_some : (a b c d : List ℕ) → 0 < length a → 0 < length (a ++ b ++ c ++ d)
+four_some a b c d some = omega (arith, length-append (a ++ b ++ c) d, length-append (a ++ b) c, length-append a b, some)
+
+four_word : (a b c d : List ℕ) → 0 < length a → list_all is_ascii_graphic a ≡ true → list_all is_ascii_graphic b ≡ true → list_all is_ascii_graphic c ≡ true → list_all is_ascii_graphic d ≡ true
+    → is_word (a ++ b ++ c ++ d) ≡ true
+four_word a b c d some p q r s = word (a ++ b ++ c ++ d) (four_some a b c d some) (both (a ++ b ++ c) d (both (a ++ b) c (both a b p q) r) s)
 
 file_word : (file token : List ℕ) → IsNamed file token → is_word (file_target file token) ≡ true
 unfolding file_target
-file_word file token is =
-    word _ _ (both (codes "/wopi/files/") _ refl (both file _ (file_graphic file is.0) (both (codes "?access_token=") token refl (word_graphic token is.1))))
+file_word file token is = four_word (codes "/wopi/files/") file (codes "?access_token=") token (omega arith) refl (file_graphic file is.0) refl (word_graphic token is.1)
 
 contents_word : (file token : List ℕ) → IsNamed file token → is_word (contents_target file token) ≡ true
 unfolding contents_target
-contents_word file token is =
-    word _ _ (both (codes "/wopi/files/") _ refl (both file _ (file_graphic file is.0) (both (codes "/contents?access_token=") token refl (word_graphic token is.1))))
+contents_word file token is = four_word (codes "/wopi/files/") file (codes "/contents?access_token=") token (omega arith) refl (file_graphic file is.0) refl (word_graphic token is.1)
 
 lock_clean : (file token : List ℕ) → IsNamed file token → is_clean (lock_id file) ≡ true
 unfolding lock_id
-lock_clean file token is = word_is_clean (codes "cool-" ++ file) (word _ _ (both (codes "cool-") file refl (file_graphic file is.0)))
+lock_clean file token is =
+    let some : 0 < length (codes "cool-" ++ file) = omega (arith, length-append (codes "cool-") file) in
+    word_is_clean (codes "cool-" ++ file) (word (codes "cool-" ++ file) some (both (codes "cool-") file refl (file_graphic file is.0)))
 
 get_readable : (host target : List ℕ) → is_word host ≡ true → is_word target ≡ true → IsReadable host (getting target)
 get_readable host target named is = record { asked = refl; to_host = named; target = is; lock = refl; over = refl; body = omega arith }

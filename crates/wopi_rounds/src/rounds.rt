@@ -45,7 +45,7 @@ fn understood(alloc: Global, ask: &Ask, response: &Response) -> u64 {
 // One round.
 fn asked(alloc: Global, host: &mut Host<MemoryKeeper>, ask: &Ask) -> Result<u64, HttpFault> {
     let request = carried(alloc, &request_of(alloc, ask)?)?;
-    let response = host.answer(alloc, &request, 10)?;
+    let response = host.answer(&request, 10)?;
     let response = answered(alloc, &response)?;
     Ok(understood(alloc, ask, &response))
 }
@@ -83,7 +83,7 @@ fn each_operation_goes_both_ways(rt: HostRuntime) -> Result<(), Fail> {
     let alloc = rt.alloc();
     let mut host = Host::new(alloc, MemoryKeeper::new(alloc))?;
     let file = FileId::read("d").expect(&rt, "a file id");
-    host.add(alloc, &file, &Bytes::from_static(b"abc"))?;
+    host.add(&file, &Bytes::from_static(b"abc"))?;
     for (step, told) in [
         (Step::Check, 3u64),
         (Step::Get, 3),

@@ -12,6 +12,6 @@ returns c = record {
   read_again = readable;
   head = small;
   answered = λ host ask after old new result named few sound given reads.
-    itself_between requests request_laws (request_for ask) _ old new result
-    (request_says host (request_for ask) after (readable host ask named sound) (small host ask few sound)) given reads;
+      itself_between requests request_laws (request_for ask) _ old new result
+      (request_says host (request_for ask) after (readable host ask named sound) (small host ask few sound)) given reads;
 }

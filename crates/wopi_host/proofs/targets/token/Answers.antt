@@ -1,4 +1,4 @@
-use Rattle.std.proofs.Common.{get_or, ◌≡◌, ◌<◌, ◌∙◌, ap, sym, Some, None, length, arith, ◌&&◌, true, false, nat_eq, codes}
+use Rattle.std.proofs.Common.{get_or, ◌≡◌, ◌<◌, ◌∙◌, ap, sym, Some, length, arith, nat_eq}
 use Rattle.std.proofs.lemmas.Grind.{common_steps}
 use Rattle.wopi_host.specs.Targets.{token_from}
 use Rattle.wopi_host.proofs.Tokens.{token_here, token_later, token_missing}

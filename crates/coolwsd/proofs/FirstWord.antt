@@ -2,7 +2,7 @@
 use Rattle.std.proofs.Common.{◌≡◌, ◌∙◌, ◌↔◌, ℕ, ◌≤◌, Bool, IsTrue, List, [], ◌∷◌, length, map, get_or, ap, sym, arith, codes}
 use Rattle.std.specs.Str.{bytes_eq}
 use Rattle.std.proofs.lemmas.Slice.Eq.{bytes_eq-Decides}
-use Rattle.coolwsd.specs.Program.{IsHost}
+use Rattle.coolwsd.specs.Hosts.{IsHost}
 
 -- what comparing the first word tells
 pub first_word : {A : Type 0} (f : A → List ℕ) (words : List A) (word : A) (text : List ℕ) (told : Bool) → 1 ≤ length words → word ≡ get_or words 0 word
