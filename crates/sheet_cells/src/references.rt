@@ -3,6 +3,7 @@ ghost use Rattle.std.specs.Prelude.{◌≡◌, ◌≤◌, length};
 ghost use Rattle.std.specs.List.{list_all, prefix_len};
 ghost use Rattle.sheet_cells.specs.References.{is_letter, letter_number, column_number, column_of, row_of, cell_of, reference};
 
+use crate::limits::{COLUMNS, ROWS};
 use cool_base::read_number;
 
 /// The row and the column, counted from 0, of the cell that the text names, as `a1` or `IV4096`.
@@ -54,7 +55,7 @@ fn row(digits: &[u8]) -> Option<u32>
     if digits.is_empty() || digits[0] < b'1' {
         return None;
     }
-    let number = read_number(digits, 4, 4096)?;
+    let number = read_number(digits, 4, u64::from(ROWS))?;
     Some((number as u32).saturating_sub(1))
 }
 
@@ -66,7 +67,7 @@ fn column(letters: &[u8]) -> Option<u32>
         return None;
     }
     let number = column_number(letters);
-    if number <= 256 {
+    if number <= COLUMNS {
         Some(number.saturating_sub(1))
     } else {
         None
