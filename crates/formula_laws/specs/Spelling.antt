@@ -45,7 +45,7 @@ doubled (c ∷ text) = if c == 34 then 34 ∷ (34 ∷ doubled text) else c ∷ d
 abbrev pub IsSpelled : Text → Token → Type 0
 IsSpelled word (Number z) = (value : ℕ) × (z ≡ pos value) × (number 19 9223372036854775807 word ≡ Some value)
 IsSpelled word (Words text) = word ≡ 34 ∷ (doubled text ++ 34 ∷ [])
-IsSpelled word (Cell place) = reference word ≡ Some place
+IsSpelled word (Cell position) = reference word ≡ Some position
 IsSpelled word (Function name) = is_named word (function_text name) ≡ true
 IsSpelled word If = is_named word (codes "IF") ≡ true
 IsSpelled word (Sign operator) = word ≡ operator_text operator

@@ -4,7 +4,7 @@ use Rattle.std.specs.Prelude.{◌==◌, ◌||◌, ◌&&◌, cond}
 use Rattle.std.specs.List.{list_all, prefix_len}
 use Rattle.std.specs.Char.{is_ascii_digit}
 use Rattle.std.proofs.lemmas.Bool.Decides.{nat_tests}
-use Rattle.sheet_cells.specs.References.{is_letter}
+use Rattle.sheet_cells.specs.References.{is_name_letter}
 use Rattle.sheet_formula.specs.declared.tokens.Token.{Token}
 use Rattle.sheet_formula.specs.declared.tokens.Token.TheVariants.{Number, Words, Cell, Function, If, Compare}
 use Rattle.sheet_formula.specs.Tokens.{Text}
@@ -41,7 +41,7 @@ run_all p (c ∷ text) = run_from p c text (p c) refl (run_all p text)
 
 -- characters that a word may begin or go on with, and those that a sign that compares may
 abbrev pub word_char : ℕ → Bool
-word_char c = is_ascii_digit c || (is_letter c || c == 34)
+word_char c = is_ascii_digit c || (is_name_letter c || c == 34)
 
 abbrev pub compare_char : ℕ → Bool
 compare_char c = c == 60 || (c == 61 || c == 62)
@@ -50,7 +50,7 @@ compare_char c = c == 60 || (c == 61 || c == 62)
 abbrev pub is_word : Token → Bool
 is_word (Number z) = true
 is_word (Words text) = true
-is_word (Cell place) = true
+is_word (Cell position) = true
 is_word (Function name) = true
 is_word If = true
 is_word _ = false
@@ -70,7 +70,7 @@ abbrev pub Ends : Token → Text → Type 0
 Ends token [] = Unit {0}
 Ends token (c ∷ rest) = (is_word token ≡ true → word_char c ≡ false) × (is_compare token ≡ true → compare_char c ≡ false)
 
-pub no_letter : (c : ℕ) → is_ascii_digit c ≡ true → is_letter c ≡ false
+pub no_letter : (c : ℕ) → is_ascii_digit c ≡ true → is_name_letter c ≡ false
 no_letter c h = grind (arith, nat_tests)
 
 digit_compare : (c : ℕ) → is_ascii_digit c ≡ true → compare_char c ≡ false
@@ -79,16 +79,16 @@ digit_compare c h = grind (arith, nat_tests)
 digit_blank : (c : ℕ) → is_ascii_digit c ≡ true → c ≢ 32
 digit_blank c h e = grind (arith, nat_tests)
 
-letter_compare : (c : ℕ) → is_letter c ≡ true → compare_char c ≡ false
+letter_compare : (c : ℕ) → is_name_letter c ≡ true → compare_char c ≡ false
 letter_compare c h = grind (arith, nat_tests)
 
-letter_blank : (c : ℕ) → is_letter c ≡ true → c ≢ 32
+letter_blank : (c : ℕ) → is_name_letter c ≡ true → c ≢ 32
 letter_blank c h e = grind (arith, nat_tests)
 
 digit_word : (c : ℕ) → word_char c ≡ false → is_ascii_digit c ≡ false
 digit_word c h = grind (arith, nat_tests)
 
-letter_word : (c : ℕ) → word_char c ≡ false → is_letter c ≡ false
+letter_word : (c : ℕ) → word_char c ≡ false → is_name_letter c ≡ false
 letter_word c h = grind (arith, nat_tests)
 
 quote_word : (c : ℕ) → word_char c ≡ false → c ≢ 34
@@ -97,7 +97,7 @@ quote_word c h e = grind (arith, nat_tests)
 pub digit_begins : (token : Token) (c : ℕ) → is_word token ≡ true → is_ascii_digit c ≡ true → Begins token c
 digit_begins token c word h = record { word = λ no_word. absurd (no_true (sym no_word ∙ word)); compare = λ _. digit_compare c h; blank = digit_blank c h }
 
-pub letter_begins : (token : Token) (c : ℕ) → is_word token ≡ true → is_letter c ≡ true → Begins token c
+pub letter_begins : (token : Token) (c : ℕ) → is_word token ≡ true → is_name_letter c ≡ true → Begins token c
 letter_begins token c word h = record { word = λ no_word. absurd (no_true (sym no_word ∙ word)); compare = λ _. letter_compare c h; blank = letter_blank c h }
 
 -- a character that can't go on with a word
@@ -105,7 +105,7 @@ pub ends_digits : (token : Token) (rest : Text) → is_word token ≡ true → E
 ends_digits token [] word h = refl
 ends_digits token (c ∷ rest) word h = rw (digit_word c (h.0 word)) refl
 
-pub ends_letters : (token : Token) (rest : Text) → is_word token ≡ true → Ends token rest → prefix_len is_letter rest ≡ 0
+pub ends_letters : (token : Token) (rest : Text) → is_word token ≡ true → Ends token rest → prefix_len is_name_letter rest ≡ 0
 ends_letters token [] word h = refl
 ends_letters token (c ∷ rest) word h = rw (letter_word c (h.0 word)) refl
 

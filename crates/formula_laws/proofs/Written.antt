@@ -7,18 +7,18 @@ use Rattle.std.proofs.Math.Seq.{drop-append_seam, take-append_seam}
 use Rattle.std.proofs.lemmas.List.{take-append-drop, drop-drop}
 use Rattle.std.proofs.lemmas.Bool.{eqb-true}
 use Rattle.cool_base.specs.Numbers.{number}
-use Rattle.sheet_cells.specs.References.{is_letter, cell_of, reference}
+use Rattle.sheet_cells.specs.References.{is_name_letter, cell_of, reference}
 use Rattle.formula_base.specs.declared.expressions.Operator.TheVariants as sign
 use Rattle.formula_base.specs.declared.expressions.Comparison.TheVariants as comparison
 use Rattle.formula_base.specs.declared.expressions.Function.TheVariants as function
 use Rattle.formula_base.specs.declared.expressions.Expr.{Expr}
 use Rattle.sheet_formula.specs.declared.tokens.Token.{Token}
 use Rattle.sheet_formula.specs.declared.tokens.Token.TheVariants.{Number, Words, Cell, Function, If, Sign, Compare, Open, Close, Comma, Colon}
-use Rattle.sheet_formula.specs.Tokens.{Text, sign_of, compared_of, is_named, function_of, name_of, name_at, number_at, sign_at, quoted, with_front, words_at, bare_at, token_at, cut, with_token}
+use Rattle.sheet_formula.specs.Tokens.{Text, sign_of, compared_of, is_named, function_of, name_of, name_at, number_at, sign_at, quoted, with_front, words_at, bare_at, token_at, tokenize, with_token}
 use Rattle.sheet_formula.specs.Grammar.{formula_of}
 use Rattle.formula_laws.proofs.Sound.{sound, no_some, same_some}
-use Rattle.formula_texts.specs.Spelling.{doubled, IsSpelled, IsSpelledAs, IsFormulaText}
-use Rattle.formula_texts.proofs.Characters.{run_length, run_all, no_true, both, both_true, no_letter}
+use Rattle.formula_laws.specs.Spelling.{doubled, IsSpelled, IsSpelledAs, IsFormulaText}
+use Rattle.formula_laws.proofs.Characters.{run_length, run_all, no_true, both, both_true, no_letter}
 
 abbrev paired_texts : Text → Text → Text × Text
 paired_texts words rest = (words, rest)
@@ -81,22 +81,22 @@ function_written letters token h =
       ]
     ]
 
-reference_of : (letters digits : Text) (d : ℕ) → list_all is_letter letters ≡ true → is_ascii_digit d ≡ true → reference (letters ++ d ∷ digits) ≡ cell_of letters (d ∷ digits)
+reference_of : (letters digits : Text) (d : ℕ) → list_all is_name_letter letters ≡ true → is_ascii_digit d ≡ true → reference (letters ++ d ∷ digits) ≡ cell_of letters (d ∷ digits)
 reference_of letters digits d h k =
-    let first : prefix_len is_letter (d ∷ digits) ≡ 0 = rw (no_letter d k) refl in
-    let count : prefix_len is_letter (letters ++ d ∷ digits) ≡ length letters = run_length is_letter letters (d ∷ digits) h ∙ omega (arith, first) in
+    let first : prefix_len is_name_letter (d ∷ digits) ≡ 0 = rw (no_letter d k) refl in
+    let count : prefix_len is_name_letter (letters ++ d ∷ digits) ≡ length letters = run_length is_name_letter letters (d ∷ digits) h ∙ omega (arith, first) in
     rw count (rw (take-append_seam letters (d ∷ digits), drop-append_seam letters (d ∷ digits)) refl)
 
-name_written : (letters digits : Text) (token : Token) → list_all is_letter letters ≡ true → list_all is_ascii_digit digits ≡ true → name_of letters digits ≡ Some token → IsSpelled (letters ++ digits) token
+name_written : (letters digits : Text) (token : Token) → list_all is_name_letter letters ≡ true → list_all is_ascii_digit digits ≡ true → name_of letters digits ≡ Some token → IsSpelled (letters ++ digits) token
 name_written letters [] token h k read = subst (λ (word : Text). IsSpelled word token) (sym (append-nil letters)) (function_written letters token read)
 name_written letters (d ∷ digits) token h k read =
-    let p = map_read (λ (place : ℕ × ℕ). Cell place) (cell_of letters (d ∷ digits)) token read in
+    let p = map_read (λ (position : ℕ × ℕ). Cell position) (cell_of letters (d ∷ digits)) token read in
     let first = both (is_ascii_digit d) (list_all is_ascii_digit digits) k in
     subst (IsSpelled (letters ++ d ∷ digits)) p.2 (reference_of letters digits d h first.0 ∙ p.1)
 
 name_at_written : (text rest : Text) (token : Token) → name_at text ≡ Some (token, rest) → Cutted text token rest
 name_at_written text rest token h =
-    let n = prefix_len is_letter text in
+    let n = prefix_len is_name_letter text in
     let m = prefix_len is_ascii_digit (drop n text) in
     let p = map_read (λ (token : Token). (token, drop (n + m) text)) (name_of (take n text) (take m (drop n text))) (token, rest) h in
     let split : text ≡ (take n text ++ take m (drop n text)) ++ drop (n + m) text =
@@ -104,7 +104,7 @@ name_at_written text rest token h =
     ∙ ap (λ (ts : Text). take n text ++ ts) (sym (take-append-drop m (drop n text)) ∙ ap (λ (ts : Text). take m (drop n text) ++ ts) (drop-drop m n text))
     ∙ sym (append_assoc (take n text) (take m (drop n text)) (drop (n + m) text)) in
     carried text rest (drop (n + m) text) p.0 token p.2
-    (take n text ++ take m (drop n text), split, name_written (take n text) (take m (drop n text)) p.0 (run_all is_letter text) (run_all is_ascii_digit (drop n text)) p.1)
+    (take n text ++ take m (drop n text), split, name_written (take n text) (take m (drop n text)) p.0 (run_all is_name_letter text) (run_all is_ascii_digit (drop n text)) p.1)
 
 front_read : (front : Text) (found : Option (Text × Text)) (words rest : Text) → with_front front found ≡ Some (words, rest) → (inner : Text) × (found ≡ Some (inner, rest)) × (words ≡ front ++ inner)
 front_read front found words rest h =
@@ -248,7 +248,7 @@ bare_written : (c : ℕ) (text rest : Text) (token : Token) → bare_at c (c ∷
 bare_written c text rest token h =
     elim (choose (is_ascii_digit c) _ _ (Some (token, rest)) h) [
       | inl a ↦ number_written (c ∷ text) rest token a.1
-      | inr a ↦ elim (choose (is_letter c) _ _ (Some (token, rest)) a.1) [
+      | inr a ↦ elim (choose (is_name_letter c) _ _ (Some (token, rest)) a.1) [
         | inl b ↦ name_at_written (c ∷ text) rest token b.1
         | inr b ↦ sign_at_written c text rest token b.1
       ]
@@ -271,21 +271,21 @@ blank_written c text [] h is = both_true (c == 32) (list_all (λ c. c == 32) tex
 blank_written c text (token ∷ tokens) h is =
     (c ∷ is.0, is.1, is.2, ap (λ (ts : Text). c ∷ ts) is.3, both_true (c == 32) (list_all (λ c. c == 32) is.0) h is.4, is.5, is.6)
 
-cut_written : (n : ℕ) (text : Text) (tokens : List Token) → cut n text ≡ Some tokens → IsSpelledAs text tokens
-unfolding cut
-cut_written n [] tokens h = subst (IsSpelledAs []) (same_some [] tokens h) refl
-cut_written zero (c ∷ text) tokens h = absurd (no_some tokens h)
-cut_written (suc n) (c ∷ text) tokens h =
+tokenized_written : (n : ℕ) (text : Text) (tokens : List Token) → tokenize n text ≡ Some tokens → IsSpelledAs text tokens
+unfolding tokenize
+tokenized_written n [] tokens h = subst (IsSpelledAs []) (same_some [] tokens h) refl
+tokenized_written zero (c ∷ text) tokens h = absurd (no_some tokens h)
+tokenized_written (suc n) (c ∷ text) tokens h =
     elim (choose (c == 32) _ _ (Some tokens) h) [
-      | inl a ↦ blank_written c text tokens a.0 (cut_written n text tokens a.1)
+      | inl a ↦ blank_written c text tokens a.0 (tokenized_written n text tokens a.1)
       | inr a ↦
-          let p = and_read (λ (found : Token × Text). with_token found.0 (cut n found.1)) (token_at (c ∷ text)) tokens a.1 in
-          let q = map_read (λ (tokens : List Token). p.0.0 ∷ tokens) (cut n p.0.1) tokens p.2 in
+          let p = and_read (λ (found : Token × Text). with_token found.0 (tokenize n found.1)) (token_at (c ∷ text)) tokens a.1 in
+          let q = map_read (λ (tokens : List Token). p.0.0 ∷ tokens) (tokenize n p.0.1) tokens p.2 in
           let w = token_written c text p.0.1 p.0.0 p.1 in
-          subst (IsSpelledAs (c ∷ text)) q.2 ([], w.0, p.0.1, w.1, refl, w.2, cut_written n p.0.1 q.0 q.1)
+          subst (IsSpelledAs (c ∷ text)) q.2 ([], w.0, p.0.1, w.1, refl, w.2, tokenized_written n p.0.1 q.0 q.1)
     ]
 
 pub written : (raw : Text) (expression : Expr) → formula_of raw ≡ Some expression → IsFormulaText raw expression
 written raw expression read =
     let p = sound raw expression read in
-    (p.0, p.1, p.2, cut_written (length p.0) p.0 p.1 p.3, p.4)
+    (p.0, p.1, p.2, tokenized_written (length p.0) p.0 p.1 p.3, p.4)

@@ -11,7 +11,7 @@ use Rattle.sheet_formula.specs.declared.tokens.Token.TheVariants.{Number, Words,
 use Rattle.sheet_formula.specs.declared.levels.Level.{Level}
 use Rattle.sheet_formula.specs.declared.levels.Level.TheVariants as level
 use Rattle.formula_laws.specs.Language.{Says, AreLinks, IsChain, IsSum, IsComparison, IsArgument, AreArguments, IsLeaf, IsNested, IsFact}
-use Rattle.formula_texts.proofs.Characters.{no_true, is_word, is_compare}
+use Rattle.formula_laws.proofs.Characters.{no_true, is_word, is_compare}
 
 -- two words don't stand beside each other, nor do two signs that compare
 pub record Apart (one other : Token) : Type 0 where
@@ -141,7 +141,7 @@ nested_solid Is all tokens value (inr (inr (inr is))) =
 leaf_solid : AllSolid IsLeaf
 leaf_solid tokens (e.Number z) is = subst Solid (sym is) (single (Number z) refl)
 leaf_solid tokens (e.Words text) is = subst Solid (sym is) (single (Words text) refl)
-leaf_solid tokens (e.Cell place) is = subst Solid (sym is) (single (Cell place) refl)
+leaf_solid tokens (e.Cell position) is = subst Solid (sym is) (single (Cell position) refl)
 leaf_solid tokens value is = absurd is
 
 fact_solid : (depth : ℕ) → AllSolid (IsFact depth)

@@ -1,6 +1,6 @@
 use Rattle.std.proofs.Common.{lit<, get_or, ◌<◌, subst, sym, ℕ}
 use Rattle.std.proofs.lemmas.Str.{IsCharBoundary-after_ascii}
-use Rattle.sheet_formula.proofs.cuts.token_at.Goals as goal
+use Rattle.sheet_formula.proofs.tokenizing.token_at.Goals as goal
 
 pub range_from-requires : goal.range_from-requires
 range_from-requires c =

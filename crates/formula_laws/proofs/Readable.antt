@@ -10,7 +10,7 @@ use Rattle.std.proofs.lemmas.Bool.{eqb-true, ne_eqb, leb-true}
 use Rattle.std.proofs.lemmas.Bool.Decides.{nat_tests}
 use Rattle.std.proofs.lemmas.Slice.Eq.{bytes_eq-Decides}
 use Rattle.cool_base.specs.Numbers.{number, is_decimal, decimal_value}
-use Rattle.sheet_cells.specs.References.{is_letter, cell_of, column_number, column_of, row_of, reference}
+use Rattle.sheet_cells.specs.References.{is_name_letter, cell_of, column_number, column_of, row_of, reference}
 use Rattle.formula_base.specs.declared.expressions.Operator.{Operator}
 use Rattle.formula_base.specs.declared.expressions.Operator.TheVariants as sign
 use Rattle.formula_base.specs.declared.expressions.Comparison.{Comparison}
@@ -20,14 +20,14 @@ use Rattle.formula_base.specs.declared.expressions.Function.TheVariants as funct
 use Rattle.formula_base.specs.declared.expressions.Expr.{Expr}
 use Rattle.sheet_formula.specs.declared.tokens.Token.{Token}
 use Rattle.sheet_formula.specs.declared.tokens.Token.TheVariants.{Number, Words, Cell, Function, If, Sign, Compare, Open, Close, Comma, Colon}
-use Rattle.sheet_formula.specs.Tokens.{Text, is_named, function_of, name_of, name_at, number_at, quoted, with_front, words_at, token_at, cut, with_token, tokens_of}
+use Rattle.sheet_formula.specs.Tokens.{Text, is_named, function_of, name_of, name_at, number_at, quoted, with_front, words_at, token_at, tokenize, with_token, tokens_of}
 use Rattle.sheet_formula.specs.Grammar.{formula_of}
 use Rattle.formula_laws.proofs.Sound.{no_some, same_some}
 use Rattle.formula_laws.proofs.Complete.{complete}
-use Rattle.formula_texts.specs.Spelling.{operator_text, comparison_text, function_text, doubled, IsSpelled, AreBlanks, IsSpelledAs, IsFormulaText}
-use Rattle.formula_texts.proofs.Apart.{Apart, AreApart, comparison_apart}
-use Rattle.formula_texts.proofs.Written.{choose, map_read, and_read}
-use Rattle.formula_texts.proofs.Characters.{run_length, no_true, both, both_true, no_letter, word_char, compare_char, is_word, is_compare, Begins, Ends, digit_begins, letter_begins, ends_digits, ends_letters, ends_quote}
+use Rattle.formula_laws.specs.Spelling.{operator_text, comparison_text, function_text, doubled, IsSpelled, AreBlanks, IsSpelledAs, IsFormulaText}
+use Rattle.formula_laws.proofs.Apart.{Apart, AreApart, comparison_apart}
+use Rattle.formula_laws.proofs.Written.{choose, map_read, and_read}
+use Rattle.formula_laws.proofs.Characters.{run_length, no_true, both, both_true, no_letter, word_char, compare_char, is_word, is_compare, Begins, Ends, digit_begins, letter_begins, ends_digits, ends_letters, ends_quote}
 
 -- what can't follow the closing quote
 abbrev NoQuote : Text → Type 0
@@ -78,40 +78,40 @@ row_number digits row h =
       | inr a ↦ absurd (no_some row a.1)
     ]
 
-column_letters : (letters : Text) (column : ℕ) → column_of letters ≡ Some column → (nat_le 1 (length letters) ≡ true) × (list_all is_letter letters ≡ true)
+column_letters : (letters : Text) (column : ℕ) → column_of letters ≡ Some column → (nat_le 1 (length letters) ≡ true) × (list_all is_name_letter letters ≡ true)
 column_letters letters column h =
-    elim (choose (nat_le 1 (length letters) && nat_le (length letters) 2 && list_all is_letter letters && nat_le (column_number letters) 256) _ _ (Some column) h) [
+    elim (choose (nat_le 1 (length letters) && nat_le (length letters) 2 && list_all is_name_letter letters && nat_le (column_number letters) 256) _ _ (Some column) h) [
       | inl a ↦
-          let p = both (nat_le 1 (length letters) && nat_le (length letters) 2 && list_all is_letter letters) (nat_le (column_number letters) 256) a.0 in
-          let q = both (nat_le 1 (length letters) && nat_le (length letters) 2) (list_all is_letter letters) p.0 in
+          let p = both (nat_le 1 (length letters) && nat_le (length letters) 2 && list_all is_name_letter letters) (nat_le (column_number letters) 256) a.0 in
+          let q = both (nat_le 1 (length letters) && nat_le (length letters) 2) (list_all is_name_letter letters) p.0 in
           ((both (nat_le 1 (length letters)) (nat_le (length letters) 2) q.0).0, q.1)
       | inr a ↦ absurd (no_some column a.1)
     ]
 
 -- the letters and the digits of a cell's name
-record CellParts (letters digits : Text) (place : ℕ × ℕ) : Type 0 where
+record CellParts (letters digits : Text) (position : ℕ × ℕ) : Type 0 where
   some : nat_le 1 (length letters) ≡ true
-  letter : list_all is_letter letters ≡ true
+  letter : list_all is_name_letter letters ≡ true
   more : nat_lt 0 (length digits) ≡ true
   digit : list_all is_ascii_digit digits ≡ true
 
-cell_parts : (letters digits : Text) (place : ℕ × ℕ) → cell_of letters digits ≡ Some place → CellParts letters digits place
-cell_parts letters digits place h =
-    let row = and_read (λ (row : ℕ). option_map (λ (column : ℕ). (row, column)) (column_of letters)) (row_of digits) place h in
-    let column = map_read (λ (column : ℕ). (row.0, column)) (column_of letters) place row.2 in
+cell_parts : (letters digits : Text) (position : ℕ × ℕ) → cell_of letters digits ≡ Some position → CellParts letters digits position
+cell_parts letters digits position h =
+    let row = and_read (λ (row : ℕ). option_map (λ (column : ℕ). (row, column)) (column_of letters)) (row_of digits) position h in
+    let column = map_read (λ (column : ℕ). (row.0, column)) (column_of letters) position row.2 in
     let numbered = row_number digits row.0 row.1 in
     let named = column_letters letters column.0 column.1 in
     record { some = named.0; letter = named.1; more = numbered.0; digit = numbered.1 }
 
 -- a letter in either case
-small_letter : (c d : ℕ) → to_ascii_lowercase c ≡ d → 97 ≤ d → d ≤ 122 → is_letter c ≡ true
+small_letter : (c d : ℕ) → to_ascii_lowercase c ≡ d → 97 ≤ d → d ≤ 122 → is_name_letter c ≡ true
 small_letter c d e low high = grind (arith, nat_tests)
 
 -- small letters
 abbrev is_small : ℕ → Bool
 is_small d = nat_le 97 d && nat_le d 122
 
-small_letters : (word name : Text) → map to_ascii_lowercase word ≡ name → list_all is_small name ≡ true → list_all is_letter word ≡ true
+small_letters : (word name : Text) → map to_ascii_lowercase word ≡ name → list_all is_small name ≡ true → list_all is_name_letter word ≡ true
 small_letters [] name e h = refl
 small_letters (c ∷ word) [] e h = let apart : length (map to_ascii_lowercase (c ∷ word)) ≡ 0 = ap length e in absurd (omega (arith, apart))
 small_letters (c ∷ word) (d ∷ name) e h =
@@ -119,20 +119,20 @@ small_letters (c ∷ word) (d ∷ name) e h =
     let bounds = both (nat_le 97 d) (nat_le d 122) parts.0 in
     let first : to_ascii_lowercase c ≡ d = cc (e) in
     let rest : map to_ascii_lowercase word ≡ name = cc (e) in
-    both_true (is_letter c) (list_all is_letter word) (small_letter c d first (leb-true 97 d bounds.0) (leb-true d 122 bounds.1)) (small_letters word name rest parts.1)
+    both_true (is_name_letter c) (list_all is_name_letter word) (small_letter c d first (leb-true 97 d bounds.0) (leb-true d 122 bounds.1)) (small_letters word name rest parts.1)
 
 -- the letters of a name, small
 named_small : (word name : Text) → is_named word name ≡ true → map to_ascii_lowercase word ≡ map to_ascii_lowercase name
 named_small word name h = (bytes_eq-Decides (map to_ascii_lowercase word) (map to_ascii_lowercase name)).0 h
 
-first_letter : (word : Text) (d : ℕ) (name : Text) → map to_ascii_lowercase word ≡ d ∷ name → list_all is_letter word ≡ true → (c : ℕ) × (w : Text) × (word ≡ c ∷ w) × (is_letter c ≡ true)
+first_letter : (word : Text) (d : ℕ) (name : Text) → map to_ascii_lowercase word ≡ d ∷ name → list_all is_name_letter word ≡ true → (c : ℕ) × (w : Text) × (word ≡ c ∷ w) × (is_name_letter c ≡ true)
 first_letter [] d name e h = let apart : 0 ≡ length (d ∷ name) = ap length e in absurd (omega arith)
-first_letter (c ∷ w) d name e h = (c, w, refl, (both (is_letter c) (list_all is_letter w) h).0)
+first_letter (c ∷ w) d name e h = (c, w, refl, (both (is_name_letter c) (list_all is_name_letter w) h).0)
 
 -- a word that is letters, the first one known
-letters_begin : (word : Text) → nat_le 1 (length word) ≡ true → list_all is_letter word ≡ true → (c : ℕ) × (w : Text) × (word ≡ c ∷ w) × (is_letter c ≡ true)
+letters_begin : (word : Text) → nat_le 1 (length word) ≡ true → list_all is_name_letter word ≡ true → (c : ℕ) × (w : Text) × (word ≡ c ∷ w) × (is_name_letter c ≡ true)
 letters_begin [] some h = absurd (no_true some)
-letters_begin (c ∷ w) some h = (c, w, refl, (both (is_letter c) (list_all is_letter w) h).0)
+letters_begin (c ∷ w) some h = (c, w, refl, (both (is_name_letter c) (list_all is_name_letter w) h).0)
 
 named_begins : (token : Token) (word : Text) (d : ℕ) (name : Text) → is_word token ≡ true → list_all is_small (d ∷ name) ≡ true → map to_ascii_lowercase word ≡ d ∷ name → (c : ℕ) × (w : Text) × (word ≡ c ∷ w) × Begins token c
 named_begins token word d name is_one small e =
@@ -173,14 +173,14 @@ begins (Number z) word h =
     let q = first_digit word p.0 p.1 in
     (q.0, q.1, q.2, digit_begins (Number z) q.0 refl q.3)
 begins (Words text) word h = (34, doubled text ++ 34 ∷ [], h, record { word = λ e. absurd (no_true (sym e)); compare = λ _. refl; blank = λ e. omega (arith, e) })
-begins (Cell place) word h =
-    let letters = take (prefix_len is_letter word) word in
-    let parts = cell_parts letters (drop (prefix_len is_letter word) word) place h in
+begins (Cell position) word h =
+    let letters = take (prefix_len is_name_letter word) word in
+    let parts = cell_parts letters (drop (prefix_len is_name_letter word) word) position h in
     let p = letters_begin letters parts.some parts.letter in (
       p.0,
-      p.1 ++ drop (prefix_len is_letter word) word,
-      sym (take-append-drop (prefix_len is_letter word) word) ∙ ap (λ (ts : Text). ts ++ drop (prefix_len is_letter word) word) p.2,
-      letter_begins (Cell place) p.0 refl p.3,
+      p.1 ++ drop (prefix_len is_name_letter word) word,
+      sym (take-append-drop (prefix_len is_name_letter word) word) ∙ ap (λ (ts : Text). ts ++ drop (prefix_len is_name_letter word) word) p.2,
+      letter_begins (Cell position) p.0 refl p.3,
     )
 begins (Function name) word h = function_begins name word h
 begins If word h = named_begins If word 105 (102 ∷ []) refl refl (named_small word (codes "IF") h)
@@ -194,10 +194,10 @@ begins Colon word h = (58, [], h, plain_begins Colon 58 refl (λ _. refl) (λ e.
 digit_no_quote : (c : ℕ) → is_ascii_digit c ≡ true → (c == 34) ≡ false
 digit_no_quote c h = grind (arith, nat_tests)
 
-letter_no_quote : (c : ℕ) → is_letter c ≡ true → (c == 34) ≡ false
+letter_no_quote : (c : ℕ) → is_name_letter c ≡ true → (c == 34) ≡ false
 letter_no_quote c h = grind (arith, nat_tests)
 
-letter_no_digit : (c : ℕ) → is_letter c ≡ true → is_ascii_digit c ≡ false
+letter_no_digit : (c : ℕ) → is_name_letter c ≡ true → is_ascii_digit c ≡ false
 letter_no_digit c h = grind (arith, nat_tests)
 
 -- how a text is read that begins with a digit, a letter, a quote
@@ -205,7 +205,7 @@ digit_first : (c : ℕ) (text : Text) → is_ascii_digit c ≡ true → token_at
 unfolding token_at
 digit_first c text h = rw (digit_no_quote c h) (rw h refl)
 
-letter_first : (c : ℕ) (text : Text) → is_letter c ≡ true → token_at (c ∷ text) ≡ name_at (c ∷ text)
+letter_first : (c : ℕ) (text : Text) → is_name_letter c ≡ true → token_at (c ∷ text) ≡ name_at (c ∷ text)
 unfolding token_at
 letter_first c text h = rw (letter_no_quote c h) (rw (letter_no_digit c h) (rw h refl))
 
@@ -220,14 +220,14 @@ number_here word rest value digits ends read =
 named_here : ℕ → ℕ → Text → Option (Token × Text)
 named_here n m text = option_map (λ (token : Token). (token, drop (n + m) text)) (name_of (take n text) (take m (drop n text)))
 
-name_here : (letters digits rest : Text) (token : Token) → list_all is_letter letters ≡ true → list_all is_ascii_digit digits ≡ true → prefix_len is_letter (digits ++ rest) ≡ 0 → prefix_len is_ascii_digit rest ≡ 0 → name_of letters digits ≡ Some token
+name_here : (letters digits rest : Text) (token : Token) → list_all is_name_letter letters ≡ true → list_all is_ascii_digit digits ≡ true → prefix_len is_name_letter (digits ++ rest) ≡ 0 → prefix_len is_ascii_digit rest ≡ 0 → name_of letters digits ≡ Some token
     → name_at (letters ++ (digits ++ rest)) ≡ Some (token, rest)
 unfolding named_here
 name_here letters digits rest token h k ends_letter ends_digit read =
     let text = letters ++ (digits ++ rest) in
     let n = length letters in
     let m = length digits in
-    let count : prefix_len is_letter text ≡ n = run_length is_letter letters (digits ++ rest) h ∙ omega (arith, ends_letter) in
+    let count : prefix_len is_name_letter text ≡ n = run_length is_name_letter letters (digits ++ rest) h ∙ omega (arith, ends_letter) in
     let behind : drop n text ≡ digits ++ rest = drop-append_seam letters (digits ++ rest) in
     let more : prefix_len is_ascii_digit (drop n text) ≡ m = ap (prefix_len is_ascii_digit) behind ∙ run_length is_ascii_digit digits rest k ∙ omega (arith, ends_digit) in
     let front : take n text ≡ letters = take-append_seam letters (digits ++ rest) in
@@ -253,40 +253,40 @@ function_named function.Min word h = ap function_small (named_small word (codes 
 function_named function.Max word h = ap function_small (named_small word (codes "MAX") h)
 function_named function.Count word h = ap function_small (named_small word (codes "COUNT") h)
 
-function_letters : (name : Named) (word : Text) → is_named word (function_text name) ≡ true → list_all is_letter word ≡ true
+function_letters : (name : Named) (word : Text) → is_named word (function_text name) ≡ true → list_all is_name_letter word ≡ true
 function_letters function.Sum word h = small_letters word _ (named_small word (codes "SUM") h) refl
 function_letters function.Min word h = small_letters word _ (named_small word (codes "MIN") h) refl
 function_letters function.Max word h = small_letters word _ (named_small word (codes "MAX") h) refl
 function_letters function.Count word h = small_letters word _ (named_small word (codes "COUNT") h) refl
 
 -- a name of letters alone, read at the front
-alone_here : (token : Token) (word rest : Text) (c : ℕ) (w : Text) → word ≡ c ∷ w → is_letter c ≡ true → is_word token ≡ true → list_all is_letter word ≡ true → function_of word ≡ Some token → Ends token rest → token_at (word ++ rest) ≡ Some (token, rest)
+alone_here : (token : Token) (word rest : Text) (c : ℕ) (w : Text) → word ≡ c ∷ w → is_name_letter c ≡ true → is_word token ≡ true → list_all is_name_letter word ≡ true → function_of word ≡ Some token → Ends token rest → token_at (word ++ rest) ≡ Some (token, rest)
 alone_here token word rest c w split first is_one letters read ends =
     ap (λ (ts : Text). token_at (ts ++ rest)) split
     ∙ letter_first c (w ++ rest) first
     ∙ ap (λ (ts : Text). name_at (ts ++ rest)) (sym split)
     ∙ name_here word [] rest token letters refl (ends_letters token rest is_one ends) (ends_digits token rest is_one ends) read
 
-no_first : (digits rest : Text) → nat_lt 0 (length digits) ≡ true → list_all is_ascii_digit digits ≡ true → prefix_len is_letter (digits ++ rest) ≡ 0
+no_first : (digits rest : Text) → nat_lt 0 (length digits) ≡ true → list_all is_ascii_digit digits ≡ true → prefix_len is_name_letter (digits ++ rest) ≡ 0
 no_first [] rest some h = absurd (no_true some)
 no_first (d ∷ digits) rest some h = rw (no_letter d (both (is_ascii_digit d) (list_all is_ascii_digit digits) h).0) refl
 
-cell_named : (letters digits : Text) (place : ℕ × ℕ) → nat_lt 0 (length digits) ≡ true → cell_of letters digits ≡ Some place → name_of letters digits ≡ Some (Cell place)
-cell_named letters [] place some h = absurd (no_true some)
-cell_named letters (d ∷ digits) place some h = ap (option_map (λ (place : ℕ × ℕ). Cell place)) h
+cell_named : (letters digits : Text) (position : ℕ × ℕ) → nat_lt 0 (length digits) ≡ true → cell_of letters digits ≡ Some position → name_of letters digits ≡ Some (Cell position)
+cell_named letters [] position some h = absurd (no_true some)
+cell_named letters (d ∷ digits) position some h = ap (option_map (λ (position : ℕ × ℕ). Cell position)) h
 
-cell_here : (word rest : Text) (place : ℕ × ℕ) → reference word ≡ Some place → Ends (Cell place) rest → token_at (word ++ rest) ≡ Some (Cell place, rest)
-cell_here word rest place h ends =
-    let letters = take (prefix_len is_letter word) word in
-    let digits = drop (prefix_len is_letter word) word in
-    let parts = cell_parts letters digits place h in
+cell_here : (word rest : Text) (position : ℕ × ℕ) → reference word ≡ Some position → Ends (Cell position) rest → token_at (word ++ rest) ≡ Some (Cell position, rest)
+cell_here word rest position h ends =
+    let letters = take (prefix_len is_name_letter word) word in
+    let digits = drop (prefix_len is_name_letter word) word in
+    let parts = cell_parts letters digits position h in
     let p = letters_begin letters parts.some parts.letter in
-    let whole : word ++ rest ≡ letters ++ (digits ++ rest) = ap (λ (ts : Text). ts ++ rest) (sym (take-append-drop (prefix_len is_letter word) word)) ∙ append_assoc letters digits rest in
+    let whole : word ++ rest ≡ letters ++ (digits ++ rest) = ap (λ (ts : Text). ts ++ rest) (sym (take-append-drop (prefix_len is_name_letter word) word)) ∙ append_assoc letters digits rest in
     let begun : letters ++ (digits ++ rest) ≡ p.0 ∷ (p.1 ++ (digits ++ rest)) = ap (λ (ts : Text). ts ++ (digits ++ rest)) p.2 in
     ap token_at (whole ∙ begun)
     ∙ letter_first p.0 (p.1 ++ (digits ++ rest)) p.3
     ∙ ap name_at (sym begun)
-    ∙ name_here letters digits rest (Cell place) parts.letter parts.digit (no_first digits rest parts.more parts.digit) (ends_digits (Cell place) rest refl ends) (cell_named letters digits place parts.more h)
+    ∙ name_here letters digits rest (Cell position) parts.letter parts.digit (no_first digits rest parts.more parts.digit) (ends_digits (Cell position) rest refl ends) (cell_named letters digits position parts.more h)
 
 operator_here : (operator : Operator) (rest : Text) → token_at (operator_text operator ++ rest) ≡ Some (Sign operator, rest)
 unfolding token_at
@@ -360,16 +360,16 @@ token_here (Number z) word rest h ends =
 token_here (Words text) word rest h ends =
     ap (λ (ts : Text). token_at (ts ++ rest)) h
     ∙ words_here text rest (λ c behind e. ends_quote (Words text) c behind refl (subst (Ends (Words text)) e ends))
-token_here (Cell place) word rest h ends = cell_here word rest place h ends
+token_here (Cell position) word rest h ends = cell_here word rest position h ends
 token_here (Function name) word rest h ends =
     let p = function_begins name word h in
     let letters = function_letters name word h in
-    let first : is_letter p.0 ≡ true = (both (is_letter p.0) (list_all is_letter p.1) (ap (list_all is_letter) (sym p.2) ∙ letters)).0 in
+    let first : is_name_letter p.0 ≡ true = (both (is_name_letter p.0) (list_all is_name_letter p.1) (ap (list_all is_name_letter) (sym p.2) ∙ letters)).0 in
     alone_here (Function name) word rest p.0 p.1 p.2 first refl letters (function_named name word h) ends
 token_here If word rest h ends =
     let p = begins If word h in
-    let letters : list_all is_letter word ≡ true = small_letters word (105 ∷ (102 ∷ [])) (named_small word (codes "IF") h) refl in
-    let first : is_letter p.0 ≡ true = (both (is_letter p.0) (list_all is_letter p.1) (ap (list_all is_letter) (sym p.2) ∙ letters)).0 in
+    let letters : list_all is_name_letter word ≡ true = small_letters word (105 ∷ (102 ∷ [])) (named_small word (codes "IF") h) refl in
+    let first : is_name_letter p.0 ≡ true = (both (is_name_letter p.0) (list_all is_name_letter p.1) (ap (list_all is_name_letter) (sym p.2) ∙ letters)).0 in
     alone_here If word rest p.0 p.1 p.2 first refl letters (ap function_small (named_small word (codes "IF") h)) ends
 token_here (Sign operator) word rest h ends = ap (λ (ts : Text). token_at (ts ++ rest)) h ∙ operator_here operator rest
 token_here (Compare sign) word rest h ends = ap (λ (ts : Text). token_at (ts ++ rest)) h ∙ comparison_here sign rest ends
@@ -401,46 +401,46 @@ head_apart : (token : Token) (tokens : List Token) → AreApart (token ∷ token
 head_apart token [] h = (tt, tt)
 head_apart token (other ∷ tokens) h = (h.0, h.1)
 
-cut_blank : (n c : ℕ) (text : Text) → (c == 32) ≡ true → cut (suc n) (c ∷ text) ≡ cut n text
-unfolding cut
-cut_blank n c text h = rw h refl
+tokenized_blank : (n c : ℕ) (text : Text) → (c == 32) ≡ true → tokenize (suc n) (c ∷ text) ≡ tokenize n text
+unfolding tokenize
+tokenized_blank n c text h = rw h refl
 
 -- blanks in front fall away
-blanks_fall : (blanks text : Text) (n : ℕ) → AreBlanks blanks → length (blanks ++ text) ≤ n → (m : ℕ) × (length text ≤ m) × (cut n (blanks ++ text) ≡ cut m text)
+blanks_fall : (blanks text : Text) (n : ℕ) → AreBlanks blanks → length (blanks ++ text) ≤ n → (m : ℕ) × (length text ≤ m) × (tokenize n (blanks ++ text) ≡ tokenize m text)
 blanks_fall [] text n h enough = (n, enough, refl)
 blanks_fall (c ∷ blanks) text zero h enough = absurd (omega arith)
 blanks_fall (c ∷ blanks) text (suc n) h enough =
     let p = both (c == 32) (list_all (λ c. c == 32) blanks) h in
     let rest = blanks_fall blanks text n p.1 (omega arith) in
-    (rest.0, rest.1, cut_blank n c (blanks ++ text) p.0 ∙ rest.2)
+    (rest.0, rest.1, tokenized_blank n c (blanks ++ text) p.0 ∙ rest.2)
 
-cut_nothing : (n : ℕ) → cut n [] ≡ Some []
-unfolding cut
-cut_nothing zero = refl
-cut_nothing (suc n) = refl
+tokenized_nothing : (n : ℕ) → tokenize n [] ≡ Some []
+unfolding tokenize
+tokenized_nothing zero = refl
+tokenized_nothing (suc n) = refl
 
-cut_step : (n c : ℕ) (text rest : Text) (token : Token) → c ≢ 32 → token_at (c ∷ text) ≡ Some (token, rest) → cut (suc n) (c ∷ text) ≡ with_token token (cut n rest)
-unfolding cut
-cut_step n c text rest token other read = rw (ne_eqb c 32 other) (rw read refl)
+tokenized_step : (n c : ℕ) (text rest : Text) (token : Token) → c ≢ 32 → token_at (c ∷ text) ≡ Some (token, rest) → tokenize (suc n) (c ∷ text) ≡ with_token token (tokenize n rest)
+unfolding tokenize
+tokenized_step n c text rest token other read = rw (ne_eqb c 32 other) (rw read refl)
 
 cut_from : (m : ℕ) (c : ℕ) (w word rest : Text) (token : Token) (tokens : List Token) → length (word ++ rest) ≤ m → word ≡ c ∷ w → c ≢ 32 → token_at (word ++ rest) ≡ Some (token, rest)
-    → ((n : ℕ) → length rest ≤ n → cut n rest ≡ Some tokens) → cut m (word ++ rest) ≡ Some (token ∷ tokens)
+    → ((n : ℕ) → length rest ≤ n → tokenize n rest ≡ Some tokens) → tokenize m (word ++ rest) ≡ Some (token ∷ tokens)
 cut_from zero c w word rest token tokens enough split other read more =
     let long : length (word ++ rest) ≡ length (c ∷ (w ++ rest)) = ap (λ (ts : Text). length (ts ++ rest)) split in
     absurd (omega (arith, long))
 cut_from (suc n) c w word rest token tokens enough split other read more =
     let whole : word ++ rest ≡ c ∷ (w ++ rest) = ap (λ (ts : Text). ts ++ rest) split in
     let long : length (word ++ rest) ≡ length (c ∷ (w ++ rest)) = ap length whole in
-    ap (cut (suc n)) whole
-    ∙ cut_step n c (w ++ rest) rest token other (ap token_at (sym whole) ∙ read)
+    ap (tokenize (suc n)) whole
+    ∙ tokenized_step n c (w ++ rest) rest token other (ap token_at (sym whole) ∙ read)
     ∙ ap (with_token token) (more n (omega (arith, long, length-append w rest)))
 
-cut_here : (tokens : List Token) (text : Text) → AreApart tokens → IsSpelledAs text tokens → (n : ℕ) → length text ≤ n → cut n text ≡ Some tokens
-cut_here [] text apart is n enough =
+tokenized_here : (tokens : List Token) (text : Text) → AreApart tokens → IsSpelledAs text tokens → (n : ℕ) → length text ≤ n → tokenize n text ≡ Some tokens
+tokenized_here [] text apart is n enough =
     let long : length (text ++ []) ≡ length text = ap length (append-nil text) in
     let p = blanks_fall text [] n is (omega (arith, long)) in
-    ap (cut n) (sym (append-nil text)) ∙ p.2 ∙ cut_nothing p.0
-cut_here (token ∷ tokens) text apart is n enough =
+    ap (tokenize n) (sym (append-nil text)) ∙ p.2 ∙ tokenized_nothing p.0
+tokenized_here (token ∷ tokens) text apart is n enough =
     let blanks = is.0 in
     let word = is.1 in
     let rest = is.2 in
@@ -448,11 +448,11 @@ cut_here (token ∷ tokens) text apart is n enough =
     let long : length text ≡ length (blanks ++ (word ++ rest)) = ap length is.3 in
     let p = blanks_fall blanks (word ++ rest) n is.4 (omega (arith, long)) in
     let first = begins token word is.5 in
-    ap (cut n) is.3 ∙ p.2
-    ∙ cut_from p.0 first.0 first.1 word rest token tokens p.1 first.2 first.3.blank (token_here token word rest is.5 (rest_ends token tokens rest heads.0 is.6)) (λ n enough. cut_here tokens rest heads.1 is.6 n enough)
+    ap (tokenize n) is.3 ∙ p.2
+    ∙ cut_from p.0 first.0 first.1 word rest token tokens p.1 first.2 first.3.blank (token_here token word rest is.5 (rest_ends token tokens rest heads.0 is.6)) (λ n enough. tokenized_here tokens rest heads.1 is.6 n enough)
 
 pub cut_apart : (text : Text) (tokens : List Token) → AreApart tokens → IsSpelledAs text tokens → tokens_of text ≡ Some tokens
-cut_apart text tokens apart is = cut_here tokens text apart is (length text) (omega arith)
+cut_apart text tokens apart is = tokenized_here tokens text apart is (length text) (omega arith)
 
 pub readable : (raw : Text) (expression : Expr) → IsFormulaText raw expression → formula_of raw ≡ Some expression
 readable raw expression is =

@@ -1,7 +1,7 @@
 //! A text as words and signs.
 ghost use Rattle.std.specs.Prelude.{◌≡◌, ◌<◌, ◌≤◌, length, drop};
 ghost use Rattle.sheet_formula.specs.Tokens.{token_at, tokens_of};
-ghost use Rattle.sheet_formula.specs.Cutting.{Makes, FindsOrStops};
+ghost use Rattle.sheet_formula.specs.Tokenizing.{Makes, FindsOrStops};
 
 use crate::bare::bare_at;
 use crate::quotes::quoted;
@@ -11,7 +11,7 @@ use std::alloc::Global;
 use std::collections::VecDeque;
 
 /// The words and signs of the text, in order, without the blanks between them.
-pub fn cut(alloc: Global, text: &str) -> Result<VecDeque<Token>, Stop>
+pub fn tokenize(alloc: Global, text: &str) -> Result<VecDeque<Token>, Stop>
     ensures { Makes (λ tokens. tokens.items) (tokens_of text.now) result }
 {
     let bytes = text.as_bytes();
