@@ -1,6 +1,6 @@
 use Rattle.std.proofs.Common.{◌≡◌, length}
-use Rattle.part_calc.specs.Settling.{IsSound, Covers}
-use Rattle.part_calc.proofs.settling.settle.Given as goal
+use Rattle.part_calc.specs.Finding.{IsSound, Covers}
+use Rattle.part_calc.proofs.finding.find_values.Given as goal
 
 abbrev pub invariant-loop-waiting : goal.invariant-loop-waiting
 invariant-loop-waiting l = record {

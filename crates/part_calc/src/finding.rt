@@ -10,7 +10,7 @@ ghost use Rattle.std.specs.Option.{is_some};
 ghost use Rattle.formula_base.specs.declared.values.Value.TheVariants.{Fault};
 ghost use Rattle.formula_base.specs.declared.values.CellFault.TheVariants.{Circ};
 ghost use Rattle.formula_base.specs.Evaluation.{eval_of, reads_of};
-ghost use Rattle.part_calc.specs.Settling.{seen_in, seen_at, look_at, attempted, known_at, known_after, left_after, IsSound, Covers, IsSwept, IsSettled};
+ghost use Rattle.part_calc.specs.Finding.{seen_in, seen_at, look_at, attempted, known_at, known_after, left_after, IsSound, Covers, IsSwept, AreFound};
 
 use crate::contents::Content;
 use crate::edited::Edited;
@@ -28,7 +28,7 @@ struct Seen<'a> {
 }
 
 impl<'a> Lookup for Seen<'a> {
-    ghost value_at = { λ s place. look_at s.edited.now s.known.now.entries place };
+    ghost value_at = { λ s position. look_at s.edited.now s.known.now.entries position };
 
     fn value(&self, alloc: Global, row: u32, col: u32) -> Result<Value, Memory> {
         seen_value(alloc, self.edited, self.known, (row, col))
@@ -36,13 +36,13 @@ impl<'a> Lookup for Seen<'a> {
 }
 
 /// The values of the part's formulas: of each that isn't circular. `formulas` has each formula's cell.
-pub fn settle(
+pub fn find_values(
     alloc: Global,
     edited: &Edited<'_>,
     formulas: &[(u32, u32)],
 ) -> Result<BTreeMap<(u32, u32), Value>, Memory>
     requires { Covers edited.now [] formulas.now }
-    ensures { IfOk result (λ known. IsSettled edited.now known.entries) }
+    ensures { IfOk result (λ known. AreFound edited.now known.entries) }
 {
     let mut known = BTreeMap::new(alloc);
     let mut waiting = order(alloc, edited, formulas)?;
@@ -70,56 +70,56 @@ fn sweep(
     ensures { IfOk result (λ left. IsSwept edited.now known.new.entries waiting.now left.items) }
 {
     let mut left = Vec::new(alloc);
-    for place in waiting {
-        turn(alloc, edited, known, &mut left, *place)?;
+    for position in waiting {
+        try_cell(alloc, edited, known, &mut left, *position)?;
     }
     Ok(left)
 }
 
 // Finds the value of a cell, or lets it wait.
-fn turn(
+fn try_cell(
     alloc: Global,
     edited: &Edited<'_>,
     known: &mut BTreeMap<(u32, u32), Value>,
     left: &mut Vec<(u32, u32)>,
-    place: (u32, u32),
+    position: (u32, u32),
 ) -> Result<(), Memory>
-    ensures known { OnOk result (known.new.entries ≡ known_after (known_at known.old.entries place) (attempted edited.now known.old.entries place) known.old.entries place) }
-    ensures left { OnOk result (left.new.items ≡ left_after (known_at known.old.entries place) (attempted edited.now known.old.entries place) left.old.items place) }
+    ensures known { OnOk result (known.new.entries ≡ known_after (known_at known.old.entries position) (attempted edited.now known.old.entries position) known.old.entries position) }
+    ensures left { OnOk result (left.new.items ≡ left_after (known_at known.old.entries position) (attempted edited.now known.old.entries position) left.old.items position) }
 {
-    if is_known(known, place) {
+    if is_known(known, position) {
         return Ok(());
     }
-    match attempt(alloc, edited, known, place)? {
+    match attempt(alloc, edited, known, position)? {
         Some(value) => {
-            known.insert(place, value)?;
+            known.insert(position, value)?;
         }
-        None => left.push(place)?,
+        None => left.push(position)?,
     }
     Ok(())
 }
 
 // Whether the cell's value was found.
-#[tactic(auto, unfolding(crate::specs::Settling::known_at))]
-fn is_known(known: &BTreeMap<(u32, u32), Value>, place: (u32, u32)) -> bool
-    ensures { result ≡ is_some (known_at known.now.entries place) }
+#[tactic(auto, unfolding(crate::specs::Finding::known_at))]
+fn is_known(known: &BTreeMap<(u32, u32), Value>, position: (u32, u32)) -> bool
+    ensures { result ≡ is_some (known_at known.now.entries position) }
 {
-    known.contains_key(&place)
+    known.contains_key(&position)
 }
 
 // The value of a cell, where those of all cells that it reads are seen.
-#[tactic(auto, using(crate::proofs::SettleLaws::attempt_plain, crate::proofs::SettleLaws::attempt_formula, crate::proofs::SettleLaws::attempt_early))]
+#[tactic(auto, using(crate::proofs::FindLaws::attempt_plain, crate::proofs::FindLaws::attempt_formula, crate::proofs::FindLaws::attempt_early))]
 fn attempt(
     alloc: Global,
     edited: &Edited<'_>,
     known: &BTreeMap<(u32, u32), Value>,
-    place: (u32, u32),
+    position: (u32, u32),
 ) -> Result<Option<Value>, Memory>
-    ensures { IfOk result (λ value. value ≡ attempted edited.now known.now.entries place) }
+    ensures { IfOk result (λ value. value ≡ attempted edited.now known.now.entries position) }
 {
-    match edited.formula(place) {
+    match edited.formula(position) {
         Some(expression) => attempt_formula(alloc, edited, known, expression),
-        None => Ok(Some(seen_value(alloc, edited, known, place)?)),
+        None => Ok(Some(seen_value(alloc, edited, known, position)?)),
     }
 }
 
@@ -141,35 +141,41 @@ fn attempt_formula(
 }
 
 // Whether each of the cells is seen.
-fn are_seen(edited: &Edited<'_>, known: &BTreeMap<(u32, u32), Value>, places: &[(u32, u32)]) -> bool
-    ensures { result ≡ list_all (λ r. is_some (seen_at edited.now known.now.entries r)) places.now }
+fn are_seen(
+    edited: &Edited<'_>,
+    known: &BTreeMap<(u32, u32), Value>,
+    positions: &[(u32, u32)],
+) -> bool
+    ensures { result ≡ list_all (λ r. is_some (seen_at edited.now known.now.entries r)) positions.now }
 {
-    places.iter().all(|place| is_seen(edited, known, *place))
+    positions
+        .iter()
+        .all(|position| is_seen(edited, known, *position))
 }
 
 // Whether the cell's value is seen: the cell has no formula, or its value was found.
-#[tactic(auto, using(crate::proofs::SettleLaws::is_seen_plain, crate::proofs::SettleLaws::seen_formula))]
-fn is_seen(edited: &Edited<'_>, known: &BTreeMap<(u32, u32), Value>, place: (u32, u32)) -> bool
-    ensures { result ≡ is_some (seen_at edited.now known.now.entries place) }
+#[tactic(auto, using(crate::proofs::FindLaws::is_seen_plain, crate::proofs::FindLaws::seen_formula))]
+fn is_seen(edited: &Edited<'_>, known: &BTreeMap<(u32, u32), Value>, position: (u32, u32)) -> bool
+    ensures { result ≡ is_some (seen_at edited.now known.now.entries position) }
 {
-    match edited.formula(place) {
-        Some(_) => is_known(known, place),
+    match edited.formula(position) {
+        Some(_) => is_known(known, position),
         None => true,
     }
 }
 
 // The value of a cell for a formula that names it.
-#[tactic(auto, using(crate::proofs::SettleLaws::look_through, crate::proofs::SettleLaws::look_empty))]
+#[tactic(auto, using(crate::proofs::FindLaws::look_through, crate::proofs::FindLaws::look_empty))]
 fn seen_value(
     alloc: Global,
     edited: &Edited<'_>,
     known: &BTreeMap<(u32, u32), Value>,
-    place: (u32, u32),
+    position: (u32, u32),
 ) -> Result<Value, Memory>
-    ensures { IfOk result (λ value. value ≡ look_at edited.now known.now.entries place) }
+    ensures { IfOk result (λ value. value ≡ look_at edited.now known.now.entries position) }
 {
-    match edited.content(place) {
-        Some(content) => content_value(alloc, known, place, content),
+    match edited.content(position) {
+        Some(content) => content_value(alloc, known, position, content),
         None => Ok(Value::Empty),
     }
 }
@@ -178,27 +184,27 @@ fn seen_value(
 fn content_value(
     alloc: Global,
     known: &BTreeMap<(u32, u32), Value>,
-    place: (u32, u32),
+    position: (u32, u32),
     content: &Content,
 ) -> Result<Value, Memory>
-    ensures { IfOk result (λ value. value ≡ unwrap_or (seen_in content.now (known_at known.now.entries place)) (Fault Circ)) }
+    ensures { IfOk result (λ value. value ≡ unwrap_or (seen_in content.now (known_at known.now.entries position)) (Fault Circ)) }
 {
     match content {
         Content::Plain(value) => value.copy(alloc),
-        Content::Formula(_) => found_value(alloc, known, place),
+        Content::Formula(_) => found_value(alloc, known, position),
     }
 }
 
 // The value that was found for a cell, and else that of a circular one.
-#[tactic(auto, unfolding(crate::specs::Settling::known_at))]
+#[tactic(auto, unfolding(crate::specs::Finding::known_at))]
 fn found_value(
     alloc: Global,
     known: &BTreeMap<(u32, u32), Value>,
-    place: (u32, u32),
+    position: (u32, u32),
 ) -> Result<Value, Memory>
-    ensures { IfOk result (λ value. value ≡ unwrap_or (known_at known.now.entries place) (Fault Circ)) }
+    ensures { IfOk result (λ value. value ≡ unwrap_or (known_at known.now.entries position) (Fault Circ)) }
 {
-    match known.get(&place) {
+    match known.get(&position) {
         Some(value) => value.copy(alloc),
         None => Ok(Value::Fault(CellFault::Circ)),
     }
