@@ -1,5 +1,5 @@
 -- The glyphs: six dots wide and eight high. The fifth column, counted from 0, is empty in all of them.
-use Rattle.std.specs.Prelude.{ℕ, ◌-◌, Bool, ◌&&◌, nat_le, nat_eq, List, [], ◌∷◌, codes, slice_index, slice_index_or, if◌then◌else◌}
+use Rattle.std.specs.Prelude.{ℕ, ◌-◌, ◌/◌, ◌%◌, Bool, ◌&&◌, nat_lt, nat_le, nat_eq, List, [], ◌∷◌, length, codes, slice_index, slice_index_or, if◌then◌else◌}
 use Rattle.std.specs.Int.{bit_at}
 use Rattle.std.specs.Str.Parse.{digits_value}
 
@@ -36,3 +36,9 @@ glyph_of c = columns (if nat_le 32 c && nat_le c 126 then slice_index_or printed
 -- bit y of column x
 unfoldable pub dot_of : ℕ → ℕ → ℕ → Bool
 dot_of c x y = nat_eq (bit_at (slice_index (glyph_of c) x) y) 1
+
+-- whether a point so many twips right of a text's beginning and below its upper edge lies on a dot of these
+-- characters: they stand side by side, each 90 twips wide, and a dot has 15 by 15 twips
+abbrev pub has_dot : List ℕ → ℕ → ℕ → Bool
+has_dot text across down =
+    nat_lt (across / 90) (length text) && dot_of (slice_index text (across / 90)) (across % 90 / 15) (down / 15)

@@ -1,4 +1,5 @@
 pub mod Counting
 pub mod WalkLaws
 pub mod ValueLaws
+pub mod EditLaws
 pub mod Examples

@@ -9,7 +9,7 @@ use Rattle.calc_base.specs.Values.{value_within, value}
 use Rattle.calc_base.specs.Laws.{Covers, IsLocal, Follows, IsSound}
 use Rattle.calc_base.proofs.WalkLaws.{walks_shorter, circular_step, circular_from}
 
-none_pass : {K : Type 0} (p : K → Bool) → (xs : List K) → list_any p xs ≡ false → AllByRecursion (λ x. p x ≡ false) xs
+pub none_pass : {K : Type 0} (p : K → Bool) → (xs : List K) → list_any p xs ≡ false → AllByRecursion (λ x. p x ≡ false) xs
 none_pass p [] e = tt
 none_pass p (x ∷ xs) e = let parts = or_parts (p x) (list_any p xs) e in (parts.0, none_pass p xs parts.1)
 
@@ -29,7 +29,7 @@ any_none : {K : Type 0} (p : K → Bool) → (xs : List K) → AllByRecursion (�
 any_none p [] all = refl
 any_none p (x ∷ xs) all = ap (λ (b : Bool). b || list_any p xs) all.0 ∙ any_none p xs all.1
 
-if_same : {V : Type 0} (b : Bool) (e x y : V) → (b ≡ false → x ≡ y) → (if b then e else x) ≡ (if b then e else y)
+pub if_same : {V : Type 0} (b : Bool) (e x y : V) → (b ≡ false → x ≡ y) → (if b then e else x) ≡ (if b then e else y)
 if_same true e x y h = refl
 if_same false e x y h = h refl
 

@@ -1,3 +1,4 @@
 pub mod Walks
 pub mod Values
 pub mod Laws
+pub mod Edits

@@ -3,10 +3,11 @@
 //! The functions here do nothing when they are called: each has a law as its contract.
 #![tactic(auto)]
 
-ghost use Rattle.std.specs.Prelude.{◌≡◌, ◌↔◌, ℕ, true, List, Option};
+ghost use Rattle.std.specs.Prelude.{◌≡◌, ◌↔◌, ℕ, Bool, true, List, Option};
 ghost use Rattle.calc_base.specs.Walks.{walks, circular};
 ghost use Rattle.calc_base.specs.Values.{value};
 ghost use Rattle.calc_base.specs.Laws.{Covers, IsLocal, Follows, IsSound, IsReady, HasItsValue, EachWaits, IsLost};
+ghost use Rattle.calc_base.specs.Edits.{IsApart, found_kept, IsFull, EachWaitsOrCircles};
 
 /// The value of each cell follows from those of the cells that it reads, and a circular cell has the
 /// error.
@@ -33,4 +34,21 @@ pub fn found_cells_have_their_values<K, V>()
 /// Cells that were not found, each of which reads another such cell, are circular.
 pub fn lost_cells_are_circular<K, V>()
     ensures { (reads : K → List K) (formulas : List K) (seen : K → Option V) → EachWaits reads seen → (c : K) → IsLost seen c → circular reads formulas c ≡ true }
+{}
+
+/// Cells whose reads and steps an edit leaves, and which read such cells alone, are circular where they
+/// were, and keep their values.
+pub fn kept_cells_keep_their_values<K, V>()
+    ensures circular { (reads : K → List K) (reads' : K → List K) (formulas : List K) (formulas' : List K) (step : K → (K → V) → V) (step' : K → (K → V) → V) (kept : K → Bool) → Covers reads formulas → Covers reads' formulas' → IsApart reads reads' step step' kept → (c : K) → kept c ≡ true → circular reads' formulas' c ≡ circular reads formulas c }
+    ensures values { (error : V) (reads : K → List K) (reads' : K → List K) (formulas : List K) (formulas' : List K) (step : K → (K → V) → V) (step' : K → (K → V) → V) (kept : K → Bool) → Covers reads formulas → Covers reads' formulas' → IsLocal reads step → IsLocal reads' step' → IsApart reads reads' step step' kept → (c : K) → kept c ≡ true → value error reads' formulas' step' c ≡ value error reads formulas step c }
+{}
+
+/// What was found of such cells before the edit is right after it.
+pub fn what_was_found_of_kept_cells_is_right<K, V>()
+    ensures { (error : V) (reads : K → List K) (reads' : K → List K) (formulas : List K) (formulas' : List K) (step : K → (K → V) → V) (step' : K → (K → V) → V) (kept : K → Bool) → Covers reads formulas → Covers reads' formulas' → IsLocal reads step → IsLocal reads' step' → IsApart reads reads' step step' kept → (seen : K → Option V) → IsSound error reads formulas step seen → IsSound error reads' formulas' step' (found_kept kept seen) }
+{}
+
+/// Where each cell that was not found reads another such cell or is circular, each of them is circular.
+pub fn cells_left_are_circular<K, V>()
+    ensures { (error : V) (reads : K → List K) (formulas : List K) (step : K → (K → V) → V) → Covers reads formulas → (seen : K → Option V) → IsSound error reads formulas step seen → EachWaitsOrCircles reads formulas seen → IsFull reads formulas seen }
 {}

@@ -4,12 +4,12 @@ use Rattle.std.specs.List.{flat_map, range_with_len}
 use Rattle.std.proofs.lemmas.List.FromFn.{map-range_with_len_more}
 use Rattle.std.proofs.lemmas.List.Concat.{flat_map-append}
 use Rattle.std.proofs.lemmas.List.{append-nil}
-use Rattle.formula_base.specs.Ranges.{Place, row_cells, span, cells_between}
+use Rattle.formula_base.specs.Ranges.{Position, row_cells, span, cells_between}
 
-pub row_more : (xs : List Place) (row left column : ℕ) → left ≤ column → (xs ++ row_cells (range_with_len left (column - left)) row) ++ (row, column) ∷ [] ≡ xs ++ row_cells (range_with_len left (column - left + 1)) row
+pub row_more : (xs : List Position) (row left column : ℕ) → left ≤ column → (xs ++ row_cells (range_with_len left (column - left)) row) ++ (row, column) ∷ [] ≡ xs ++ row_cells (range_with_len left (column - left + 1)) row
 row_more xs row left column h =
     append_assoc xs (row_cells (range_with_len left (column - left)) row) ((row, column) ∷ [])
-    ∙ ap (λ (ys : List Place). xs ++ ys) (sym (map-range_with_len_more (λ (c : ℕ). (row, c)) left (column - left) column (omega arith)))
+    ∙ ap (λ (ys : List Position). xs ++ ys) (sym (map-range_with_len_more (λ (c : ℕ). (row, c)) left (column - left) column (omega arith)))
 
 -- the numbers with one more at their end
 pub range_more : (a n : ℕ) → range_with_len a (n + 1) ≡ range_with_len a n ++ (a + n) ∷ []
@@ -19,14 +19,14 @@ range_more a (suc n) =
     let m : (a + 1) + n ≡ a + suc n = omega arith in
     ap (range_with_len a) e ∙ ap (λ (ys : List ℕ). a ∷ ys) (range_more (a + 1) n ∙ ap (λ (k : ℕ). range_with_len (a + 1) n ++ k ∷ []) m)
 
-pub rows_more : (f : ℕ → List Place) (low row : ℕ) → low ≤ row → flat_map f (range_with_len low (row - low)) ++ f row ≡ flat_map f (range_with_len low (row - low + 1))
+pub rows_more : (f : ℕ → List Position) (low row : ℕ) → low ≤ row → flat_map f (range_with_len low (row - low)) ++ f row ≡ flat_map f (range_with_len low (row - low + 1))
 rows_more f low row h =
     let at : low + (row - low) ≡ row = omega arith in
     sym (ap (flat_map f) (range_more low (row - low)) ∙ flat_map-append f (range_with_len low (row - low)) ((low + (row - low)) ∷ [])
-    ∙ ap (λ (ys : List Place). flat_map f (range_with_len low (row - low)) ++ ys) (ap (λ (k : ℕ). f k ++ []) at ∙ append-nil (f row)))
+    ∙ ap (λ (ys : List Position). flat_map f (range_with_len low (row - low)) ++ ys) (ap (λ (k : ℕ). f k ++ []) at ∙ append-nil (f row)))
 
 -- all rows
-pub rows_done : (items : List Place) (p q : Place) (left right row : ℕ) → items ≡ flat_map (row_cells (range_with_len left (right - left + 1))) (range_with_len (min p.0 q.0) (row - min p.0 q.0))
+pub rows_done : (items : List Position) (p q : Position) (left right row : ℕ) → items ≡ flat_map (row_cells (range_with_len left (right - left + 1))) (range_with_len (min p.0 q.0) (row - min p.0 q.0))
     → left ≡ min p.1 q.1 → right ≡ max p.1 q.1 → row ≡ max p.0 q.0 + 1 → items ≡ cells_between p q
 rows_done items p q left right row told l r e =
     let columns : range_with_len left (right - left + 1) ≡ span p.1 q.1 = cc in

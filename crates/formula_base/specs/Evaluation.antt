@@ -13,7 +13,7 @@ use Rattle.formula_base.specs.declared.expressions.Expr.{Expr}
 use Rattle.formula_base.specs.declared.expressions.Expr.TheOpen.{Expr-F}
 use Rattle.formula_base.specs.declared.expressions.Expr.TheFolds.{fold-Expr}
 use Rattle.formula_base.specs.Values.{number, combined, negated, compared, chosen}
-use Rattle.formula_base.specs.Ranges.{Place, cells_between, place_cmp}
+use Rattle.formula_base.specs.Ranges.{Position, cells_between, position_cmp}
 use Rattle.std.specs.BTreeSet.{insert_key}
 
 -- the numbers among values, in order
@@ -51,7 +51,7 @@ function_of Max fault numbers = fault_or fault (value.Number (greatest numbers))
 function_of Count fault numbers = value.Number (pos (length numbers))
 
 -- the values of an argument, those of a range row by row
-abbrev pub argument_values : (Place → Value) → Argument Value → List Value
+abbrev pub argument_values : (Position → Value) → Argument Value → List Value
 argument_values look (Range p q) = map look (cells_between p q)
 argument_values look (One v) = v ∷ []
 
@@ -60,10 +60,10 @@ abbrev pub called : Function → List Value → Value
 called function values = function_of function (first_fault values) (numbers_in values)
 
 -- the value of one level of an expression
-abbrev pub eval_layer : (Place → Value) → Expr-F Value → Value
+abbrev pub eval_layer : (Position → Value) → Expr-F Value → Value
 eval_layer look (Expr-F.Number z) = value.Number z
 eval_layer look (Expr-F.Words text) = value.Words text
-eval_layer look (Expr-F.Cell place) = look place
+eval_layer look (Expr-F.Cell position) = look position
 eval_layer look (Expr-F.Negate a) = negated a
 eval_layer look (Expr-F.Chain a links) = fold (λ left link. combined link.operator left link.operand) a links
 eval_layer look (Expr-F.Compare sign a b) = compared sign a b
@@ -71,19 +71,19 @@ eval_layer look (Expr-F.Call function arguments) = called function (flat_map (ar
 eval_layer look (Expr-F.If condition a b) = chosen condition a b
 
 -- the value of an expression, where cells have these values
-abbrev pub eval_of : (Place → Value) → Expr → Value
+abbrev pub eval_of : (Position → Value) → Expr → Value
 eval_of look = fold-Expr Value (eval_layer look)
 
 -- the cells that an argument names
-abbrev pub argument_cells : Argument (List Place) → List Place
+abbrev pub argument_cells : Argument (List Position) → List Position
 argument_cells (Range p q) = cells_between p q
-argument_cells (One places) = places
+argument_cells (One positions) = positions
 
 -- the cells that one level names, in branches not taken too
-abbrev pub names_layer : Expr-F (List Place) → List Place
+abbrev pub names_layer : Expr-F (List Position) → List Position
 names_layer (Expr-F.Number z) = []
 names_layer (Expr-F.Words text) = []
-names_layer (Expr-F.Cell place) = place ∷ []
+names_layer (Expr-F.Cell position) = position ∷ []
 names_layer (Expr-F.Negate a) = a
 names_layer (Expr-F.Chain a links) = a ++ flat_map (λ link. link.operand) links
 names_layer (Expr-F.Compare sign a b) = a ++ b
@@ -91,9 +91,9 @@ names_layer (Expr-F.Call function arguments) = flat_map argument_cells arguments
 names_layer (Expr-F.If condition a b) = condition ++ (a ++ b)
 
 -- the cells that an expression names, in the order of its text
-abbrev pub names_of : Expr → List Place
-names_of = fold-Expr (List Place) names_layer
+abbrev pub names_of : Expr → List Position
+names_of = fold-Expr (List Position) names_layer
 
 -- the cells that an expression reads: those that it names, each once, by rows and then columns
-abbrev pub reads_of : Expr → List Place
-reads_of expression = fold (insert_key place_cmp) [] (names_of expression)
+abbrev pub reads_of : Expr → List Position
+reads_of expression = fold (insert_key position_cmp) [] (names_of expression)

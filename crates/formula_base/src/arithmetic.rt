@@ -8,7 +8,7 @@ use crate::values::{CellFault, Value};
 use std::cmp::Ordering;
 
 /// The value of two operands and the sign between them.
-pub fn combined(operator: Operator, left: &Value, right: &Value) -> Value
+pub(crate) fn combined(operator: Operator, left: &Value, right: &Value) -> Value
     ensures { result ≡ combined operator left.now right.now }
 {
     match (operand(left), operand(right)) {
@@ -19,7 +19,7 @@ pub fn combined(operator: Operator, left: &Value, right: &Value) -> Value
 }
 
 /// The value of a minus sign and its operand.
-pub fn negated(value: &Value) -> Value
+pub(crate) fn negated(value: &Value) -> Value
     ensures { result ≡ negated value.now }
 {
     match operand(value) {
@@ -29,7 +29,7 @@ pub fn negated(value: &Value) -> Value
 }
 
 /// 1 where the comparison holds of the two values, else 0; an error gives itself, the left first.
-pub fn compared(comparison: Comparison, left: &Value, right: &Value) -> Value
+pub(crate) fn compared(comparison: Comparison, left: &Value, right: &Value) -> Value
     ensures { result ≡ compared comparison left.now right.now }
 {
     if let Value::Fault(fault) = left {

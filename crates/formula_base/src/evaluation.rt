@@ -1,7 +1,7 @@
 //! The value of an expression, given the values of cells.
 ghost use Rattle.std.specs.Prelude.{◌≡◌, IfOk, OnOk, fold, map};
 ghost use Rattle.formula_base.specs.Values.{chosen};
-ghost use Rattle.formula_base.specs.Ranges.{Place, cells_between};
+ghost use Rattle.formula_base.specs.Ranges.{Position, cells_between};
 ghost use Rattle.formula_base.specs.Evaluation.{eval_of};
 ghost use Rattle.formula_base.specs.Gathering.{with_value};
 ghost use Rattle.formula_base.specs.declared.values.Value.{Value};
@@ -16,8 +16,8 @@ use std::alloc::Global;
 
 /// The values of the cells of a part.
 pub trait Lookup {
-    /// The value of the cell at a place, a row and a column.
-    ghost value_at: { Self → Place → Value };
+    /// The value of the cell at a position, a row and a column.
+    ghost value_at: { Self → Position → Value };
 
     /// The value of the cell at a row and a column, counted from 0.
     fn value(&self, alloc: Global, row: u32, col: u32) -> Result<Value, Memory>
@@ -31,7 +31,7 @@ pub fn eval<L: Lookup>(alloc: Global, expr: &Expr, lookup: &L) -> Result<Value, 
     match expr {
         Expr::Number(number) => Ok(Value::Number(*number)),
         Expr::Words(name) => Ok(Value::Words(name.copy(alloc)?)),
-        Expr::Cell(place) => lookup.value(alloc, place.0, place.1),
+        Expr::Cell(position) => lookup.value(alloc, position.0, position.1),
         Expr::Negate(operand) => {
             let value = eval(alloc, operand.get(), lookup)?;
             Ok(negated(&value))
@@ -84,8 +84,8 @@ fn gather_range<L: Lookup>(
     ensures { OnOk result (gathered.new ≡ fold with_value gathered.old (map (L.value_at lookup.now) (cells_between first last))) }
 {
     let cells = cells_between(alloc, first, last)?;
-    for place in &cells {
-        let value = lookup.value(alloc, place.0, place.1)?;
+    for position in &cells {
+        let value = lookup.value(alloc, position.0, position.1)?;
         gathered.add(&value)?;
     }
     Ok(())

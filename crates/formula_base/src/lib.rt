@@ -3,7 +3,6 @@
 //!
 //! - `Value`, `CellFault`, `Name` (`values`): what a cell can have as its value.
 //! - `Expr` (`expressions`): a formula that was read.
-//! - `combined`, `compared`, `negated` (`arithmetic`): signs over values.
 //! - `eval`, `Lookup` (`evaluation`): the value of an expression, given the values of cells.
 //! - `reads` (`naming`): the cells that an expression names.
 #![tactic(auto)]
@@ -16,7 +15,6 @@ mod naming;
 mod spans;
 mod values;
 
-pub use arithmetic::{combined, compared, negated};
 pub use evaluation::{Lookup, eval};
 pub use expressions::{Argument, Comparison, Expr, Function, Link, Operator};
 pub use naming::reads;

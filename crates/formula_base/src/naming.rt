@@ -2,7 +2,7 @@
 ghost use Rattle.std.specs.Prelude.{◌≡◌, IfOk, OnOk, fold};
 ghost use Rattle.std.specs.BTreeSet.{insert_key};
 ghost use Rattle.formula_base.specs.Evaluation.{names_of, reads_of};
-ghost use Rattle.formula_base.specs.Ranges.{place_cmp, cells_between};
+ghost use Rattle.formula_base.specs.Ranges.{position_cmp, cells_between};
 
 use crate::expressions::{Argument, Expr};
 use crate::spans::cells_between;
@@ -22,12 +22,12 @@ pub fn reads(alloc: Global, expr: &Expr) -> Result<Vec<(u32, u32)>, Memory>
 
 // Adds the cells that the expression names.
 fn name(alloc: Global, expr: &Expr, named: &mut BTreeSet<(u32, u32)>) -> Result<(), Memory>
-    ensures { OnOk result (named.new.keys ≡ fold (insert_key place_cmp) named.old.keys (names_of expr.now)) }
+    ensures { OnOk result (named.new.keys ≡ fold (insert_key position_cmp) named.old.keys (names_of expr.now)) }
 {
     match expr {
         Expr::Number(_) => Ok(()),
         Expr::Words(_) => Ok(()),
-        Expr::Cell(place) => name_cell(*place, named),
+        Expr::Cell(position) => name_cell(*position, named),
         Expr::Negate(operand) => name(alloc, operand.get(), named),
         Expr::Chain(first, links) => {
             name(alloc, first.get(), named)?;
@@ -58,10 +58,10 @@ fn name(alloc: Global, expr: &Expr, named: &mut BTreeSet<(u32, u32)>) -> Result<
 }
 
 // Adds a cell.
-fn name_cell(place: (u32, u32), named: &mut BTreeSet<(u32, u32)>) -> Result<(), Memory>
-    ensures { OnOk result (named.new.keys ≡ insert_key place_cmp named.old.keys place) }
+fn name_cell(position: (u32, u32), named: &mut BTreeSet<(u32, u32)>) -> Result<(), Memory>
+    ensures { OnOk result (named.new.keys ≡ insert_key position_cmp named.old.keys position) }
 {
-    named.insert(place)?;
+    named.insert(position)?;
     Ok(())
 }
 
@@ -72,11 +72,11 @@ fn name_range(
     last: (u32, u32),
     named: &mut BTreeSet<(u32, u32)>,
 ) -> Result<(), Memory>
-    ensures { OnOk result (named.new.keys ≡ fold (insert_key place_cmp) named.old.keys (cells_between first last)) }
+    ensures { OnOk result (named.new.keys ≡ fold (insert_key position_cmp) named.old.keys (cells_between first last)) }
 {
     let cells = cells_between(alloc, first, last)?;
-    for place in &cells {
-        name_cell(*place, named)?;
+    for position in &cells {
+        name_cell(*position, named)?;
     }
     Ok(())
 }

@@ -150,11 +150,11 @@ colon_ends rest = ((refl, refl), refl)
 
 -- a cell is a fact
 abbrev HasCells : Says Expr → Type 0
-HasCells Is = (place : ℕ × ℕ) → Is (Cell place ∷ []) (e.Cell place)
+HasCells Is = (position : ℕ × ℕ) → Is (Cell position ∷ []) (e.Cell position)
 
-cell_compared : (Is : Says Expr) → HasCells Is → (place : ℕ × ℕ) → IsComparison Is (Cell place ∷ []) (e.Cell place)
-cell_compared Is cells place =
-    inl (e.Cell place, [], Cell place ∷ [], [], refl, refl, (e.Cell place, [], Cell place ∷ [], [], refl, refl, cells place, refl), refl)
+cell_compared : (Is : Says Expr) → HasCells Is → (position : ℕ × ℕ) → IsComparison Is (Cell position ∷ []) (e.Cell position)
+cell_compared Is cells position =
+    inl (e.Cell position, [], Cell position ∷ [], [], refl, refl, (e.Cell position, [], Cell position ∷ [], [], refl, refl, cells position, refl), refl)
 
 range_here : (fact : Reading Expr) (first last : ℕ × ℕ) (rest : List Token) → argument_of fact (Cell first ∷ (Colon ∷ (Cell last ∷ rest))) ≡ Some (argument.Range first last, rest)
 unfolding argument_of range
@@ -269,13 +269,13 @@ leaf_read (suc depth) token tokens value h = h (nested (fact depth) token)
 leaf_complete : (depth : ℕ) → Complete (fact depth) IsLeaf Anything
 leaf_complete depth front rest (e.Number z) is follows = ap (λ (ts : List Token). fact depth (ts ++ rest)) is ∙ leaf_read depth (Number z) rest (e.Number z) (λ deeper. refl)
 leaf_complete depth front rest (e.Words text) is follows = ap (λ (ts : List Token). fact depth (ts ++ rest)) is ∙ leaf_read depth (Words text) rest (e.Words text) (λ deeper. refl)
-leaf_complete depth front rest (e.Cell place) is follows = ap (λ (ts : List Token). fact depth (ts ++ rest)) is ∙ leaf_read depth (Cell place) rest (e.Cell place) (λ deeper. refl)
+leaf_complete depth front rest (e.Cell position) is follows = ap (λ (ts : List Token). fact depth (ts ++ rest)) is ∙ leaf_read depth (Cell position) rest (e.Cell position) (λ deeper. refl)
 leaf_complete depth front rest value is follows = absurd is
 
 cells_are_facts : (depth : ℕ) → HasCells (IsFact depth)
 unfolding IsFact
-cells_are_facts zero place = refl
-cells_are_facts (suc depth) place = inl refl
+cells_are_facts zero position = refl
+cells_are_facts (suc depth) position = inl refl
 
 fact_complete : (depth : ℕ) → Complete (fact depth) (IsFact depth) Anything
 unfolding IsFact

@@ -177,9 +177,9 @@ pub range_true : (tokens : List Token) → is_range tokens ≡ true → (first :
 range_true (Cell first ∷ (Colon ∷ rest)) h = (first, rest, refl)
 range_true tokens h = let absurdity : ⊥ = cc in absurd absurdity
 
-cell_read : (tokens rest : List Token) (place : ℕ × ℕ) → cell tokens ≡ Some (place, rest) → tokens ≡ Cell place ∷ rest
-cell_read (Cell other ∷ tokens) rest place h = ap (λ (q : (ℕ × ℕ) × List Token). Cell q.0 ∷ q.1) (same_some (other, tokens) (place, rest) h)
-cell_read tokens rest place h = absurd (no_some (place, rest) h)
+cell_read : (tokens rest : List Token) (position : ℕ × ℕ) → cell tokens ≡ Some (position, rest) → tokens ≡ Cell position ∷ rest
+cell_read (Cell other ∷ tokens) rest position h = ap (λ (q : (ℕ × ℕ) × List Token). Cell q.0 ∷ q.1) (same_some (other, tokens) (position, rest) h)
+cell_read tokens rest position h = absurd (no_some (position, rest) h)
 
 colon_of : (first other : ℕ × ℕ) (token : Token) (rest behind : List Token) → Cell first ∷ (Colon ∷ rest) ≡ Cell other ∷ (token ∷ behind) → token ≡ Colon
 colon_of first other token rest behind h = cc
@@ -294,7 +294,7 @@ token_sound : (deeper : Reading Expr) (Is : Says Expr) (token : Token) (tokens r
     → by_token deeper token tokens ≡ Some (value, rest) → Front (λ (ts : List Token) (x : Expr). IsLeaf ts x ⊎ Is ts x) (token ∷ tokens) value rest
 token_sound deeper Is (Number z) tokens rest value sound h = given (λ (ts : List Token) (x : Expr). IsLeaf ts x ⊎ Is ts x) (Number z ∷ tokens) (Number z ∷ []) tokens rest (e.Number z) value h refl (inl refl)
 token_sound deeper Is (Words text) tokens rest value sound h = given (λ (ts : List Token) (x : Expr). IsLeaf ts x ⊎ Is ts x) (Words text ∷ tokens) (Words text ∷ []) tokens rest (e.Words text) value h refl (inl refl)
-token_sound deeper Is (Cell place) tokens rest value sound h = given (λ (ts : List Token) (x : Expr). IsLeaf ts x ⊎ Is ts x) (Cell place ∷ tokens) (Cell place ∷ []) tokens rest (e.Cell place) value h refl (inl refl)
+token_sound deeper Is (Cell position) tokens rest value sound h = given (λ (ts : List Token) (x : Expr). IsLeaf ts x ⊎ Is ts x) (Cell position ∷ tokens) (Cell position ∷ []) tokens rest (e.Cell position) value h refl (inl refl)
 token_sound deeper Is token tokens rest value sound h = let p = sound value h in (p.0, p.1, inr p.2)
 
 abbrev Nothing : Says Expr

@@ -66,7 +66,7 @@ AreArguments IsFact tokens (value ∷ next ∷ values) =
 abbrev pub IsLeaf : Says Expr
 IsLeaf tokens (e.Number z) = tokens ≡ Number z ∷ []
 IsLeaf tokens (e.Words text) = tokens ≡ Words text ∷ []
-IsLeaf tokens (e.Cell place) = tokens ≡ Cell place ∷ []
+IsLeaf tokens (e.Cell position) = tokens ≡ Cell position ∷ []
 IsLeaf tokens _ = ⊥
 
 -- "-" fact

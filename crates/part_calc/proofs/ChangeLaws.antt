@@ -14,15 +14,15 @@ use Rattle.std.proofs.lemmas.Cmp.{nat_list_eq_equiv}
 use Rattle.std.proofs.lemmas.Map.Views.{Contains-from_any, list_any-from_Contains, tells_apart}
 use Rattle.std.proofs.lemmas.List.Kept.{IsStrictlySortedBy-filter}
 use Rattle.std.proofs.lemmas.Map.Made.{is_some-lookup}
-use Rattle.formula_base.specs.Ranges.{Place, place_cmp}
+use Rattle.formula_base.specs.Ranges.{Position, position_cmp}
 use Rattle.part_calc.specs.declared.contents.Content.{Content}
 use Rattle.part_calc.specs.declared.contents.Content.TheVariants.{Plain, Formula}
 use Rattle.part_calc.specs.Contents.{content_of, is_formula}
 use Rattle.part_calc.specs.Parts.{Part, text_at, with_text, content_at, value_at}
 use Rattle.part_calc.specs.Shown.{shown_at, shown_value, differs, changed_cells}
-use Rattle.part_calc.specs.Settling.{known_at, seen_in, seen_at, is_listed, Covers}
+use Rattle.part_calc.specs.Finding.{known_at, seen_in, seen_at, is_listed, Covers}
 use Rattle.part_calc.specs.Kept.{IsShown, text_shown}
-use Rattle.part_calc.proofs.PlaceLaws.{exact_places, same_places, lookup_insert, lookup_remove}
+use Rattle.part_calc.proofs.PositionLaws.{exact_positions, same_positions, lookup_insert, lookup_remove}
 use Rattle.part_calc.proofs.TextLaws.{empty_content}
 use Rattle.part_calc.proofs.ListLaws.{sorted_fold, listed_fold, listed_filter, same_filters}
 use Rattle.part_calc.proofs.ShownLaws.{shown_kept}
@@ -30,16 +30,16 @@ use Rattle.part_calc.proofs.ShownLaws.{shown_kept}
 -- ---- texts and the cells that have one
 
 -- a cell that isn't listed has no text
-no_text : (part : Part) (p : Place) → is_listed (keys_of part) p ≡ false → text_at part p ≡ []
+no_text : (part : Part) (p : Position) → is_listed (keys_of part) p ≡ false → text_at part p ≡ []
 unfolding text_at
-no_text part p none = by (lookup (is_at (place_cmp p)) part) (is_some-lookup (is_at (place_cmp p)) part ∙ none)
+no_text part p none = by (lookup (is_at (position_cmp p)) part) (is_some-lookup (is_at (position_cmp p)) part ∙ none)
   where
     by : (o : Option (List ℕ)) → is_some o ≡ false → unwrap_or o [] ≡ []
     by (Some raw) e = absurd (both_ways true e refl)
     by None e = refl
 
 -- a formula's cell has a text
-formula_texted : (part : Part) (p : Place) → is_formula (content_at part p) ≡ true → is_listed (keys_of part) p ≡ true
+formula_texted : (part : Part) (p : Position) → is_formula (content_at part p) ≡ true → is_listed (keys_of part) p ≡ true
 formula_texted part p is =
     ⊎_elim (λ (e : is_listed (keys_of part) p ≡ true). e)
     (λ (e : is_listed (keys_of part) p ≡ false).
@@ -47,26 +47,26 @@ formula_texted part p is =
     (cases_Bool (is_listed (keys_of part) p))
 
 -- what shows no text
-no_text_shown : (part : Part) (p : Place) → text_at part p ≡ [] → shown_at part p ≡ []
+no_text_shown : (part : Part) (p : Position) → text_at part p ≡ [] → shown_at part p ≡ []
 unfolding shown_at
 no_text_shown part p none =
     ap (λ (raw : List ℕ). cond (is_formula (content_of raw)) (shown_value (value_at part p)) raw) none
     ∙ ap (λ (c : Content). cond (is_formula c) (shown_value (value_at part p)) []) empty_content
 
 -- a cell that has a text after an edit is the cell of the edit or had one before
-pub texted_before : (part : Part) (at : Place) (raw : List ℕ) (p : Place) → IsStrictlySortedBy place_cmp (keys_of part) → is_listed (keys_of (with_text part at raw)) p ≡ true → (is_at (place_cmp p) at || is_listed (keys_of part) p) ≡ true
+pub texted_before : (part : Part) (at : Position) (raw : List ℕ) (p : Position) → IsStrictlySortedBy position_cmp (keys_of part) → is_listed (keys_of (with_text part at raw)) p ≡ true → (is_at (position_cmp p) at || is_listed (keys_of part) p) ≡ true
 unfolding with_text
 texted_before part at [] p sorted h =
-    or_right (is_at (place_cmp p) at) (is_listed (keys_of part) p)
-    (sym (is_some-lookup (is_at (place_cmp p)) part)
-    ∙ by (is_at (place_cmp at) p) (lookup (is_at (place_cmp p)) part) (ap is_some (sym (lookup_remove part at p sorted)) ∙ is_some-lookup (is_at (place_cmp p)) (remove_entry (is_at (place_cmp at)) part) ∙ h))
+    or_right (is_at (position_cmp p) at) (is_listed (keys_of part) p)
+    (sym (is_some-lookup (is_at (position_cmp p)) part)
+    ∙ by (is_at (position_cmp at) p) (lookup (is_at (position_cmp p)) part) (ap is_some (sym (lookup_remove part at p sorted)) ∙ is_some-lookup (is_at (position_cmp p)) (remove_entry (is_at (position_cmp at)) part) ∙ h))
   where
     by : (b : Bool) (o : Option (List ℕ)) → is_some (cond b None o) ≡ true → is_some o ≡ true
     by true o e = absurd (both_ways false refl e)
     by false o e = e
 texted_before part at (c ∷ raw) p sorted h =
-    by (is_at (place_cmp p) at) (lookup (is_at (place_cmp p)) part) (is_some-lookup (is_at (place_cmp p)) part)
-    (ap is_some (sym (lookup_insert part at (c ∷ raw) p)) ∙ is_some-lookup (is_at (place_cmp p)) (insert_entry place_cmp part at (c ∷ raw)) ∙ h)
+    by (is_at (position_cmp p) at) (lookup (is_at (position_cmp p)) part) (is_some-lookup (is_at (position_cmp p)) part)
+    (ap is_some (sym (lookup_insert part at (c ∷ raw) p)) ∙ is_some-lookup (is_at (position_cmp p)) (insert_entry position_cmp part at (c ∷ raw)) ∙ h)
   where
     by : (b : Bool) (o : Option (List ℕ)) → is_some o ≡ is_listed (keys_of part) p → is_some (cond b (Some (c ∷ raw)) o) ≡ true → (b || is_listed (keys_of part) p) ≡ true
     by true o is e = refl
@@ -74,14 +74,14 @@ texted_before part at (c ∷ raw) p sorted h =
 
 -- ---- the formulas of a part after an edit
 
-pub formulas_cover : (part : Part) (at : Place) (raw : List ℕ) (places : List Place) → IsStrictlySortedBy place_cmp (keys_of part) → ((p : Place) → is_listed places p ≡ (is_at (place_cmp p) at || is_listed (keys_of part) p))
-    → (p : Place) → is_formula (content_at (with_text part at raw) p) ≡ true → is_listed (filter (λ q. is_formula (content_at (with_text part at raw) q)) places) p ≡ true
-formulas_cover part at raw places sorted listed p is =
-    listed_filter (λ q. is_formula (content_at (with_text part at raw) q)) places p
-    ∙ ap (λ (b : Bool). b && is_listed places p) is
+pub formulas_cover : (part : Part) (at : Position) (raw : List ℕ) (positions : List Position) → IsStrictlySortedBy position_cmp (keys_of part) → ((p : Position) → is_listed positions p ≡ (is_at (position_cmp p) at || is_listed (keys_of part) p))
+    → (p : Position) → is_formula (content_at (with_text part at raw) p) ≡ true → is_listed (filter (λ q. is_formula (content_at (with_text part at raw) q)) positions) p ≡ true
+formulas_cover part at raw positions sorted listed p is =
+    listed_filter (λ q. is_formula (content_at (with_text part at raw) q)) positions p
+    ∙ ap (λ (b : Bool). b && is_listed positions p) is
     ∙ listed p ∙ texted_before part at raw p sorted (formula_texted (with_text part at raw) p is)
 
-pub covers_formulas : (part : Part) (formulas : List Place) → ((p : Place) → is_formula (content_at part p) ≡ true → is_listed formulas p ≡ true) → Covers part [] formulas
+pub covers_formulas : (part : Part) (formulas : List Position) → ((p : Position) → is_formula (content_at part p) ≡ true → is_listed formulas p ≡ true) → Covers part [] formulas
 unfolding seen_at known_at
 covers_formulas part formulas listed p lost = listed p (by (content_at part p) lost)
   where
@@ -95,7 +95,7 @@ same_none : (xs ys : List ℕ) → xs ≡ [] → ys ≡ [] → not (bytes_eq xs 
 same_none xs ys x y = ap (λ (zs : List ℕ). not (bytes_eq zs ys)) x ∙ ap (λ (zs : List ℕ). not (bytes_eq [] zs)) y
 
 -- a cell whose shown text differs has a text before or after
-differs_texted : (old new : Part) (p : Place) → differs old new p ≡ true → (is_listed (keys_of old) p || is_listed (keys_of new) p) ≡ true
+differs_texted : (old new : Part) (p : Position) → differs old new p ≡ true → (is_listed (keys_of old) p || is_listed (keys_of new) p) ≡ true
 differs_texted old new p d = by (is_listed (keys_of old) p) (is_listed (keys_of new) p) refl refl
   where
     by : (a b : Bool) → is_listed (keys_of old) p ≡ a → is_listed (keys_of new) p ≡ b → (a || b) ≡ true
@@ -105,47 +105,47 @@ differs_texted old new p d = by (is_listed (keys_of old) p) (is_listed (keys_of 
         absurd (both_ways (differs old new p) (same_none (shown_at old p) (shown_at new p) (no_text_shown old p (no_text old p x)) (no_text_shown new p (no_text new p y))) d)
 
 -- the cells that differ among those that an edit may concern
-pub changes_are : (old : Part) (at : Place) (raw : List ℕ) (places : List Place) → IsStrictlySortedBy place_cmp (keys_of old) → IsStrictlySortedBy place_cmp places → ((p : Place) → is_listed places p ≡ (is_at (place_cmp p) at || is_listed (keys_of old) p))
-    → filter (differs old (with_text old at raw)) places ≡ changed_cells old (with_text old at raw)
+pub changes_are : (old : Part) (at : Position) (raw : List ℕ) (positions : List Position) → IsStrictlySortedBy position_cmp (keys_of old) → IsStrictlySortedBy position_cmp positions → ((p : Position) → is_listed positions p ≡ (is_at (position_cmp p) at || is_listed (keys_of old) p))
+    → filter (differs old (with_text old at raw)) positions ≡ changed_cells old (with_text old at raw)
 unfolding changed_cells
-changes_are old at raw places sorted ordered listed =
-    same_filters (differs old (with_text old at raw)) places (fold (insert_key place_cmp) (keys_of old) (keys_of (with_text old at raw))) ordered (sorted_fold (keys_of old) (keys_of (with_text old at raw)) sorted)
+changes_are old at raw positions sorted ordered listed =
+    same_filters (differs old (with_text old at raw)) positions (fold (insert_key position_cmp) (keys_of old) (keys_of (with_text old at raw))) ordered (sorted_fold (keys_of old) (keys_of (with_text old at raw)) sorted)
     (λ p d.
     let texted = differs_texted old (with_text old at raw) p d in
     listed p ∙ among p (or_cases (is_listed (keys_of old) p) (is_listed (keys_of (with_text old at raw)) p) texted)
     ∙ sym (listed_fold (keys_of old) (keys_of (with_text old at raw)) p ∙ texted))
   where
-    among : (p : Place) → (is_listed (keys_of old) p ≡ true) ⊎ (is_listed (keys_of (with_text old at raw)) p ≡ true) → (is_at (place_cmp p) at || is_listed (keys_of old) p) ≡ true
+    among : (p : Position) → (is_listed (keys_of old) p ≡ true) ⊎ (is_listed (keys_of (with_text old at raw)) p ≡ true) → (is_at (position_cmp p) at || is_listed (keys_of old) p) ≡ true
     among p c =
-        ⊎_elim (λ (e : is_listed (keys_of old) p ≡ true). or_right (is_at (place_cmp p) at) (is_listed (keys_of old) p) e)
+        ⊎_elim (λ (e : is_listed (keys_of old) p ≡ true). or_right (is_at (position_cmp p) at) (is_listed (keys_of old) p) e)
         (λ (e : is_listed (keys_of (with_text old at raw)) p ≡ true). texted_before old at raw p sorted e) c
 
 -- exactly these are listed
-pub changed_listed : (old new : Part) (p : Place) → is_listed (changed_cells old new) p ≡ differs old new p
+pub changed_listed : (old new : Part) (p : Position) → is_listed (changed_cells old new) p ≡ differs old new p
 unfolding changed_cells
 changed_listed old new p =
-    listed_filter (differs old new) (fold (insert_key place_cmp) (keys_of old) (keys_of new)) p
+    listed_filter (differs old new) (fold (insert_key position_cmp) (keys_of old) (keys_of new)) p
     ∙ by (differs old new p) refl
   where
-    by : (b : Bool) → differs old new p ≡ b → (b && is_listed (fold (insert_key place_cmp) (keys_of old) (keys_of new)) p) ≡ b
+    by : (b : Bool) → differs old new p ≡ b → (b && is_listed (fold (insert_key position_cmp) (keys_of old) (keys_of new)) p) ≡ b
     by true d = listed_fold (keys_of old) (keys_of new) p ∙ differs_texted old new p d
     by false d = refl
 
-pub changed_ordered : (old new : Part) → IsStrictlySortedBy place_cmp (keys_of old) → IsStrictlySortedBy place_cmp (changed_cells old new)
+pub changed_ordered : (old new : Part) → IsStrictlySortedBy position_cmp (keys_of old) → IsStrictlySortedBy position_cmp (changed_cells old new)
 unfolding changed_cells
 changed_ordered old new sorted =
-    IsStrictlySortedBy-filter place_cmp (differs old new) (fold (insert_key place_cmp) (keys_of old) (keys_of new)) (sorted_fold (keys_of old) (keys_of new) sorted)
+    IsStrictlySortedBy-filter position_cmp (differs old new) (fold (insert_key position_cmp) (keys_of old) (keys_of new)) (sorted_fold (keys_of old) (keys_of new) sorted)
 
 -- ---- for the code
 
 -- what a cell shows by two look-ups
-pub old_text_is : (part : Part) (shown : List (Place × List ℕ)) (p : Place) (cell found : Option (Bor (List ℕ))) (text : List ℕ) → IsShown part shown → option_copied cell ≡ lookup (is_at (place_cmp p)) part → option_copied found ≡ lookup (is_at (place_cmp p)) shown
+pub old_text_is : (part : Part) (shown : List (Position × List ℕ)) (p : Position) (cell found : Option (Bor (List ℕ))) (text : List ℕ) → IsShown part shown → option_copied cell ≡ lookup (is_at (position_cmp p)) part → option_copied found ≡ lookup (is_at (position_cmp p)) shown
     → text ≡ text_shown (unwrap_or (option_copied cell) []) (option_copied found) → text ≡ shown_at part p
 unfolding text_at
 old_text_is part shown p cell found text kept a b is =
     is ∙ ap (λ (o : Option (List ℕ)). text_shown (unwrap_or o []) (option_copied found)) a ∙ ap (text_shown (text_at part p)) b ∙ shown_kept part shown kept p
 
-new_text_is : (part : Part) (shown : List (Place × List ℕ)) (p : Place) (cell found : Option (Bor (List ℕ))) → IsShown part shown → MatchOption cell (text_at part p ≡ []) (λ c. c.now ≡ text_at part p) → option_copied found ≡ lookup (is_at (place_cmp p)) shown
+new_text_is : (part : Part) (shown : List (Position × List ℕ)) (p : Position) (cell found : Option (Bor (List ℕ))) → IsShown part shown → MatchOption cell (text_at part p ≡ []) (λ c. c.now ≡ text_at part p) → option_copied found ≡ lookup (is_at (position_cmp p)) shown
     → text_shown (unwrap_or (option_copied cell) []) (option_copied found) ≡ shown_at part p
 new_text_is part shown p cell found kept a b =
     ap (λ (raw : List ℕ). text_shown raw (option_copied found)) (by cell a) ∙ ap (text_shown (text_at part p)) b ∙ shown_kept part shown kept p
@@ -155,33 +155,33 @@ new_text_is part shown p cell found kept a b =
     by (Some c) e = e
 
 -- whether a cell's text differs, by the old text and two look-ups
-pub differs_is : (old new : Part) (shown : List (Place × List ℕ)) (p : Place) (text : List ℕ) (cell found : Option (Bor (List ℕ))) (r : Bool) → IsShown new shown → text ≡ shown_at old p → MatchOption cell (text_at new p ≡ []) (λ c. c.now ≡ text_at new p) → option_copied found ≡ lookup (is_at (place_cmp p)) shown
+pub differs_is : (old new : Part) (shown : List (Position × List ℕ)) (p : Position) (text : List ℕ) (cell found : Option (Bor (List ℕ))) (r : Bool) → IsShown new shown → text ≡ shown_at old p → MatchOption cell (text_at new p ≡ []) (λ c. c.now ≡ text_at new p) → option_copied found ≡ lookup (is_at (position_cmp p)) shown
     → r ≡ not (bytes_eq text (text_shown (unwrap_or (option_copied cell) []) (option_copied found))) → r ≡ differs old new p
 differs_is old new shown p text cell found r kept before a b is =
     is ∙ ap (λ (t : List ℕ). not (bytes_eq t (text_shown (unwrap_or (option_copied cell) []) (option_copied found)))) before
     ∙ ap (λ (t : List ℕ). not (bytes_eq (shown_at old p) t)) (new_text_is new shown p cell found kept a b)
 
 -- the formulas of the part after an edit are among those that were picked out
-pub computed_cover : (cells edited : Part) (at : Place) (raw : List ℕ) (places taken computed given : List Place) → IsStrictlySortedBy place_cmp (keys_of cells) → edited ≡ with_text cells at raw
-    → ((p : Place) → is_listed places p ≡ (is_at (place_cmp p) at || is_listed (keys_of cells) p)) → taken ≡ places → computed ≡ filter (λ p. is_formula (content_at edited p)) taken → given ≡ computed
-    → (p : Place) → is_formula (content_at edited p) ≡ true → is_listed given p ≡ true
-computed_cover cells edited at raw places taken computed given sorted is listed taken_is computed_is given_is p kind =
-    ap (λ (ps : List Place). is_listed ps p) (given_is ∙ computed_is ∙ ap (filter (λ q. is_formula (content_at edited q))) taken_is)
-    ∙ ap (λ (s : Part). is_listed (filter (λ q. is_formula (content_at s q)) places) p) is
-    ∙ formulas_cover cells at raw places sorted listed p (ap (λ (s : Part). is_formula (content_at s p)) (sym is) ∙ kind)
+pub computed_cover : (cells edited : Part) (at : Position) (raw : List ℕ) (positions taken computed given : List Position) → IsStrictlySortedBy position_cmp (keys_of cells) → edited ≡ with_text cells at raw
+    → ((p : Position) → is_listed positions p ≡ (is_at (position_cmp p) at || is_listed (keys_of cells) p)) → taken ≡ positions → computed ≡ filter (λ p. is_formula (content_at edited p)) taken → given ≡ computed
+    → (p : Position) → is_formula (content_at edited p) ≡ true → is_listed given p ≡ true
+computed_cover cells edited at raw positions taken computed given sorted is listed taken_is computed_is given_is p kind =
+    ap (λ (ps : List Position). is_listed ps p) (given_is ∙ computed_is ∙ ap (filter (λ q. is_formula (content_at edited q))) taken_is)
+    ∙ ap (λ (s : Part). is_listed (filter (λ q. is_formula (content_at s q)) positions) p) is
+    ∙ formulas_cover cells at raw positions sorted listed p (ap (λ (s : Part). is_formula (content_at s p)) (sym is) ∙ kind)
 
-pub changed_is : (cells edited : Part) (at : Place) (raw : List ℕ) (places taken changed : List Place) → IsStrictlySortedBy place_cmp (keys_of cells) → edited ≡ with_text cells at raw → IsStrictlySortedBy place_cmp places
-    → ((p : Place) → is_listed places p ≡ (is_at (place_cmp p) at || is_listed (keys_of cells) p)) → taken ≡ places → changed ≡ filter (differs cells edited) taken → changed ≡ changed_cells cells (with_text cells at raw)
-changed_is cells edited at raw places taken changed sorted is ordered listed taken_is told =
-    told ∙ ap (filter (differs cells edited)) taken_is ∙ ap (λ (s : Part). filter (differs cells s) places) is ∙ changes_are cells at raw places sorted ordered listed
+pub changed_is : (cells edited : Part) (at : Position) (raw : List ℕ) (positions taken changed : List Position) → IsStrictlySortedBy position_cmp (keys_of cells) → edited ≡ with_text cells at raw → IsStrictlySortedBy position_cmp positions
+    → ((p : Position) → is_listed positions p ≡ (is_at (position_cmp p) at || is_listed (keys_of cells) p)) → taken ≡ positions → changed ≡ filter (differs cells edited) taken → changed ≡ changed_cells cells (with_text cells at raw)
+changed_is cells edited at raw positions taken changed sorted is ordered listed taken_is told =
+    told ∙ ap (filter (differs cells edited)) taken_is ∙ ap (λ (s : Part). filter (differs cells s) positions) is ∙ changes_are cells at raw positions sorted ordered listed
 
 -- ---- what a change says of single cells
 
 -- exactly the cells whose shown text differs are among the changes
-pub changed_iff : (old new : Part) (p : Place) → Contains (changed_cells old new) p ↔ (shown_at old p ≢ shown_at new p)
+pub changed_iff : (old new : Part) (p : Position) → Contains (changed_cells old new) p ↔ (shown_at old p ≢ shown_at new p)
 changed_iff old new p = (
-  λ has same. both_ways (differs old new p) (not_from_true (bytes_eq (shown_at old p) (shown_at new p)) (texts_alike same)) (sym (changed_listed old new p) ∙ list_any-from_Contains same_places p (changed_cells old new) has),
-  λ apart. Contains-from_any (tells_apart exact_places) p (changed_cells old new) (changed_listed old new p ∙ not_from_false (bytes_eq (shown_at old p) (shown_at new p)) (false_from_ne_true (bytes_eq (shown_at old p) (shown_at new p)) (λ e. apart (same_text (shown_at old p) (shown_at new p) (sym e))))),
+  λ has same. both_ways (differs old new p) (not_from_true (bytes_eq (shown_at old p) (shown_at new p)) (texts_alike same)) (sym (changed_listed old new p) ∙ list_any-from_Contains same_positions p (changed_cells old new) has),
+  λ apart. Contains-from_any (tells_apart exact_positions) p (changed_cells old new) (changed_listed old new p ∙ not_from_false (bytes_eq (shown_at old p) (shown_at new p)) (false_from_ne_true (bytes_eq (shown_at old p) (shown_at new p)) (λ e. apart (same_text (shown_at old p) (shown_at new p) (sym e))))),
 )
   where
     bytes_same : (xs : List ℕ) → bytes_eq xs xs ≡ true

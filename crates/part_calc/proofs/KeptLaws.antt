@@ -12,17 +12,17 @@ use Rattle.std.specs.declared.cmp.Ordering.TheVariants.{Less, Equal, Greater}
 use Rattle.std.proofs.lemmas.Bool.{both_ways, cond-false}
 use Rattle.std.proofs.lemmas.Str.{is_utf8-from_IsUtf8}
 use Rattle.sheet_cells.specs.Cells.{IsRaw}
-use Rattle.formula_base.specs.Ranges.{Place, place_cmp}
+use Rattle.formula_base.specs.Ranges.{Position, position_cmp}
 use Rattle.part_calc.specs.Contents.{is_formula}
 use Rattle.part_calc.specs.Parts.{Part, text_at, with_text}
 use Rattle.part_calc.specs.Shown.{shown_at, changed_cells}
 use Rattle.part_calc.specs.Kept.{IsShown, IsEntry, IsPart}
-use Rattle.part_calc.proofs.PlaceLaws.{exact_places, at_other}
+use Rattle.part_calc.proofs.PositionLaws.{exact_positions, at_other}
 use Rattle.part_calc.proofs.TextLaws.{empty_content, text_same, text_other}
 use Rattle.part_calc.proofs.ChangeLaws.{changed_iff, changed_ordered}
 
 -- a part without cells
-empty_kept : (shown : List (Place × List ℕ)) → IsPart [] × IsShown [] shown
+empty_kept : (shown : List (Position × List ℕ)) → IsPart [] × IsShown [] shown
 unfolding text_at IsStrictlySortedBy
 empty_kept shown = (record { ordered = tt; entries = tt }, λ p is. absurd (both_ways false refl (ap is_formula (sym empty_content) ∙ is)))
 
@@ -31,11 +31,11 @@ pub none_is_part : (part : Part) → part ≡ [] → IsPart part
 unfolding IsStrictlySortedBy
 none_is_part part none = subst IsPart (sym none) (record { ordered = tt; entries = tt })
 
-pub none_kept : (part : Part) (shown : List (Place × List ℕ)) → part ≡ [] → IsPart part × IsShown part shown
+pub none_kept : (part : Part) (shown : List (Position × List ℕ)) → part ≡ [] → IsPart part × IsShown part shown
 none_kept part shown none = subst (λ (s : Part). IsPart s × IsShown s shown) (sym none) (empty_kept shown)
 
 -- entries keep to what they are
-remove_keeps : (P : Place × List ℕ → Type 0) (test : Place → Bool) (part : Part) → AllByRecursion P part → AllByRecursion P (remove_entry test part)
+remove_keeps : (P : Position × List ℕ → Type 0) (test : Position → Bool) (part : Part) → AllByRecursion P part → AllByRecursion P (remove_entry test part)
 remove_keeps P test [] all = tt
 remove_keeps P test (e ∷ part) all = by (test e.0) (remove_keeps P test part all.1)
   where
@@ -43,30 +43,30 @@ remove_keeps P test (e ∷ part) all = by (test e.0) (remove_keeps P test part a
     by true ih = all.1
     by false ih = (all.0, ih)
 
-insert_keeps : (P : Place × List ℕ → Type 0) (part : Part) (k : Place) (raw : List ℕ) → AllByRecursion P part → P (k, raw) → AllByRecursion P (insert_entry place_cmp part k raw)
+insert_keeps : (P : Position × List ℕ → Type 0) (part : Part) (k : Position) (raw : List ℕ) → AllByRecursion P part → P (k, raw) → AllByRecursion P (insert_entry position_cmp part k raw)
 insert_keeps P [] k raw all here = (here, tt)
-insert_keeps P (e ∷ part) k raw all here = by (place_cmp k e.0) refl (insert_keeps P part k raw all.1 here)
+insert_keeps P (e ∷ part) k raw all here = by (position_cmp k e.0) refl (insert_keeps P part k raw all.1 here)
   where
-    by : (o : Ordering) → place_cmp k e.0 ≡ o → AllByRecursion P (insert_entry place_cmp part k raw) → AllByRecursion P (match_ordering o ((k, raw) ∷ e ∷ part) ((e.0, raw) ∷ part) (e ∷ insert_entry place_cmp part k raw))
+    by : (o : Ordering) → position_cmp k e.0 ≡ o → AllByRecursion P (insert_entry position_cmp part k raw) → AllByRecursion P (match_ordering o ((k, raw) ∷ e ∷ part) ((e.0, raw) ∷ part) (e ∷ insert_entry position_cmp part k raw))
     by Less h ih = (here, all)
-    by Equal h ih = (subst (λ (q : Place). P (q, raw)) (exact_places k e.0 h) here, all.1)
+    by Equal h ih = (subst (λ (q : Position). P (q, raw)) (exact_positions k e.0 h) here, all.1)
     by Greater h ih = (all.0, ih)
 
-entries_kept : (part : Part) (at : Place) (raw : List ℕ) → AllByRecursion IsEntry part → at.0 < 4096 → at.1 < 256 → IsRaw raw → IsUtf8 raw → AllByRecursion IsEntry (with_text part at raw)
+entries_kept : (part : Part) (at : Position) (raw : List ℕ) → AllByRecursion IsEntry part → at.0 < 4096 → at.1 < 256 → IsRaw raw → IsUtf8 raw → AllByRecursion IsEntry (with_text part at raw)
 unfolding with_text
-entries_kept part at [] all row column valid utf8 = remove_keeps IsEntry (is_at (place_cmp at)) part all
+entries_kept part at [] all row column valid utf8 = remove_keeps IsEntry (is_at (position_cmp at)) part all
 entries_kept part at (c ∷ raw) all row column valid utf8 =
     insert_keeps IsEntry part at (c ∷ raw) all (record { row = row; column = column; some = omega arith; raw = valid; utf8 = is_utf8-from_IsUtf8 (c ∷ raw) utf8 })
 
 -- a text that was put
-pub put_kept : (inside after : Part) (at : Place) (cell raw : List ℕ) → IsPart inside → at.0 < 4096 → at.1 < 256 → IsRaw raw → IsUtf8 raw → cell ≡ raw → after ≡ with_text inside at cell → IsStrictlySortedBy place_cmp (keys_of after) → IsPart after
+pub put_kept : (inside after : Part) (at : Position) (cell raw : List ℕ) → IsPart inside → at.0 < 4096 → at.1 < 256 → IsRaw raw → IsUtf8 raw → cell ≡ raw → after ≡ with_text inside at cell → IsStrictlySortedBy position_cmp (keys_of after) → IsPart after
 put_kept inside after at cell raw part row column valid utf8 is put sorted = record {
   ordered = sorted;
   entries = subst (AllByRecursion IsEntry) (sym put) (subst (λ (r : List ℕ). AllByRecursion IsEntry (with_text inside at r)) (sym is) (entries_kept inside at raw part.entries row column valid utf8));
 }
 
 -- an edit
-pub set_kept : (inside after : Part) (at : Place) (cell raw : List ℕ) (shown : List (Place × List ℕ)) → IsPart inside → at.0 < 4096 → at.1 < 256 → IsRaw raw → IsUtf8 raw → cell ≡ raw → after ≡ with_text inside at cell → IsStrictlySortedBy place_cmp (keys_of after)
+pub set_kept : (inside after : Part) (at : Position) (cell raw : List ℕ) (shown : List (Position × List ℕ)) → IsPart inside → at.0 < 4096 → at.1 < 256 → IsRaw raw → IsUtf8 raw → cell ≡ raw → after ≡ with_text inside at cell → IsStrictlySortedBy position_cmp (keys_of after)
     → IsShown (with_text inside at cell) shown → IsPart after × IsShown after shown
 set_kept inside after at cell raw shown part row column valid utf8 is put sorted kept = (
   put_kept inside after at cell raw part row column valid utf8 is put sorted,
@@ -74,30 +74,30 @@ set_kept inside after at cell raw shown part row column valid utf8 is put sorted
 )
 
 -- what it answers
-pub set_exactly : (inside before after : Part) (at : Place) (cell : List ℕ) (changed : List Place) → inside ≡ before → after ≡ with_text inside at cell → changed ≡ changed_cells inside (with_text inside at cell) → (p : Place) → Contains changed p ↔ (shown_at before p ≢ shown_at after p)
+pub set_exactly : (inside before after : Part) (at : Position) (cell : List ℕ) (changed : List Position) → inside ≡ before → after ≡ with_text inside at cell → changed ≡ changed_cells inside (with_text inside at cell) → (p : Position) → Contains changed p ↔ (shown_at before p ≢ shown_at after p)
 set_exactly inside before after at cell changed view put told p =
-    subst (λ (ps : List Place). Contains ps p ↔ (shown_at before p ≢ shown_at after p))
+    subst (λ (ps : List Position). Contains ps p ↔ (shown_at before p ≢ shown_at after p))
     (sym (told ∙ ap (changed_cells inside) (sym put) ∙ ap (λ (s : Part). changed_cells s after) view)) (changed_iff before after p)
 
-pub set_in_order : (inside : Part) (at : Place) (cell : List ℕ) (changed : List Place) → IsPart inside → changed ≡ changed_cells inside (with_text inside at cell) → IsStrictlySortedBy place_cmp changed
-set_in_order inside at cell changed part told = subst (IsStrictlySortedBy place_cmp) (sym told) (changed_ordered inside (with_text inside at cell) part.ordered)
+pub set_in_order : (inside : Part) (at : Position) (cell : List ℕ) (changed : List Position) → IsPart inside → changed ≡ changed_cells inside (with_text inside at cell) → IsStrictlySortedBy position_cmp changed
+set_in_order inside at cell changed part told = subst (IsStrictlySortedBy position_cmp) (sym told) (changed_ordered inside (with_text inside at cell) part.ordered)
 
-pub set_there : (inside after : Part) (at : Place) (cell raw : List ℕ) → IsPart inside → cell ≡ raw → after ≡ with_text inside at cell → text_at after at ≡ raw
+pub set_there : (inside after : Part) (at : Position) (cell raw : List ℕ) → IsPart inside → cell ≡ raw → after ≡ with_text inside at cell → text_at after at ≡ raw
 set_there inside after at cell raw part is put = ap (λ (s : Part). text_at s at) put ∙ text_same inside at cell part.ordered ∙ is
 
-pub set_elsewhere : (inside before after : Part) (at : Place) (cell : List ℕ) → IsPart inside → inside ≡ before → after ≡ with_text inside at cell → (other : Place) → other ≢ at → text_at after other ≡ text_at before other
+pub set_elsewhere : (inside before after : Part) (at : Position) (cell : List ℕ) → IsPart inside → inside ≡ before → after ≡ with_text inside at cell → (other : Position) → other ≢ at → text_at after other ≡ text_at before other
 set_elsewhere inside before after at cell part view put other apart =
     ap (λ (s : Part). text_at s other) put ∙ text_other inside at cell other part.ordered apart ∙ ap (λ (s : Part). text_at s other) view
 
 -- ---- a cell outside a part
 
-outside_differs : (e : Place × List ℕ) → IsEntry e → is_at (place_cmp (4096, 0)) e.0 ≡ false
-outside_differs e entry = at_other (4096, 0) e.0 (λ same. let row : e.0.0 ≡ 4096 = sym (ap (λ (p : Place). p.0) same) in let low = entry.row in absurd (omega (arith, row, low)))
+outside_differs : (e : Position × List ℕ) → IsEntry e → is_at (position_cmp (4096, 0)) e.0 ≡ false
+outside_differs e entry = at_other (4096, 0) e.0 (λ same. let row : e.0.0 ≡ 4096 = sym (ap (λ (p : Position). p.0) same) in let low = entry.row in absurd (omega (arith, row, low)))
 
-outside_removed : (part : Part) → AllByRecursion IsEntry part → remove_entry (is_at (place_cmp (4096, 0))) part ≡ part
+outside_removed : (part : Part) → AllByRecursion IsEntry part → remove_entry (is_at (position_cmp (4096, 0))) part ≡ part
 outside_removed [] all = refl
 outside_removed (e ∷ part) all =
-    cond-false (is_at (place_cmp (4096, 0)) e.0) part (e ∷ remove_entry (is_at (place_cmp (4096, 0))) part) (outside_differs e all.0)
+    cond-false (is_at (position_cmp (4096, 0)) e.0) part (e ∷ remove_entry (is_at (position_cmp (4096, 0))) part) (outside_differs e all.0)
     ∙ ap (λ (s : Part). e ∷ s) (outside_removed part all.1)
 
 outside_same : (part : Part) (raw : List ℕ) → IsPart part → raw ≡ [] → with_text part (4096, 0) raw ≡ part
@@ -105,13 +105,13 @@ unfolding with_text
 outside_same part raw kept none = ap (with_text part (4096, 0)) none ∙ outside_removed part kept.entries
 
 -- what a part shows where a cell outside it is emptied
-pub shown_outside : {T E : Type 0} (cells edited : Part) (raw : List ℕ) (shown : Result T E) (entries : T → List (Place × List ℕ)) → IsPart cells → raw ≡ [] → edited ≡ with_text cells (4096, 0) raw
+pub shown_outside : {T E : Type 0} (cells edited : Part) (raw : List ℕ) (shown : Result T E) (entries : T → List (Position × List ℕ)) → IsPart cells → raw ≡ [] → edited ≡ with_text cells (4096, 0) raw
     → IfOk shown (λ s. IsShown edited (entries s)) → IfOk shown (λ s. IsShown cells (entries s))
 shown_outside cells edited raw (Ok s) entries kept none is told = subst (λ (part : Part). IsShown part (entries s)) (is ∙ outside_same cells raw kept none) told
 shown_outside cells edited raw (Err e) entries kept none is told = tt
 
 -- a text that was put, or not
-pub added_kept : {E : Type 0} (inside after : Part) (at : Place) (cell raw : List ℕ) (r : Result (Unit {0}) E) → IsPart inside → at.0 < 4096 → at.1 < 256 → IsRaw raw → IsUtf8 raw → cell ≡ raw
-    → OnOk r (after ≡ with_text inside at cell) → OnOk r (IsStrictlySortedBy place_cmp (keys_of after)) → OnErr r (after ≡ inside) → IsPart after
+pub added_kept : {E : Type 0} (inside after : Part) (at : Position) (cell raw : List ℕ) (r : Result (Unit {0}) E) → IsPart inside → at.0 < 4096 → at.1 < 256 → IsRaw raw → IsUtf8 raw → cell ≡ raw
+    → OnOk r (after ≡ with_text inside at cell) → OnOk r (IsStrictlySortedBy position_cmp (keys_of after)) → OnErr r (after ≡ inside) → IsPart after
 added_kept inside after at cell raw (Ok x) part row column valid utf8 is put sorted same = put_kept inside after at cell raw part row column valid utf8 is put sorted
 added_kept inside after at cell raw (Err e) part row column valid utf8 is put sorted same = subst IsPart (sym same) part

@@ -17,7 +17,7 @@ use Rattle.std.proofs.lemmas.Map.Keys.{le_from_not_gt, ge_from_not_lt}
 use Rattle.std.proofs.lemmas.Map.Lookups.{exact_unsigned}
 use Rattle.std.proofs.lemmas.Map.Views.{length-le_from_below}
 use Rattle.sheet_cells.specs.Cells.{IsRaw, is_raw_byte}
-use Rattle.formula_base.specs.Ranges.{Place, place_cmp}
+use Rattle.formula_base.specs.Ranges.{Position, position_cmp}
 use Rattle.part_calc.specs.Parts.{Part}
 use Rattle.part_calc.specs.Kept.{IsEntry, IsPart}
 use Rattle.part_calc.specs.Text.{column_letters, cell_line, part_lines}
@@ -41,19 +41,19 @@ letters_length column = by (nat_lt column 26)
     by true = refl
     by false = refl
 
-line_length : (part : ℕ) (p : Place) (raw : List ℕ) → length (cell_line part (p, raw)) ≡ length (decimal part) + (1 + (cond (nat_lt p.1 26) 1 2 + length (decimal (p.0 + 1))) + (1 + (length raw + 1)))
+line_length : (part : ℕ) (p : Position) (raw : List ℕ) → length (cell_line part (p, raw)) ≡ length (decimal part) + (1 + (cond (nat_lt p.1 26) 1 2 + length (decimal (p.0 + 1))) + (1 + (length raw + 1)))
 unfolding cell_line
 line_length part p raw =
     simp length-append (let e = letters_length p.1 in omega (arith, e))
 
-pub line_is : (part : ℕ) (p : Place) (raw : List ℕ) (a b c d : ℕ) → a ≡ length (decimal part) → b ≡ cond (nat_lt p.1 26) 1 2 → c ≡ length (decimal (p.0 + 1)) → d ≡ length raw → a + b + c + d + 3 ≡ length (cell_line part (p, raw))
+pub line_is : (part : ℕ) (p : Position) (raw : List ℕ) (a b c d : ℕ) → a ≡ length (decimal part) → b ≡ cond (nat_lt p.1 26) 1 2 → c ≡ length (decimal (p.0 + 1)) → d ≡ length raw → a + b + c + d + 3 ≡ length (cell_line part (p, raw))
 line_is part p raw a b c d x y z w = let e = line_length part p raw in omega (arith, e, x, y, z, w)
 
 -- ---- all lines
 
-pub lines_turn : (part : ℕ) (total more : ℕ) (e : Place × List ℕ) (s t all : Part) → total + length (part_lines part s) ≡ length (part_lines part all) → s ≡ e ∷ t → more ≡ length (cell_line part e) → total + more + length (part_lines part t) ≡ length (part_lines part all)
+pub lines_step : (part : ℕ) (total more : ℕ) (e : Position × List ℕ) (s t all : Part) → total + length (part_lines part s) ≡ length (part_lines part all) → s ≡ e ∷ t → more ≡ length (cell_line part e) → total + more + length (part_lines part t) ≡ length (part_lines part all)
 unfolding part_lines
-lines_turn part total more e s t all told is line =
+lines_step part total more e s t all told is line =
     let split : length (flat_map (cell_line part) s) ≡ length (cell_line part e) + length (flat_map (cell_line part) t) = ap (λ (u : Part). length (flat_map (cell_line part) u)) is ∙ length-append (cell_line part e) (flat_map (cell_line part) t) in
     omega (arith, told, split, line)
 
@@ -64,9 +64,9 @@ lines_end part total s all told none =
 
 -- ---- lines that are written
 
-pub written_turn : (part : ℕ) (e : Place × List ℕ) (s t : Part) (out more all : List ℕ) → out ++ part_lines part s ≡ all → s ≡ e ∷ t → more ≡ out ++ cell_line part e → more ++ part_lines part t ≡ all
+pub written_step : (part : ℕ) (e : Position × List ℕ) (s t : Part) (out more all : List ℕ) → out ++ part_lines part s ≡ all → s ≡ e ∷ t → more ≡ out ++ cell_line part e → more ++ part_lines part t ≡ all
 unfolding part_lines
-written_turn part e s t out more all told is line =
+written_step part e s t out more all told is line =
     ap (λ (bytes : List ℕ). bytes ++ flat_map (cell_line part) t) line
     ∙ append_assoc out (cell_line part e) (flat_map (cell_line part) t)
     ∙ ap (λ (u : Part). out ++ flat_map (cell_line part) u) (sym is) ∙ told
@@ -75,7 +75,7 @@ pub written_end : (part : ℕ) (s : Part) (out all : List ℕ) → out ++ part_l
 unfolding part_lines
 written_end part s out all told none = sym (append-nil out) ∙ ap (λ (u : Part). out ++ flat_map (cell_line part) u) (sym none) ∙ told
 
-pub written_left : (e : Place × List ℕ) (s t : Part) → AllByRecursion IsEntry s → s ≡ e ∷ t → IsEntry e × AllByRecursion IsEntry t
+pub written_left : (e : Position × List ℕ) (s t : Part) → AllByRecursion IsEntry s → s ≡ e ∷ t → IsEntry e × AllByRecursion IsEntry t
 written_left e s t all is = subst (AllByRecursion IsEntry) is all
 
 -- ---- how long they can be
@@ -87,7 +87,7 @@ two : (b : Bool) → cond b 1 2 ≤ 2
 two true = omega arith
 two false = omega arith
 
-line_bound : (part : ℕ) (e : Place × List ℕ) → part < 16 → IsEntry e → length (cell_line part e) ≤ 1035
+line_bound : (part : ℕ) (e : Position × List ℕ) → part < 16 → IsEntry e → length (cell_line part e) ≤ 1035
 line_bound part e h entry =
     let line = line_length part e.0 e.1 in
     let letters = two (nat_lt e.0.1 26) in
@@ -123,10 +123,10 @@ less_from_below a b h = by (nat_cmp a b) refl
     by Greater e = absurd (let le = ge_from_not_lt a b (ap is_lt e) in omega (arith, h, le))
 
 -- a cell as one number
-number_of : Place → ℕ
+number_of : Position → ℕ
 number_of p = p.0 * 256 + p.1
 
-rises : (p q : Place) → p.1 < 256 → place_cmp p q ≡ Less → nat_cmp (number_of p) (number_of q) ≡ Less
+rises : (p q : Position) → p.1 < 256 → position_cmp p q ≡ Less → nat_cmp (number_of p) (number_of q) ≡ Less
 unfolding number_of
 rises p q h less = less_from_below (p.0 * 256 + p.1) (q.0 * 256 + q.1) (by (nat_cmp p.0 q.0) refl less)
   where
@@ -135,11 +135,11 @@ rises p q h less = less_from_below (p.0 * 256 + p.1) (q.0 * 256 + q.1) (by (nat_
     by Equal e l = let row = exact_unsigned p.0 q.0 e in let column = below_from_less p.1 q.1 l in omega (arith, row, column)
     by Greater e l = cc
 
-numbers_above : (p : Place) (cells : Part) → p.1 < 256 → AllByRecursion (λ y. place_cmp p y ≡ Less) (keys_of cells) → AllByRecursion (λ y. nat_cmp (number_of p) y ≡ Less) (map number_of (keys_of cells))
+numbers_above : (p : Position) (cells : Part) → p.1 < 256 → AllByRecursion (λ y. position_cmp p y ≡ Less) (keys_of cells) → AllByRecursion (λ y. nat_cmp (number_of p) y ≡ Less) (map number_of (keys_of cells))
 numbers_above p [] h all = tt
 numbers_above p (e ∷ cells) h all = (rises p e.0 h all.0, numbers_above p cells h all.1)
 
-numbers_sorted : (cells : Part) → AllByRecursion IsEntry cells → IsStrictlySortedBy place_cmp (keys_of cells) → IsStrictlySortedBy nat_cmp (map number_of (keys_of cells))
+numbers_sorted : (cells : Part) → AllByRecursion IsEntry cells → IsStrictlySortedBy position_cmp (keys_of cells) → IsStrictlySortedBy nat_cmp (map number_of (keys_of cells))
 unfolding IsStrictlySortedBy
 numbers_sorted [] all sorted = tt
 numbers_sorted (e ∷ cells) all sorted = (numbers_above e.0 cells (all.0).column sorted.0, numbers_sorted cells all.1 sorted.1)

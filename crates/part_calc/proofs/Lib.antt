@@ -1,8 +1,8 @@
-pub mod PlaceLaws
+pub mod PositionLaws
 pub mod TextLaws
 pub mod LocalLaws
 pub mod PartLaws
-pub mod SettleLaws
+pub mod FindLaws
 pub mod ShownLaws
 pub mod ListLaws
 pub mod ChangeLaws

@@ -6,7 +6,7 @@ use Rattle.sheet_cells.specs.Plains.{plain_of}
 use Rattle.formula_base.specs.declared.values.Value.{Value}
 use Rattle.formula_base.specs.declared.values.Value.TheVariants as value
 use Rattle.formula_base.specs.declared.expressions.Expr.{Expr}
-use Rattle.formula_base.specs.Ranges.{Place}
+use Rattle.formula_base.specs.Ranges.{Position}
 use Rattle.formula_base.specs.Evaluation.{eval_of, reads_of}
 use Rattle.sheet_formula.specs.Grammar.{formula_of}
 use Rattle.part_calc.specs.declared.contents.Content.{Content}
@@ -32,11 +32,11 @@ is_formula (Fixed v) = false
 is_formula (Formula e) = true
 
 -- the cells that it reads
-abbrev pub reads_in : Content → List Place
+abbrev pub reads_in : Content → List Position
 reads_in (Fixed v) = []
 reads_in (Formula e) = reads_of e
 
 -- its value, where the cells of the part have these values
-abbrev pub value_with : Content → (Place → Value) → Value
+abbrev pub value_with : Content → (Position → Value) → Value
 value_with (Fixed v) look = v
 value_with (Formula e) look = eval_of look e

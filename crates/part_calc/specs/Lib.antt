@@ -1,6 +1,6 @@
 pub mod Contents
 pub mod Parts
 pub mod Shown
-pub mod Settling
+pub mod Finding
 pub mod Kept
 pub mod Text

@@ -9,7 +9,7 @@ use Rattle.formula_base.specs.declared.values.Value.{Value}
 use Rattle.formula_base.specs.declared.values.Value.TheVariants.{Empty, Number, Words, Fault}
 use Rattle.formula_base.specs.declared.values.CellFault.{CellFault}
 use Rattle.formula_base.specs.declared.values.CellFault.TheVariants as fault
-use Rattle.formula_base.specs.Ranges.{Place, place_cmp}
+use Rattle.formula_base.specs.Ranges.{Position, position_cmp}
 use Rattle.part_calc.specs.Contents.{is_formula}
 use Rattle.part_calc.specs.Parts.{Part, text_at, content_at, value_at}
 
@@ -28,13 +28,13 @@ shown_value (Words text) = text
 shown_value (Fault f) = fault_name f
 
 -- what a cell shows: a formula its value, another cell its text
-unfoldable pub shown_at : Part → Place → List ℕ
+unfoldable pub shown_at : Part → Position → List ℕ
 shown_at part p = if is_formula (content_at part p) then shown_value (value_at part p) else text_at part p
 
 -- whether a cell shows another text in the new part than in the old
-abbrev pub differs : Part → Part → Place → Bool
+abbrev pub differs : Part → Part → Position → Bool
 differs old new p = not (bytes_eq (shown_at old p) (shown_at new p))
 
 -- the cells whose shown text differs, by rows and then columns; they are among those that have a text in one of the parts
-unfoldable pub changed_cells : Part → Part → List Place
-changed_cells old new = filter (differs old new) (fold (insert_key place_cmp) (keys_of old) (keys_of new))
+unfoldable pub changed_cells : Part → Part → List Position
+changed_cells old new = filter (differs old new) (fold (insert_key position_cmp) (keys_of old) (keys_of new))

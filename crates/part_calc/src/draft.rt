@@ -3,6 +3,7 @@ ghost use Rattle.std.specs.Prelude.{◌≡◌, ◌<◌, [], IfOk, OnOk, OnErr};
 ghost use Rattle.sheet_cells.specs.Cells.{IsRaw};
 ghost use Rattle.part_calc.specs.Kept.{IsPart};
 ghost use Rattle.part_calc.specs.Parts.{with_text};
+ghost use Rattle.sheet_cells.specs.declared.limits.TheConstants.{COLUMNS, ROWS};
 
 use crate::contents::Cell;
 use crate::part::{Part, put};
@@ -22,10 +23,10 @@ pub struct PartDraft {
 impl Model for PartDraft {
     ghost use Rattle.std.specs.Prelude.{List, ℕ};
     ghost use Rattle.std.specs.Coded.{coded×, coded_list, coded_ℕ};
-    ghost use Rattle.formula_base.specs.Ranges.{Place};
+    ghost use Rattle.formula_base.specs.Ranges.{Position};
     ghost use Rattle.part_calc.specs.Kept.{IsPart};
 
-    ghost Value = { List (Place × List ℕ) };
+    ghost Value = { List (Position × List ℕ) };
 
     ghost coded = { coded_list (coded× (coded× coded_ℕ coded_ℕ) (coded_list coded_ℕ)) };
 
@@ -47,8 +48,8 @@ impl PartDraft {
     /// Gives the cell the raw text, in time logarithmic in the part's cells. After `Memory` all is
     /// unchanged.
     pub fn add(&mut self, alloc: Global, at: (u32, u32), raw: &str) -> Result<(), Memory>
-        requires row { at.0 < 4096 }
-        requires column { at.1 < 256 }
+        requires row { at.0 < ROWS }
+        requires column { at.1 < COLUMNS }
         requires valid { IsRaw raw.now }
         ensures ok { OnOk result (self.new ≡ with_text self.old at raw.now) }
         ensures err { OnErr result (self.new ≡ self.old) }

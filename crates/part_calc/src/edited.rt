@@ -24,7 +24,7 @@ impl<'a> Model for Edited<'a> {
     ghost use Rattle.std.specs.Map.{keys_of};
     ghost use Rattle.std.specs.List.Sorted.{IsStrictlySortedBy};
     ghost use Rattle.std.specs.Coded.{coded×, coded_list, coded_ℕ};
-    ghost use Rattle.formula_base.specs.Ranges.{place_cmp};
+    ghost use Rattle.formula_base.specs.Ranges.{position_cmp};
     ghost use Rattle.part_calc.specs.Parts.{Part, with_text};
 
     ghost Value = { Part };
@@ -33,11 +33,11 @@ impl<'a> Model for Edited<'a> {
 
     ghost view = { λ e. with_text e.cells.now.entries e.at e.cell.now };
 
-    ghost invariant = { λ e. IsStrictlySortedBy place_cmp (keys_of e.cells.now.entries) };
+    ghost invariant = { λ e. IsStrictlySortedBy position_cmp (keys_of e.cells.now.entries) };
 }
 
 impl<'a> Edited<'a> {
-    /// The part of these cells once the cell at a place is this one.
+    /// The part of these cells once the cell at a position is this one.
     pub fn of(cells: &'a BTreeMap<(u32, u32), Cell>, at: (u32, u32), cell: &'a Cell) -> Edited<'a>
         ensures { result ≡ with_text cells.now.entries at cell.now }
     {
@@ -45,34 +45,34 @@ impl<'a> Edited<'a> {
         Edited { cells, at, cell }
     }
 
-    /// The cell at a place; None only where it has no raw text.
-    pub fn cell(&self, place: (u32, u32)) -> Option<&'a Cell>
-        ensures { MatchOption result (text_at self.now place ≡ []) (λ cell. cell.now ≡ text_at self.now place) }
+    /// The cell at a position; None only where it has no raw text.
+    pub fn cell(&self, position: (u32, u32)) -> Option<&'a Cell>
+        ensures { MatchOption result (text_at self.now position ≡ []) (λ cell. cell.now ≡ text_at self.now position) }
     {
-        if place == self.at {
+        if position == self.at {
             Some(self.cell)
         } else {
-            self.cells.get(&place)
+            self.cells.get(&position)
         }
     }
 
-    /// What the text at a place says; None only where there is none.
+    /// What the text at a position says; None only where there is none.
     #[tactic(auto, using(crate::proofs::TextLaws::empty_at))]
-    pub fn content(&self, place: (u32, u32)) -> Option<&'a Content>
-        ensures { MatchOption result (content_at self.now place ≡ Plain Empty) (λ content. content.now ≡ content_at self.now place) }
+    pub fn content(&self, position: (u32, u32)) -> Option<&'a Content>
+        ensures { MatchOption result (content_at self.now position ≡ Plain Empty) (λ content. content.now ≡ content_at self.now position) }
     {
-        match self.cell(place) {
+        match self.cell(position) {
             Some(cell) => Some(cell.content()),
             None => None,
         }
     }
 
-    /// The formula at a place.
+    /// The formula at a position.
     #[tactic(auto, using(crate::proofs::TextLaws::no_formula))]
-    pub fn formula(&self, place: (u32, u32)) -> Option<&'a Expr>
-        ensures { MatchOption result (is_formula (content_at self.now place) ≡ false) (λ expression. content_at self.now place ≡ Formula expression.now) }
+    pub fn formula(&self, position: (u32, u32)) -> Option<&'a Expr>
+        ensures { MatchOption result (is_formula (content_at self.now position) ≡ false) (λ expression. content_at self.now position ≡ Formula expression.now) }
     {
-        match self.cell(place) {
+        match self.cell(position) {
             Some(cell) => formula_of(cell),
             None => None,
         }

@@ -4,21 +4,21 @@ ghost use Rattle.calc_base.specs.Walks.{walks};
 ghost use Rattle.formula_base.specs.declared.values.Value.{Value};
 ghost use Rattle.formula_base.specs.declared.values.Value.TheVariants.{Fault};
 ghost use Rattle.formula_base.specs.declared.values.CellFault.TheVariants.{Circ};
-ghost use Rattle.formula_base.specs.Ranges.{Place};
+ghost use Rattle.formula_base.specs.Ranges.{Position};
 ghost use Rattle.part_calc.specs.Parts.{Part as Texts, reads_at, step_at, is_circular, value_at};
 
 /// A circular cell has the value `#CIRC!`, and every other cell the value of its text, where the cells
 /// that it reads have their own values by the same rule.
 pub fn values_follow()
-    ensures { (part : Texts) (p : Place) → value_at part p ≡ (if is_circular part p then Fault Circ else step_at part p (value_at part)) }
+    ensures { (part : Texts) (p : Position) → value_at part p ≡ (if is_circular part p then Fault Circ else step_at part p (value_at part)) }
 {}
 
 /// No other values keep to this rule.
 pub fn values_are_determined()
-    ensures { (part : Texts) (v : Place → Value) → ((p : Place) → v p ≡ (if is_circular part p then Fault Circ else step_at part p v)) → (p : Place) → v p ≡ value_at part p }
+    ensures { (part : Texts) (v : Position → Value) → ((p : Position) → v p ≡ (if is_circular part p then Fault Circ else step_at part p v)) → (p : Position) → v p ≡ value_at part p }
 {}
 
 /// A cell is circular exactly where walks of every length along reads begin at it.
 pub fn circular_cells_never_end()
-    ensures { (part : Texts) (p : Place) → is_circular part p ≡ true ↔ ((n : ℕ) → walks (reads_at part) n p ≡ true) }
+    ensures { (part : Texts) (p : Position) → is_circular part p ≡ true ↔ ((n : ℕ) → walks (reads_at part) n p ≡ true) }
 {}

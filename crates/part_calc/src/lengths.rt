@@ -12,33 +12,33 @@ pub fn lines_len(cells: &BTreeMap<(u32, u32), Cell>, number: u32) -> u64
     ensures { result ≡ length (part_lines number cells.now.entries) }
 {
     let mut total: u64 = 0;
-    for (place, cell) in cells {
-        total += line_len(number, *place, cell.raw());
+    for (position, cell) in cells {
+        total += line_len(number, *position, cell.raw());
     }
     total
 }
 
 /// How many bytes the line of a cell with this raw text has, as one of the part of this number: none
 /// where the text is empty.
-pub fn line_len_at(number: u32, place: (u32, u32), raw: &str) -> u64
-    ensures length { result ≡ length (line_at number place raw.now) }
+pub fn line_len_at(number: u32, position: (u32, u32), raw: &str) -> u64
+    ensures length { result ≡ length (line_at number position raw.now) }
     ensures small { result ≤ length raw.now + 45 }
 {
     if raw.is_empty() {
         0
     } else {
-        line_len(number, place, raw)
+        line_len(number, position, raw)
     }
 }
 
 // How many bytes a cell's line has.
-fn line_len(number: u32, place: (u32, u32), raw: &str) -> u64
-    ensures length { result ≡ length (cell_line number (place, raw.now)) }
+fn line_len(number: u32, position: (u32, u32), raw: &str) -> u64
+    ensures length { result ≡ length (cell_line number (position, raw.now)) }
     ensures small { result ≤ length raw.now + 45 }
 {
     let part = digits(u64::from(number));
-    let column = letters(place.1);
-    let row = digits(u64::from(place.0) + 1);
+    let column = letters(position.1);
+    let row = digits(u64::from(position.0) + 1);
     part + column + row + raw.len() as u64 + 3
 }
 

@@ -3,7 +3,7 @@
 //! - `Part` (`part`): the cells of a part; an edit, and which cells show another text after it.
 //! - `PartDraft` (`draft`): a part that is put together before anything is computed.
 //! - `recalculate` (`recalculation`): what an edit leaves, found before anything is changed.
-//! - `settle` (`settling`): the values of all formulas, by sweeps in the order of `order`.
+//! - `find_values` (`finding`): the values of all formulas, by sweeps in the order of `order`.
 //! - `Edited` (`edited`): a part as it is once a cell has another text.
 //! - `Cell`, `Content` (`contents`): a raw text and what it says.
 //! - `laws`: what the values of cells are, whatever finds them.
@@ -12,22 +12,17 @@
 mod contents;
 mod draft;
 mod edited;
+mod finding;
 mod laws;
 mod lengths;
 mod lines;
 mod order;
 mod part;
-mod places;
+mod positions;
 mod recalculation;
-mod settling;
 mod shown;
 
-pub use contents::{Cell, Content};
 pub use draft::PartDraft;
-pub use edited::Edited;
 pub use laws::{circular_cells_never_end, values_are_determined, values_follow};
 pub use lengths::{digits, line_len_at};
 pub use part::Part;
-pub use recalculation::{Recalculated, recalculate};
-pub use settling::settle;
-pub use shown::Shown;

@@ -8,7 +8,7 @@ use std::collections::BTreeSet;
 // A cell on the way: to be entered, or to be left once the cells that it reads were.
 #[derive(Clone, Copy)]
 struct Visit {
-    place: (u32, u32),
+    position: (u32, u32),
     is_left: bool,
 }
 
@@ -21,8 +21,8 @@ pub fn order(
 ) -> Result<Vec<(u32, u32)>, Memory> {
     let mut entered = BTreeSet::new(alloc);
     let mut ordered = Vec::new(alloc);
-    for place in formulas {
-        search(alloc, edited, &mut entered, &mut ordered, *place)?;
+    for position in formulas {
+        search(alloc, edited, &mut entered, &mut ordered, *position)?;
     }
     Ok(ordered)
 }
@@ -37,10 +37,10 @@ fn search(
 ) -> Result<(), Memory> {
     let mut visits = Vec::new(alloc);
     visits.push(Visit {
-        place: start,
+        position: start,
         is_left: false,
     })?;
-    for _turn in 0..u64::MAX {
+    for _step in 0..u64::MAX {
         match visits.pop() {
             Some(visit) => take(alloc, edited, entered, ordered, &mut visits, visit)?,
             None => return Ok(()),
@@ -59,21 +59,21 @@ fn take(
     visit: Visit,
 ) -> Result<(), Memory> {
     if visit.is_left {
-        ordered.push(visit.place)?;
+        ordered.push(visit.position)?;
         return Ok(());
     }
-    let Some(expression) = edited.formula(visit.place) else {
+    let Some(expression) = edited.formula(visit.position) else {
         return Ok(());
     };
-    if !entered.insert(visit.place)? {
+    if !entered.insert(visit.position)? {
         return Ok(());
     }
     visits.push(Visit {
-        place: visit.place,
+        position: visit.position,
         is_left: true,
     })?;
-    for place in &reads(alloc, expression)? {
-        push_new(entered, visits, *place)?;
+    for position in &reads(alloc, expression)? {
+        push_new(entered, visits, *position)?;
     }
     Ok(())
 }
@@ -82,11 +82,11 @@ fn take(
 fn push_new(
     entered: &BTreeSet<(u32, u32)>,
     visits: &mut Vec<Visit>,
-    place: (u32, u32),
+    position: (u32, u32),
 ) -> Result<(), Memory> {
-    if !entered.contains(&place) {
+    if !entered.contains(&position) {
         visits.push(Visit {
-            place,
+            position,
             is_left: false,
         })?;
     }

@@ -4,11 +4,12 @@ ghost use Rattle.std.specs.List.{Contains};
 ghost use Rattle.std.specs.List.Sorted.{IsStrictlySortedBy};
 ghost use Rattle.std.specs.Map.{keys_of};
 ghost use Rattle.sheet_cells.specs.Cells.{IsRaw};
-ghost use Rattle.formula_base.specs.Ranges.{Place, place_cmp};
+ghost use Rattle.formula_base.specs.Ranges.{Position, position_cmp};
 ghost use Rattle.part_calc.specs.Kept.{IsPart, IsShown};
 ghost use Rattle.part_calc.specs.Parts.{text_at, with_text};
 ghost use Rattle.part_calc.specs.Shown.{shown_at, changed_cells};
 ghost use Rattle.part_calc.specs.Text.{part_lines};
+ghost use Rattle.sheet_cells.specs.declared.limits.TheConstants.{COLUMNS, MOST_PARTS, ROWS};
 
 use crate::contents::Cell;
 use crate::lengths::lines_len;
@@ -20,7 +21,7 @@ use std::alloc::Global;
 use std::collections::BTreeMap;
 use std::marker::Model;
 
-/// The cells of one part: 4,096 rows and 256 columns, each cell a row and a column counted from 0.
+/// The cells of one part: `ROWS` rows and `COLUMNS` columns, each cell a row and a column counted from 0.
 /// Contracts see it as the raw texts of the cells that have one, by rows and then columns. What the
 /// formulas show is kept, and is always what they show when their values are found from scratch.
 #[derive(Drop)]
@@ -32,10 +33,10 @@ pub struct Part {
 impl Model for Part {
     ghost use Rattle.std.specs.Prelude.{List, ℕ};
     ghost use Rattle.std.specs.Coded.{coded×, coded_list, coded_ℕ};
-    ghost use Rattle.formula_base.specs.Ranges.{Place};
+    ghost use Rattle.formula_base.specs.Ranges.{Position};
     ghost use Rattle.part_calc.specs.Kept.{IsPart, IsShown};
 
-    ghost Value = { List (Place × List ℕ) };
+    ghost Value = { List (Position × List ℕ) };
 
     ghost coded = { coded_list (coded× (coded× coded_ℕ coded_ℕ) (coded_list coded_ℕ)) };
 
@@ -73,15 +74,15 @@ impl Part {
         at: (u32, u32),
         raw: &str,
     ) -> Result<ListOf<(u32, u32)>, Memory>
-        requires row { at.0 < 4096 }
-        requires column { at.1 < 256 }
+        requires row { at.0 < ROWS }
+        requires column { at.1 < COLUMNS }
         requires valid { IsRaw raw.now }
         ensures ok { OnOk result (self.new ≡ with_text self.old at raw.now) }
         ensures there { OnOk result (text_at self.new at ≡ raw.now) }
-        ensures elsewhere { OnOk result ((other : Place) → other ≢ at → text_at self.new other ≡ text_at self.old other) }
+        ensures elsewhere { OnOk result ((other : Position) → other ≢ at → text_at self.new other ≡ text_at self.old other) }
         ensures changed { IfOk result (λ changed. changed ≡ changed_cells self.old (with_text self.old at raw.now)) }
-        ensures exactly { IfOk result (λ changed. (p : Place) → Contains changed p ↔ (shown_at self.old p ≢ shown_at self.new p)) }
-        ensures in_order { IfOk result (λ changed. IsStrictlySortedBy place_cmp changed) }
+        ensures exactly { IfOk result (λ changed. (p : Position) → Contains changed p ↔ (shown_at self.old p ≢ shown_at self.new p)) }
+        ensures in_order { IfOk result (λ changed. IsStrictlySortedBy position_cmp changed) }
         ensures kept { OnOk result (IsPart self.new) }
         ensures err { OnErr result (self.new ≡ self.old) }
     {
@@ -111,9 +112,9 @@ impl Part {
     }
 
     /// How many bytes the part's lines have in the text of a file, as the part of this number: below
-    /// 2^31. The number is below 16.
+    /// 2^31. The number is below `MOST_PARTS`.
     pub fn text_len(&self, number: u32) -> u64
-        requires { number < 16 }
+        requires { number < MOST_PARTS }
         ensures length { result ≡ length (part_lines number self.now) }
         ensures small { result < 2 ^ 31 }
     {
@@ -136,7 +137,7 @@ pub(crate) fn put(
     cell: Cell,
 ) -> Result<(), Memory>
     ensures ok { OnOk result (cells.new.entries ≡ with_text cells.old.entries at cell) }
-    ensures ordered { OnOk result (IsStrictlySortedBy place_cmp (keys_of cells.new.entries)) }
+    ensures ordered { OnOk result (IsStrictlySortedBy position_cmp (keys_of cells.new.entries)) }
     ensures err { OnErr result (cells.new.entries ≡ cells.old.entries) }
 {
     if cell.raw().is_empty() {

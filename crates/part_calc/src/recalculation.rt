@@ -9,15 +9,16 @@ ghost use Rattle.part_calc.specs.Kept.{IsPart, IsShown, text_shown};
 
 use crate::contents::{Cell, Content};
 use crate::edited::Edited;
-use crate::places::{formulas, places};
-use crate::settling::settle;
+use crate::finding::find_values;
+use crate::positions::{formulas, positions};
 use crate::shown::{Shown, cell_text, shown_texts, text_or_none};
 use cool_base::{ListOf, Memory, TextOf};
+use sheet_cells::ROWS;
 use std::alloc::Global;
 use std::collections::BTreeMap;
 
-// A place behind the last row: a part stays as it is where a cell there is emptied.
-const OUTSIDE: (u32, u32) = (4096, 0);
+// A position behind the last row: a part stays as it is where a cell there is emptied.
+const OUTSIDE: (u32, u32) = (ROWS, 0);
 
 /// What a part shows once it was edited, and where that differs from what it showed.
 #[derive(Drop)]
@@ -27,7 +28,7 @@ pub struct Recalculated {
     pub changed: ListOf<(u32, u32)>,
 }
 
-/// What the part of these cells shows once the cell at a place is this one, where `shown` is what it
+/// What the part of these cells shows once the cell at a position is this one, where `shown` is what it
 /// shows now.
 pub fn recalculate(
     alloc: Global,
@@ -41,10 +42,10 @@ pub fn recalculate(
     ensures changed { IfOk result (λ r. r.changed ≡ changed_cells cells.now.entries (with_text cells.now.entries at cell.now)) }
 {
     let _count = cells.len();
-    let concerned = places(alloc, cells, at)?;
+    let concerned = positions(alloc, cells, at)?;
     let edited = Edited::of(cells, at, cell);
     let computed = formulas(alloc, &edited, concerned.as_slice())?;
-    let known = settle(alloc, &edited, computed.as_slice())?;
+    let known = find_values(alloc, &edited, computed.as_slice())?;
     let texts = shown_texts(alloc, &edited, computed.as_slice(), &known)?;
     let changed = changes(alloc, cells, shown, &edited, &texts, concerned.as_slice())?;
     Ok(Recalculated {
@@ -73,10 +74,10 @@ fn shown_with(
     ensures { IfOk result (λ shown. IsShown cells.now.entries shown.entries) }
 {
     let _count = cells.len();
-    let concerned = places(alloc, cells, OUTSIDE)?;
+    let concerned = positions(alloc, cells, OUTSIDE)?;
     let edited = Edited::of(cells, OUTSIDE, none);
     let computed = formulas(alloc, &edited, concerned.as_slice())?;
-    let known = settle(alloc, &edited, computed.as_slice())?;
+    let known = find_values(alloc, &edited, computed.as_slice())?;
     shown_texts(alloc, &edited, computed.as_slice(), &known)
 }
 
@@ -87,16 +88,16 @@ fn changes(
     shown: &Shown,
     edited: &Edited<'_>,
     texts: &Shown,
-    places: &[(u32, u32)],
+    positions: &[(u32, u32)],
 ) -> Result<ListOf<(u32, u32)>, Memory>
     requires before { IsShown cells.now.entries shown.now.entries }
     requires after { IsShown edited.now texts.now.entries }
-    ensures { IfOk result (λ changed. changed ≡ filter (differs cells.now.entries edited.now) places.now) }
+    ensures { IfOk result (λ changed. changed ≡ filter (differs cells.now.entries edited.now) positions.now) }
 {
     let mut changed = ListOf::new(alloc);
-    for place in places {
-        if is_changed(cells, shown, edited, texts, *place) {
-            changed.push(*place)?;
+    for position in positions {
+        if is_changed(cells, shown, edited, texts, *position) {
+            changed.push(*position)?;
         }
     }
     Ok(changed)
@@ -106,12 +107,12 @@ fn changes(
 pub fn old_text<'a>(
     cells: &'a BTreeMap<(u32, u32), Cell>,
     shown: &'a Shown,
-    place: (u32, u32),
+    position: (u32, u32),
 ) -> &'a str
     requires { IsShown cells.now.entries shown.now.entries }
-    ensures { result.now ≡ shown_at cells.now.entries place }
+    ensures { result.now ≡ shown_at cells.now.entries position }
 {
-    cell_text(cells.get(&place), shown.get(&place))
+    cell_text(cells.get(&position), shown.get(&position))
 }
 
 // Whether the cell shows another text once the part was edited.
@@ -120,16 +121,16 @@ fn is_changed(
     shown: &Shown,
     edited: &Edited<'_>,
     texts: &Shown,
-    place: (u32, u32),
+    position: (u32, u32),
 ) -> bool
     requires before { IsShown cells.now.entries shown.now.entries }
     requires after { IsShown edited.now texts.now.entries }
-    ensures { result ≡ differs cells.now.entries edited.now place }
+    ensures { result ≡ differs cells.now.entries edited.now position }
 {
     is_other_text(
-        old_text(cells, shown, place),
-        edited.cell(place),
-        texts.get(&place),
+        old_text(cells, shown, position),
+        edited.cell(position),
+        texts.get(&position),
     )
 }
 

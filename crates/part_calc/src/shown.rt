@@ -6,11 +6,11 @@ ghost use Rattle.std.specs.Option.{option_copied};
 ghost use Rattle.std.specs.Fmt.{signed_decimal};
 ghost use Rattle.formula_base.specs.declared.values.Value.TheVariants.{Fault};
 ghost use Rattle.formula_base.specs.declared.values.CellFault.TheVariants.{Circ};
-ghost use Rattle.formula_base.specs.Ranges.{Place, place_cmp};
+ghost use Rattle.formula_base.specs.Ranges.{Position, position_cmp};
 ghost use Rattle.part_calc.specs.Contents.{is_formula};
 ghost use Rattle.part_calc.specs.Parts.{content_at};
 ghost use Rattle.part_calc.specs.Shown.{shown_value, fault_name};
-ghost use Rattle.part_calc.specs.Settling.{known_at, is_listed, IsSettled};
+ghost use Rattle.part_calc.specs.Finding.{known_at, is_listed, AreFound};
 ghost use Rattle.part_calc.specs.Kept.{IsShown, text_shown};
 
 use crate::contents::{Cell, Content};
@@ -30,14 +30,14 @@ pub fn shown_texts(
     formulas: &[(u32, u32)],
     known: &BTreeMap<(u32, u32), Value>,
 ) -> Result<Shown, Memory>
-    requires settled { IsSettled edited.now known.now.entries }
-    requires covers { (p : Place) → is_formula (content_at edited.now p) ≡ true → is_listed formulas.now p ≡ true }
+    requires complete { AreFound edited.now known.now.entries }
+    requires covers { (p : Position) → is_formula (content_at edited.now p) ≡ true → is_listed formulas.now p ≡ true }
     ensures { IfOk result (λ shown. IsShown edited.now shown.entries) }
 {
     let mut shown = BTreeMap::new(alloc);
-    for place in formulas {
-        let text = formula_text(alloc, known, *place)?;
-        shown.insert(*place, text)?;
+    for position in formulas {
+        let text = formula_text(alloc, known, *position)?;
+        shown.insert(*position, text)?;
     }
     Ok(shown)
 }
@@ -66,15 +66,15 @@ pub fn text_or_none<'a>(found: Option<&'a TextOf>) -> &'a str
 }
 
 // What a formula shows, whose value is known unless it is circular.
-#[tactic(auto, unfolding(crate::specs::Settling::known_at))]
+#[tactic(auto, unfolding(crate::specs::Finding::known_at))]
 fn formula_text(
     alloc: Global,
     known: &BTreeMap<(u32, u32), Value>,
-    place: (u32, u32),
+    position: (u32, u32),
 ) -> Result<TextOf, Memory>
-    ensures { IfOk result (λ text. text ≡ shown_value (unwrap_or (known_at known.now.entries place) (Fault Circ))) }
+    ensures { IfOk result (λ text. text ≡ shown_value (unwrap_or (known_at known.now.entries position) (Fault Circ))) }
 {
-    match known.get(&place) {
+    match known.get(&position) {
         Some(value) => value_text(alloc, value),
         None => text_of(alloc, fault_name(CellFault::Circ)),
     }

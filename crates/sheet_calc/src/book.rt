@@ -3,9 +3,10 @@ ghost use Rattle.std.specs.Prelude.{◌≡◌, ◌≢◌, ◌<◌, ◌≤◌, �
 ghost use Rattle.std.specs.List.Sorted.{IsStrictlySortedBy};
 ghost use Rattle.sheet_cells.specs.Cells.{IsCell, IsRaw};
 ghost use Rattle.sheet_cells.specs.declared.cells.CellRef.{CellRef};
-ghost use Rattle.formula_base.specs.Ranges.{place_cmp};
+ghost use Rattle.formula_base.specs.Ranges.{position_cmp};
 ghost use Rattle.sheet_calc.specs.Books.{IsBook, text_of, shown_of, with_cell, changed_in, IsAmong};
 ghost use Rattle.sheet_calc.specs.FileText.{all_lines, file_text};
+ghost use Rattle.sheet_cells.specs.declared.limits.TheConstants.{MOST_PARTS};
 
 use crate::changed::Changed;
 use cool_base::Memory;
@@ -25,10 +26,10 @@ pub struct Book {
 impl Model for Book {
     ghost use Rattle.std.specs.Prelude.{ℕ, List};
     ghost use Rattle.std.specs.Coded.{coded×, coded_list, coded_ℕ};
-    ghost use Rattle.formula_base.specs.Ranges.{Place};
+    ghost use Rattle.formula_base.specs.Ranges.{Position};
     ghost use Rattle.sheet_calc.specs.Books.{IsBook};
 
-    ghost Value = { List (List (Place × List ℕ)) };
+    ghost Value = { List (List (Position × List ℕ)) };
 
     ghost coded = { coded_list (coded_list (coded× (coded× coded_ℕ coded_ℕ) (coded_list coded_ℕ))) };
 
@@ -41,7 +42,7 @@ impl Book {
     /// This many parts, in which all cells are empty.
     pub fn new(alloc: Global, parts: u32) -> Result<Book, Memory>
         requires some { 1 ≤ parts }
-        requires few { parts ≤ 16 }
+        requires few { parts ≤ MOST_PARTS }
         ensures { IfOk result (λ book. book ≡ replicate parts []) }
     {
         let mut list = Vec::new(alloc);
@@ -63,7 +64,7 @@ impl Book {
     /// may have.
     pub fn parts(&self) -> u32
         ensures count { result ≡ length self.now }
-        ensures few { result ≤ 16 }
+        ensures few { result ≤ MOST_PARTS }
         ensures kept { IsBook self.now }
     {
         self.parts.len() as u32
@@ -71,7 +72,7 @@ impl Book {
 
     /// Gives the cell the raw text, and answers the cells whose shown text differs from what it was.
     /// After `Memory` all is unchanged.
-    pub fn set(&mut self, alloc: Global, at: &CellRef, raw: &str) -> Result<Changed, Memory>
+    pub fn set(&mut self, at: &CellRef, raw: &str) -> Result<Changed, Memory>
         requires cell { IsCell (length self.old) at.now }
         requires valid { IsRaw raw.now }
         ensures ok { OnOk result (self.new ≡ with_cell self.old at.now raw.now) }
@@ -79,14 +80,15 @@ impl Book {
         ensures elsewhere { OnOk result ((other : CellRef) → other ≢ at.now → text_of self.new other ≡ text_of self.old other) }
         ensures exactly { IfOk result (λ changed. (cell : CellRef) → IsAmong changed cell ↔ (shown_of self.old cell ≢ shown_of self.new cell)) }
         ensures changed { IfOk result (λ changed. changed ≡ changed_in self.old self.new at.now.part) }
-        ensures in_order { IfOk result (λ changed. IsStrictlySortedBy place_cmp changed.places) }
+        ensures in_order { IfOk result (λ changed. IsStrictlySortedBy position_cmp changed.positions) }
         ensures err { OnErr result (self.new ≡ self.old) }
     {
+        let alloc = *self.parts.allocator();
         let part = &mut self.parts[at.part as usize];
-        let places = part.set(alloc, (at.row, at.col), raw)?;
+        let positions = part.set(alloc, (at.row, at.col), raw)?;
         Ok(Changed {
             part: at.part,
-            places,
+            positions,
         })
     }
 
@@ -126,9 +128,9 @@ impl Book {
         ensures { result ≡ length (file_text (with_cell self.now at.now raw.now)) }
     {
         let _count = self.parts();
-        let place = (at.row, at.col);
-        let old = line_len_at(at.part, place, self.raw(at));
-        let new = line_len_at(at.part, place, raw);
+        let position = (at.row, at.col);
+        let old = line_len_at(at.part, position, self.raw(at));
+        let new = line_len_at(at.part, position, raw);
         self.text_len() + new - old
     }
 
@@ -142,7 +144,7 @@ impl Book {
 
 // How many bytes the lines of all parts have.
 fn lines_len(parts: &[Part]) -> u64
-    requires { length parts.now ≤ 16 }
+    requires { length parts.now ≤ MOST_PARTS }
     ensures length { result ≡ length (all_lines 0 parts.now) }
     ensures small { result < 2 ^ 36 }
 {
@@ -155,7 +157,7 @@ fn lines_len(parts: &[Part]) -> u64
 
 // Adds the lines of all parts.
 fn write_lines(parts: &[Part], out: &mut Vec<u8>) -> Result<(), Memory>
-    requires { length parts.now ≤ 16 }
+    requires { length parts.now ≤ MOST_PARTS }
     ensures { OnOk result (out.new.items ≡ out.old.items ++ all_lines 0 parts.now) }
 {
     for number in 0..parts.len() {

@@ -6,5 +6,5 @@ use cool_base::ListOf;
 pub struct Changed {
     pub part: u32,
     /// The row and the column of each, by rows and then columns.
-    pub places: ListOf<(u32, u32)>,
+    pub positions: ListOf<(u32, u32)>,
 }

@@ -3,12 +3,14 @@ ghost use Rattle.std.specs.Prelude.{◌≡◌};
 ghost use Rattle.std.specs.List.{list_all};
 ghost use Rattle.sheet_cells.specs.Cells.{is_raw, is_raw_byte};
 
+use sheet_cells::RAW_LIMIT;
+
 /// Whether a cell may have this raw text: empty, or up to 1,024 bytes without a character below 32 and
 /// without 127.
 pub fn is_raw(raw: &str) -> bool
     ensures { result ≡ is_raw raw.now }
 {
-    raw.len() <= 1024 && are_raw_bytes(raw.as_bytes())
+    raw.len() <= RAW_LIMIT && are_raw_bytes(raw.as_bytes())
 }
 
 // Whether no byte stands for a control character.

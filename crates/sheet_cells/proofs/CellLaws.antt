@@ -23,7 +23,7 @@ pub false_from_not : (b : Bool) → (b ≡ true → ⊥) → b ≡ false
 false_from_not true h = absurd (h refl)
 false_from_not false h = refl
 
--- another cell is not at this one's place
+-- another cell is not at this one's position
 pub other_cell : (at other : CellRef) → other ≢ at → is_at (cell_cmp at) other ≡ false
 other_cell at other differs =
     false_from_not (is_at (cell_cmp at) other) (λ e. differs (sym (exact_cells at other (equal_from_is_eq (cell_cmp at other) e))))

@@ -7,6 +7,7 @@ use Rattle.std.specs.Map.{lookup, remove_entry}
 use Rattle.std.specs.BTreeMap.{is_at, insert_entry}
 use Rattle.std.specs.Coded.{Coded, coded×, coded_list, coded_ℕ, code_by}
 use Rattle.sheet_cells.specs.declared.cells.CellRef.{CellRef}
+use Rattle.sheet_cells.specs.declared.limits.TheConstants.{COLUMNS, ROWS, RAW_LIMIT}
 
 -- by part, then row, then column
 abbrev pub cell_cmp : CellRef → CellRef → Ordering
@@ -20,16 +21,16 @@ pub record Texts : Type 0 where
 -- a cell of one of these parts
 pub record IsCell (parts : ℕ) (at : CellRef) : Type 0 where
   pub part : at.part < parts
-  pub row : at.row < 4096
-  pub col : at.col < 256
+  pub row : at.row < ROWS
+  pub col : at.col < COLUMNS
 
 -- no byte of a raw text is below 32 or is 127; in UTF-8 these bytes stand for these characters alone
 abbrev pub is_raw_byte : ℕ → Bool
 is_raw_byte c = nat_le 32 c && not (nat_eq c 127)
 
--- a raw text that a cell may have: empty, or up to 1,024 bytes without control characters
+-- a raw text that a cell may have: empty, or up to 1,024 (`RAW_LIMIT`) bytes without control characters
 abbrev pub is_raw : List ℕ → Bool
-is_raw raw = nat_le (length raw) 1024 && list_all is_raw_byte raw
+is_raw raw = nat_le (length raw) RAW_LIMIT && list_all is_raw_byte raw
 
 abbrev pub IsRaw : List ℕ → Type 0
 IsRaw raw = IsTrue (is_raw raw)

@@ -1,6 +1,7 @@
 //! `Cells`: the raw texts of a document by cell.
 ghost use Rattle.std.specs.Prelude.{◌≡◌, ◌≢◌, ◌≤◌, [], OnOk, OnErr, IfOk};
 
+use crate::limits::MOST_PARTS;
 use cool_base::{Memory, TextOf};
 use std::alloc::Global;
 use std::collections::BTreeMap;
@@ -11,15 +12,16 @@ use std::marker::Model;
 #[derive(Clone, Copy, Debug, PartialEq, Eq, PartialOrd, Ord)]
 pub struct CellRef {
     pub part: u32,
-    /// Below 4,096.
+    /// Below `ROWS`.
     pub row: u32,
-    /// Below 256.
+    /// Below `COLUMNS`.
     pub col: u32,
 }
 
 /// The raw texts of a document of 1 to 16 parts, by cell. A cell whose raw text is empty has none.
 #[derive(Drop)]
 pub struct Cells {
+    alloc: Global,
     parts: u32,
     texts: BTreeMap<CellRef, TextOf>,
 }
@@ -41,15 +43,19 @@ impl Cells {
     /// `parts` parts in which every raw text is empty.
     pub fn new(alloc: Global, parts: u32) -> Result<Cells, Memory>
         requires some { 1 ≤ parts }
-        requires few { parts ≤ 16 }
+        requires few { parts ≤ MOST_PARTS }
         ensures { IfOk result (λ cells. cells ≡ record { parts = parts; texts = [] }) }
     {
         let texts = BTreeMap::new(alloc);
-        Ok(Cells { parts, texts })
+        Ok(Cells {
+            alloc,
+            parts,
+            texts,
+        })
     }
 
     /// Gives the cell the raw text. After `Memory` all is unchanged.
-    pub fn set(&mut self, alloc: Global, at: &CellRef, raw: &str) -> Result<(), Memory>
+    pub fn set(&mut self, at: &CellRef, raw: &str) -> Result<(), Memory>
         requires cell { IsCell self.old.parts at.now }
         requires valid { IsRaw raw.now }
         ensures ok { OnOk result (self.new ≡ record self.old { texts = with_text self.old.texts at.now raw.now }) }
@@ -61,7 +67,7 @@ impl Cells {
             let _ = self.texts.remove(at);
             return Ok(());
         }
-        let text = TextOf::of(String::from_str(alloc, raw)?);
+        let text = TextOf::of(String::from_str(self.alloc, raw)?);
         self.texts.insert(*at, text)?;
         Ok(())
     }

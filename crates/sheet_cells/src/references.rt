@@ -1,8 +1,9 @@
 //! Names of cells: one or two letters for the column, and digits for the row.
 ghost use Rattle.std.specs.Prelude.{◌≡◌, ◌≤◌, length};
 ghost use Rattle.std.specs.List.{list_all, prefix_len};
-ghost use Rattle.sheet_cells.specs.References.{is_letter, letter_number, column_number, column_of, row_of, cell_of, reference};
+ghost use Rattle.sheet_cells.specs.References.{is_name_letter, letter_number, column_number, column_of, row_of, cell_of, reference};
 
+use crate::limits::{COLUMNS, ROWS};
 use cool_base::read_number;
 
 /// The row and the column, counted from 0, of the cell that the text names, as `a1` or `IV4096`.
@@ -12,12 +13,12 @@ pub fn read_ref(text: &str) -> Option<(u32, u32)>
 {
     let bytes = text.as_bytes();
     let letters = leading_letters(bytes);
-    place_of(&bytes[..letters], &bytes[letters..])
+    position_of(&bytes[..letters], &bytes[letters..])
 }
 
 /// The row and the column, counted from 0, that digits and letters name; None exactly where they
 /// name no cell.
-pub fn place_of(letters: &[u8], digits: &[u8]) -> Option<(u32, u32)>
+pub fn position_of(letters: &[u8], digits: &[u8]) -> Option<(u32, u32)>
     ensures { result ≡ cell_of letters.now digits.now }
 {
     let row = row(digits)?;
@@ -26,25 +27,25 @@ pub fn place_of(letters: &[u8], digits: &[u8]) -> Option<(u32, u32)>
 }
 
 /// Whether the byte is a letter, A to Z or a to z.
-pub fn is_letter(byte: u8) -> bool
-    ensures { result ≡ is_letter byte }
+pub fn is_name_letter(byte: u8) -> bool
+    ensures { result ≡ is_name_letter byte }
 {
     (65 <= byte && byte <= 90) || (97 <= byte && byte <= 122)
 }
 
 /// How many letters the text begins with.
 pub fn leading_letters(text: &[u8]) -> usize
-    ensures count { result ≡ prefix_len is_letter text.now }
+    ensures count { result ≡ prefix_len is_name_letter text.now }
     ensures within { result ≤ length text.now }
 {
-    text.iter().take_while(|byte| is_letter(**byte)).count()
+    text.iter().take_while(|byte| is_name_letter(**byte)).count()
 }
 
 // Whether each byte is a letter.
 fn are_letters(letters: &[u8]) -> bool
-    ensures { result ≡ list_all is_letter letters.now }
+    ensures { result ≡ list_all is_name_letter letters.now }
 {
-    letters.iter().all(|letter| is_letter(*letter))
+    letters.iter().all(|letter| is_name_letter(*letter))
 }
 
 // The row that the digits name.
@@ -54,7 +55,7 @@ fn row(digits: &[u8]) -> Option<u32>
     if digits.is_empty() || digits[0] < b'1' {
         return None;
     }
-    let number = read_number(digits, 4, 4096)?;
+    let number = read_number(digits, 4, u64::from(ROWS))?;
     Some((number as u32).saturating_sub(1))
 }
 
@@ -66,7 +67,7 @@ fn column(letters: &[u8]) -> Option<u32>
         return None;
     }
     let number = column_number(letters);
-    if number <= 256 {
+    if number <= COLUMNS {
         Some(number.saturating_sub(1))
     } else {
         None

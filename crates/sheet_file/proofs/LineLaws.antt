@@ -10,9 +10,9 @@ use Rattle.std.proofs.lemmas.Option.{cond_some, option_and_then_some, same_Some}
 use Rattle.cool_base.specs.Numbers.{number, is_decimal, decimal_value}
 use Rattle.cool_words.specs.Words.{cut_at}
 use Rattle.sheet_cells.specs.Cells.{IsCell, IsRaw, is_raw}
-use Rattle.sheet_cells.specs.References.{is_letter, column_number, column_of, row_of, reference}
-use Rattle.formula_base.specs.Ranges.{Place}
-use Rattle.sheet_file.specs.Lines.{has_leading_zero, plain_number, place_named, raw_written, Cell, cell_with, cell_by, cell_in, cell_of_text}
+use Rattle.sheet_cells.specs.References.{is_name_letter, column_number, column_of, row_of, reference}
+use Rattle.formula_base.specs.Ranges.{Position}
+use Rattle.sheet_file.specs.Lines.{has_leading_zero, plain_number, position_named, raw_written, Cell, cell_with, cell_by, cell_in, cell_of_text}
 use Rattle.sheet_file.proofs.CutLaws.{IsCut, cut_is}
 
 -- a number that is read is within its limit
@@ -31,7 +31,7 @@ plain_is limit word n h = by (has_leading_zero word) refl h
     by true is e = cc
     by false is e = (refl, e)
 
-pub named_is : (word : List ℕ) (p : Place) → place_named word ≡ Some p → (list_all (λ c. nat_lt c 97) word ≡ true) × (reference word ≡ Some p)
+pub named_is : (word : List ℕ) (p : Position) → position_named word ≡ Some p → (list_all (λ c. nat_lt c 97) word ≡ true) × (reference word ≡ Some p)
 named_is word p h = by (list_all (λ c. nat_lt c 97) word) refl h
   where
     by : (b : Bool) → list_all (λ c. nat_lt c 97) word ≡ b → cond b (reference word) None ≡ Some p → (b ≡ true) × (reference word ≡ Some p)
@@ -79,18 +79,18 @@ pub record IsSaid (parts : ℕ) (text : List ℕ) (cell : Cell) : Type 0 where
   pub front : IsCut 32 text part behind
   pub back : IsCut 32 behind name cell.1
   pub number : plain_number (parts - 1) part ≡ Some cell.0.part
-  pub place : place_named name ≡ Some (cell.0.row, cell.0.col)
+  pub position : position_named name ≡ Some (cell.0.row, cell.0.col)
   pub some : 1 ≤ length cell.1
   pub raw : IsRaw cell.1
   pub utf8 : IsTrue (is_utf8 cell.1)
 
-written_is : (parts : ℕ) (text part name behind raw : List ℕ) (p : ℕ) (place : Place) (cell : Cell) → cut_at 32 text ≡ Some (part, behind) → cut_at 32 behind ≡ Some (name, raw) → plain_number (parts - 1) part ≡ Some p → place_named name ≡ Some place
-    → option_map (cell_with p place) (raw_written raw) ≡ Some cell → IsSaid parts text cell
-written_is parts text part name behind raw p place cell one two number named h = by (nat_le 1 (length raw) && is_raw raw && is_utf8 raw) refl h
+written_is : (parts : ℕ) (text part name behind raw : List ℕ) (p : ℕ) (position : Position) (cell : Cell) → cut_at 32 text ≡ Some (part, behind) → cut_at 32 behind ≡ Some (name, raw) → plain_number (parts - 1) part ≡ Some p → position_named name ≡ Some position
+    → option_map (cell_with p position) (raw_written raw) ≡ Some cell → IsSaid parts text cell
+written_is parts text part name behind raw p position cell one two number named h = by (nat_le 1 (length raw) && is_raw raw && is_utf8 raw) refl h
   where
-    by : (b : Bool) → nat_le 1 (length raw) && is_raw raw && is_utf8 raw ≡ b → option_map (cell_with p place) (cond b (Some raw) None) ≡ Some cell → IsSaid parts text cell
+    by : (b : Bool) → nat_le 1 (length raw) && is_raw raw && is_utf8 raw ≡ b → option_map (cell_with p position) (cond b (Some raw) None) ≡ Some cell → IsSaid parts text cell
     by true valid e =
-        let same : cell_with p place raw ≡ cell = same_Some (cell_with p place raw) cell e in
+        let same : cell_with p position raw ≡ cell = same_Some (cell_with p position raw) cell e in
         let first = and_parts (nat_le 1 (length raw) && is_raw raw) (is_utf8 raw) valid in
         let second = and_parts (nat_le 1 (length raw)) (is_raw raw) first.0 in
         subst (IsSaid parts text) same (record {
@@ -100,7 +100,7 @@ written_is parts text part name behind raw p place cell one two number named h =
           front = cut_is 32 text part behind one;
           back = cut_is 32 behind name raw two;
           number = number;
-          place = named;
+          position = named;
           some = leb-true 1 (length raw) second.0;
           raw = second.1;
           utf8 = first.1;
@@ -113,10 +113,10 @@ said_is parts text cell h =
     (λ one cut inner.
     option_and_then_some (cell_by parts one.0) (cut_at 32 one.1) cell inner
     (λ two again more.
-    option_and_then_some (λ p. option_and_then (λ place. option_map (cell_with p place) (raw_written two.1)) (place_named two.0)) (plain_number (parts - 1) one.0) cell more
+    option_and_then_some (λ p. option_and_then (λ position. option_map (cell_with p position) (raw_written two.1)) (position_named two.0)) (plain_number (parts - 1) one.0) cell more
     (λ p number left.
-    option_and_then_some (λ place. option_map (cell_with p place) (raw_written two.1)) (place_named two.0) cell left
-    (λ place named last. written_is parts text one.0 two.0 one.1 two.1 p place cell cut again number named last))))
+    option_and_then_some (λ position. option_map (cell_with p position) (raw_written two.1)) (position_named two.0) cell left
+    (λ position named last. written_is parts text one.0 two.0 one.1 two.1 p position cell cut again number named last))))
 
 -- the row and the column of a name
 row_small : (digits : List ℕ) (row : ℕ) → row_of digits ≡ Some row → row < 4096
@@ -129,24 +129,24 @@ row_small digits row h = by (nat_le 49 (slice_index digits 0)) (number 4 4096 di
 
 column_small : (letters : List ℕ) (column : ℕ) → column_of letters ≡ Some column → column < 256
 column_small letters column h =
-    let hit = cond_some (nat_le 1 (length letters) && nat_le (length letters) 2 && list_all is_letter letters && nat_le (column_number letters) 256) (column_number letters - 1) column h in
-    let last = and_parts (nat_le 1 (length letters) && nat_le (length letters) 2 && list_all is_letter letters) (nat_le (column_number letters) 256) hit.0 in
+    let hit = cond_some (nat_le 1 (length letters) && nat_le (length letters) 2 && list_all is_name_letter letters && nat_le (column_number letters) 256) (column_number letters - 1) column h in
+    let last = and_parts (nat_le 1 (length letters) && nat_le (length letters) 2 && list_all is_name_letter letters) (nat_le (column_number letters) 256) hit.0 in
     let small = leb-true (column_number letters) 256 last.1 in
     let same = hit.1 in
     omega (arith, small, same)
 
-pub reference_small : (word : List ℕ) (p : Place) → reference word ≡ Some p → (p.0 < 4096) × (p.1 < 256)
-reference_small word p h = by (row_of (drop (prefix_len is_letter word) word)) refl (column_of (take (prefix_len is_letter word) word)) refl h
+pub reference_small : (word : List ℕ) (p : Position) → reference word ≡ Some p → (p.0 < 4096) × (p.1 < 256)
+reference_small word p h = by (row_of (drop (prefix_len is_name_letter word) word)) refl (column_of (take (prefix_len is_name_letter word) word)) refl h
   where
-    by : (r : Option ℕ) → row_of (drop (prefix_len is_letter word) word) ≡ r → (k : Option ℕ) → column_of (take (prefix_len is_letter word) word) ≡ k → option_and_then (λ row. option_map (λ column. (row, column)) k) r ≡ Some p → (p.0 < 4096) × (p.1 < 256)
+    by : (r : Option ℕ) → row_of (drop (prefix_len is_name_letter word) word) ≡ r → (k : Option ℕ) → column_of (take (prefix_len is_name_letter word) word) ≡ k → option_and_then (λ row. option_map (λ column. (row, column)) k) r ≡ Some p → (p.0 < 4096) × (p.1 < 256)
     by None ris k kis e = cc
     by (Some row) ris None kis e = cc
     by (Some row) ris (Some column) kis e =
         let same : (row, column) ≡ p = same_Some (row, column) p e in
-        subst (λ (q : Place). (q.0 < 4096) × (q.1 < 256)) same (row_small (drop (prefix_len is_letter word) word) row ris, column_small (take (prefix_len is_letter word) word) column kis)
+        subst (λ (q : Position). (q.0 < 4096) × (q.1 < 256)) same (row_small (drop (prefix_len is_name_letter word) word) row ris, column_small (take (prefix_len is_name_letter word) word) column kis)
 
 pub said_cell : (parts : ℕ) (text : List ℕ) (cell : Cell) → 1 ≤ parts → IsSaid parts text cell → IsCell parts cell.0
 said_cell parts text cell some said =
     let number = number_small 2 (parts - 1) said.part cell.0.part (plain_is (parts - 1) said.part cell.0.part said.number).1 in
-    let place = reference_small said.name (cell.0.row, cell.0.col) (named_is said.name (cell.0.row, cell.0.col) said.place).1 in
-    record { part = omega (arith, number); row = place.0; col = place.1 }
+    let position = reference_small said.name (cell.0.row, cell.0.col) (named_is said.name (cell.0.row, cell.0.col) said.position).1 in
+    record { part = omega (arith, number); row = position.0; col = position.1 }

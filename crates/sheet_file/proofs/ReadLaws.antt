@@ -11,7 +11,7 @@ use Rattle.std.proofs.lemmas.Option.{same_Some, none-some, option_and_then_some}
 use Rattle.cool_words.specs.Words.{cut_at}
 use Rattle.sheet_cells.specs.declared.cells.CellRef.{CellRef}
 use Rattle.part_calc.specs.Parts.{with_text}
-use Rattle.sheet_calc.specs.Books.{Parts, place_of, part_at, with_cell}
+use Rattle.sheet_calc.specs.Books.{Parts, position_of, part_at, with_cell}
 use Rattle.sheet_file.specs.declared.fault.BookFault.TheVariants.{NoHeader, BadLine, OutOfOrder}
 use Rattle.sheet_file.specs.Lines.{Cell, lines_of, plain_number, some_parts, parts_in, parts_of_text, parts_said, cell_of_text, cell_said, first_said}
 use Rattle.sheet_file.specs.BookFile.{comes_after, first_fault, with_said, unless_fault, with_lines, cells_read, parts_read, header_fault, lines_read}
@@ -93,7 +93,7 @@ lines_done parts n draft before (c ∷ bytes) none = absurd (omega arith)
 
 pub same_length : (draft : Parts) (at : CellRef) (raw : List ℕ) → length (with_cell draft at raw) ≡ length draft
 unfolding with_cell
-same_length draft at raw = length-set draft at.part (with_text (part_at draft at.part) (place_of at) raw)
+same_length draft at raw = length-set draft at.part (with_text (part_at draft at.part) (position_of at) raw)
 
 -- ---- the second line
 

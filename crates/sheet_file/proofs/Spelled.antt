@@ -11,12 +11,12 @@ use Rattle.std.proofs.lemmas.Option.{same_Some, option_and_then_some}
 use Rattle.std.proofs.lemmas.Str.{IsUtf8-from_is_utf8}
 use Rattle.cool_words.specs.Words.{cut_at, with_front}
 use Rattle.sheet_cells.specs.Cells.{is_raw_byte}
-use Rattle.sheet_cells.specs.References.{is_letter}
-use Rattle.formula_base.specs.Ranges.{Place}
+use Rattle.sheet_cells.specs.References.{is_name_letter}
+use Rattle.formula_base.specs.Ranges.{Position}
 use Rattle.part_calc.specs.Kept.{IsEntry}
 use Rattle.part_calc.specs.Text.{column_letters, reference_text, cell_line}
-use Rattle.sheet_calc.specs.Books.{place_of}
-use Rattle.sheet_file.specs.Lines.{in_front, lines_of, before_newline, place_named, raw_written, Cell, cell_with, cell_by, cell_in, cell_of_text, cell_said}
+use Rattle.sheet_calc.specs.Books.{position_of}
+use Rattle.sheet_file.specs.Lines.{in_front, lines_of, before_newline, position_named, raw_written, Cell, cell_with, cell_by, cell_in, cell_of_text, cell_said}
 use Rattle.sheet_file.proofs.CutLaws.{cut_is, cut_join, no_lines, line_step, text_cut}
 use Rattle.sheet_file.proofs.LineLaws.{IsSaid, said_is, said_cell, raw_some}
 use Rattle.sheet_file.proofs.Words.{digits_of, plain_spelled, plain_written, column_capitals, name_spelled, name_written, join_all}
@@ -24,20 +24,20 @@ use Rattle.sheet_file.proofs.Words.{digits_of, plain_spelled, plain_written, col
 -- a cell that a file can have a line of
 pub record IsWritable (parts : ℕ) (cell : Cell) : Type 0 where
   pub part : cell.0.part < parts
-  pub entry : IsEntry (place_of cell.0, cell.1)
+  pub entry : IsEntry (position_of cell.0, cell.1)
 
 -- its line
 abbrev pub line_of : Cell → List ℕ
-line_of cell = cell_line cell.0.part (place_of cell.0, cell.1)
+line_of cell = cell_line cell.0.part (position_of cell.0, cell.1)
 
 text_of : Cell → List ℕ
-text_of cell = decimal cell.0.part ++ 32 ∷ (reference_text (place_of cell.0) ++ 32 ∷ cell.1)
+text_of cell = decimal cell.0.part ++ 32 ∷ (reference_text (position_of cell.0) ++ 32 ∷ cell.1)
 
 line_split : (cell : Cell) → line_of cell ≡ text_of cell ++ 10 ∷ []
 unfolding text_of cell_line
 line_split cell =
-    sym (append_assoc (decimal cell.0.part) (32 ∷ (reference_text (place_of cell.0) ++ 32 ∷ cell.1)) (10 ∷ [])
-    ∙ ap (λ (t : List ℕ). decimal cell.0.part ++ 32 ∷ t) (append_assoc (reference_text (place_of cell.0)) (32 ∷ cell.1) (10 ∷ [])))
+    sym (append_assoc (decimal cell.0.part) (32 ∷ (reference_text (position_of cell.0) ++ 32 ∷ cell.1)) (10 ∷ [])
+    ∙ ap (λ (t : List ℕ). decimal cell.0.part ++ 32 ∷ t) (append_assoc (reference_text (position_of cell.0)) (32 ∷ cell.1) (10 ∷ [])))
 
 -- ---- texts without a byte
 
@@ -58,7 +58,7 @@ weaker p q step (c ∷ xs) h =
 pub digit_other : (c : ℕ) → is_ascii_digit c ≡ true → (not (eqb c 32) ≡ true) × (not (eqb c 10) ≡ true)
 digit_other c h = (grind (arith, nat_tests), grind (arith, nat_tests))
 
-letter_other : (c : ℕ) → is_letter c ≡ true → (not (eqb c 32) ≡ true) × (not (eqb c 10) ≡ true)
+letter_other : (c : ℕ) → is_name_letter c ≡ true → (not (eqb c 32) ≡ true) × (not (eqb c 10) ≡ true)
 letter_other c h = (grind (arith, nat_tests), grind (arith, nat_tests))
 
 raw_other : (c : ℕ) → is_raw_byte c ≡ true → not (eqb c 10) ≡ true
@@ -67,10 +67,10 @@ raw_other c h = grind (arith, nat_tests)
 pub digits_clean : (n byte : ℕ) → n < 2 ^ 64 → ((c : ℕ) → is_ascii_digit c ≡ true → not (eqb c byte) ≡ true) → list_all (λ c. not (eqb c byte)) (decimal n) ≡ true
 digits_clean n byte small step = weaker is_ascii_digit (λ c. not (eqb c byte)) step (decimal n) (digits_of n small)
 
-name_clean : (p : Place) (byte : ℕ) → p.0 < 4096 → p.1 < 256 → ((c : ℕ) → is_ascii_digit c ≡ true → not (eqb c byte) ≡ true) → ((c : ℕ) → is_letter c ≡ true → not (eqb c byte) ≡ true) → list_all (λ c. not (eqb c byte)) (reference_text p) ≡ true
+name_clean : (p : Position) (byte : ℕ) → p.0 < 4096 → p.1 < 256 → ((c : ℕ) → is_ascii_digit c ≡ true → not (eqb c byte) ≡ true) → ((c : ℕ) → is_name_letter c ≡ true → not (eqb c byte) ≡ true) → list_all (λ c. not (eqb c byte)) (reference_text p) ≡ true
 name_clean p byte row column digit letter =
     join_all (λ c. not (eqb c byte)) (column_letters p.1) (decimal (p.0 + 1))
-    (weaker is_letter (λ c. not (eqb c byte)) letter (column_letters p.1) (column_capitals p.1 column).letters)
+    (weaker is_name_letter (λ c. not (eqb c byte)) letter (column_letters p.1) (column_capitals p.1 column).letters)
     (digits_clean (p.0 + 1) byte (omega (arith, row)) digit)
 
 text_clean : (cell : Cell) (parts : ℕ) → parts ≤ 16 → IsWritable parts cell → cut_at 10 (text_of cell) ≡ None
@@ -79,11 +79,11 @@ text_clean cell parts few is =
     let row = is.entry.row in
     let part : cell.0.part < 2 ^ 64 = let low = is.part in omega (arith, few, low) in
     let raw : list_all is_raw_byte cell.1 ≡ true = (and_parts (nat_le (length cell.1) 1024) (list_all is_raw_byte cell.1) is.entry.raw).1 in
-    clean_from 10 (decimal cell.0.part ++ 32 ∷ (reference_text (place_of cell.0) ++ 32 ∷ cell.1))
-    (join_all (λ c. not (eqb c 10)) (decimal cell.0.part) (32 ∷ (reference_text (place_of cell.0) ++ 32 ∷ cell.1))
+    clean_from 10 (decimal cell.0.part ++ 32 ∷ (reference_text (position_of cell.0) ++ 32 ∷ cell.1))
+    (join_all (λ c. not (eqb c 10)) (decimal cell.0.part) (32 ∷ (reference_text (position_of cell.0) ++ 32 ∷ cell.1))
     (digits_clean cell.0.part 10 part (λ c d. (digit_other c d).1))
-    (join_all (λ c. not (eqb c 10)) (reference_text (place_of cell.0)) (32 ∷ cell.1)
-    (name_clean (place_of cell.0) 10 is.entry.row is.entry.column (λ c d. (digit_other c d).1) (λ c d. (letter_other c d).1))
+    (join_all (λ c. not (eqb c 10)) (reference_text (position_of cell.0)) (32 ∷ cell.1)
+    (name_clean (position_of cell.0) 10 is.entry.row is.entry.column (λ c d. (digit_other c d).1) (λ c d. (letter_other c d).1))
     (weaker is_raw_byte (λ c. not (eqb c 10)) raw_other cell.1 raw)))
 
 -- ---- what is written is read
@@ -93,18 +93,18 @@ unfolding text_of
 text_read cell parts few is =
     let at = cell.0 in
     let raw = cell.1 in
-    let name = reference_text (place_of cell.0) in
+    let name = reference_text (position_of cell.0) in
     let low = is.part in
     let small : cell.0.part < 2 ^ 64 = omega (arith, few, low) in
     let first : cut_at 32 (decimal at.part ++ 32 ∷ (name ++ 32 ∷ raw)) ≡ Some (decimal at.part, name ++ 32 ∷ raw) =
     cut_join 32 (decimal at.part) (name ++ 32 ∷ raw) (clean_from 32 (decimal at.part) (digits_clean at.part 32 small (λ c d. (digit_other c d).0))) in
     let second : cut_at 32 (name ++ 32 ∷ raw) ≡ Some (name, raw) =
-    cut_join 32 name raw (clean_from 32 name (name_clean (place_of cell.0) 32 is.entry.row is.entry.column (λ c d. (digit_other c d).0) (λ c d. (letter_other c d).0))) in
+    cut_join 32 name raw (clean_from 32 name (name_clean (position_of cell.0) 32 is.entry.row is.entry.column (λ c d. (digit_other c d).0) (λ c d. (letter_other c d).0))) in
     ap (option_and_then (cell_in parts)) first
     ∙ ap (option_and_then (cell_by parts (decimal at.part))) second
-    ∙ ap (option_and_then (λ p. option_and_then (λ place. option_map (cell_with p place) (raw_written raw)) (place_named name))) (plain_written (parts - 1) at.part (omega (arith, low)) (omega (arith, few, low)))
-    ∙ ap (option_and_then (λ place. option_map (cell_with at.part place) (raw_written raw))) (name_written (place_of cell.0) is.entry.row is.entry.column)
-    ∙ ap (option_map (cell_with at.part (place_of cell.0))) (raw_some raw (IsUtf8-from_is_utf8 raw is.entry.utf8) is.entry.some is.entry.raw)
+    ∙ ap (option_and_then (λ p. option_and_then (λ position. option_map (cell_with p position) (raw_written raw)) (position_named name))) (plain_written (parts - 1) at.part (omega (arith, low)) (omega (arith, few, low)))
+    ∙ ap (option_and_then (λ position. option_map (cell_with at.part position) (raw_written raw))) (name_written (position_of cell.0) is.entry.row is.entry.column)
+    ∙ ap (option_map (cell_with at.part (position_of cell.0))) (raw_some raw (IsUtf8-from_is_utf8 raw is.entry.utf8) is.entry.some is.entry.raw)
 
 pub line_read : (cell : Cell) (parts : ℕ) → parts ≤ 16 → IsWritable parts cell → cell_said parts (line_of cell) ≡ Some cell
 unfolding cell_said
@@ -132,7 +132,7 @@ text_spelled cell parts text few said =
     said.front.joined
     ∙ ap (λ (t : List ℕ). said.part ++ 32 ∷ t) said.back.joined
     ∙ ap (λ (t : List ℕ). t ++ 32 ∷ (said.name ++ 32 ∷ cell.1)) (sym (plain_spelled (parts - 1) said.part cell.0.part (omega (arith, few)) said.number))
-    ∙ ap (λ (t : List ℕ). decimal cell.0.part ++ 32 ∷ (t ++ 32 ∷ cell.1)) (sym (name_spelled said.name (place_of cell.0) said.place))
+    ∙ ap (λ (t : List ℕ). decimal cell.0.part ++ 32 ∷ (t ++ 32 ∷ cell.1)) (sym (name_spelled said.name (position_of cell.0) said.position))
 
 pub record IsLineOf (parts : ℕ) (line : List ℕ) (cell : Cell) : Type 0 where
   pub spelled : line ≡ line_of cell

@@ -16,10 +16,10 @@ use Rattle.std.proofs.lemmas.Option.{cond_some, same_Some}
 use Rattle.std.proofs.lemmas.Str.Parse.{IsDigitsTest, IsNumeralModel, numerals_by_value}
 use Rattle.cool_base.specs.Numbers.{number, is_decimal, decimal_value}
 use Rattle.cool_base.proofs.NumberLemmas.{number-decimal}
-use Rattle.sheet_cells.specs.References.{is_letter, letter_number, column_number, column_of, row_of, cell_of, reference}
-use Rattle.formula_base.specs.Ranges.{Place}
+use Rattle.sheet_cells.specs.References.{is_name_letter, letter_number, column_number, column_of, row_of, cell_of, reference}
+use Rattle.formula_base.specs.Ranges.{Position}
 use Rattle.part_calc.specs.Text.{column_letters, reference_text}
-use Rattle.sheet_file.specs.Lines.{has_leading_zero, plain_number, place_named}
+use Rattle.sheet_file.specs.Lines.{has_leading_zero, plain_number, position_named}
 use Rattle.sheet_file.proofs.LineLaws.{plain_is, named_is}
 
 tells_digits : IsDigitsTest (λ ds. list_all is_ascii_digit ds ≡ true)
@@ -76,7 +76,7 @@ record IsCapital (c : ℕ) : Type 0 where
   pub low : 65 ≤ c
   pub high : c ≤ 90
 
-capital : (c : ℕ) → is_letter c ≡ true → nat_lt c 97 ≡ true → IsCapital c
+capital : (c : ℕ) → is_name_letter c ≡ true → nat_lt c 97 ≡ true → IsCapital c
 capital c letter small = record { low = grind (arith, nat_tests); high = grind (arith, nat_tests) }
 
 capital_number : (c : ℕ) → IsCapital c → letter_number c ≡ c - 64
@@ -104,21 +104,21 @@ two_letters a b first last =
 column_spelled : (letters : List ℕ) (column : ℕ) → column_of letters ≡ Some column → list_all (λ c. nat_lt c 97) letters ≡ true → column_letters column ≡ letters
 column_spelled [] column h small = cc
 column_spelled (a ∷ []) column h small =
-    let hit = cond_some (nat_le 1 1 && nat_le 1 2 && list_all is_letter (a ∷ []) && nat_le (column_number (a ∷ [])) 256) (column_number (a ∷ []) - 1) column h in
-    let outer = and_parts (nat_le 1 1 && nat_le 1 2 && list_all is_letter (a ∷ [])) (nat_le (column_number (a ∷ [])) 256) hit.0 in
-    let letters = (and_parts (nat_le 1 1 && nat_le 1 2) (list_all is_letter (a ∷ [])) outer.0).1 in
-    ap column_letters (sym hit.1) ∙ one_letter a (capital a (and_parts (is_letter a) true letters).0 (and_parts (nat_lt a 97) true small).0)
+    let hit = cond_some (nat_le 1 1 && nat_le 1 2 && list_all is_name_letter (a ∷ []) && nat_le (column_number (a ∷ [])) 256) (column_number (a ∷ []) - 1) column h in
+    let outer = and_parts (nat_le 1 1 && nat_le 1 2 && list_all is_name_letter (a ∷ [])) (nat_le (column_number (a ∷ [])) 256) hit.0 in
+    let letters = (and_parts (nat_le 1 1 && nat_le 1 2) (list_all is_name_letter (a ∷ [])) outer.0).1 in
+    ap column_letters (sym hit.1) ∙ one_letter a (capital a (and_parts (is_name_letter a) true letters).0 (and_parts (nat_lt a 97) true small).0)
 column_spelled (a ∷ b ∷ []) column h small =
-    let hit = cond_some (nat_le 1 2 && nat_le 2 2 && list_all is_letter (a ∷ b ∷ []) && nat_le (column_number (a ∷ b ∷ [])) 256) (column_number (a ∷ b ∷ []) - 1) column h in
-    let outer = and_parts (nat_le 1 2 && nat_le 2 2 && list_all is_letter (a ∷ b ∷ [])) (nat_le (column_number (a ∷ b ∷ [])) 256) hit.0 in
-    let letters = (and_parts (nat_le 1 2 && nat_le 2 2) (list_all is_letter (a ∷ b ∷ [])) outer.0).1 in
-    let first = and_parts (is_letter a) (is_letter b && true) letters in
+    let hit = cond_some (nat_le 1 2 && nat_le 2 2 && list_all is_name_letter (a ∷ b ∷ []) && nat_le (column_number (a ∷ b ∷ [])) 256) (column_number (a ∷ b ∷ []) - 1) column h in
+    let outer = and_parts (nat_le 1 2 && nat_le 2 2 && list_all is_name_letter (a ∷ b ∷ [])) (nat_le (column_number (a ∷ b ∷ [])) 256) hit.0 in
+    let letters = (and_parts (nat_le 1 2 && nat_le 2 2) (list_all is_name_letter (a ∷ b ∷ [])) outer.0).1 in
+    let first = and_parts (is_name_letter a) (is_name_letter b && true) letters in
     let low = and_parts (nat_lt a 97) (nat_lt b 97 && true) small in
-    ap column_letters (sym hit.1) ∙ two_letters a b (capital a first.0 low.0) (capital b (and_parts (is_letter b) true first.1).0 (and_parts (nat_lt b 97) true low.1).0)
+    ap column_letters (sym hit.1) ∙ two_letters a b (capital a first.0 low.0) (capital b (and_parts (is_name_letter b) true first.1).0 (and_parts (nat_lt b 97) true low.1).0)
 column_spelled (a ∷ b ∷ c ∷ letters) column h small =
-    let hit = cond_some (nat_le 1 (length (a ∷ b ∷ c ∷ letters)) && nat_le (length (a ∷ b ∷ c ∷ letters)) 2 && list_all is_letter (a ∷ b ∷ c ∷ letters) && nat_le (column_number (a ∷ b ∷ c ∷ letters)) 256) (column_number (a ∷ b ∷ c ∷ letters) - 1) column h in
-    let outer = and_parts (nat_le 1 (length (a ∷ b ∷ c ∷ letters)) && nat_le (length (a ∷ b ∷ c ∷ letters)) 2 && list_all is_letter (a ∷ b ∷ c ∷ letters)) (nat_le (column_number (a ∷ b ∷ c ∷ letters)) 256) hit.0 in
-    let inner = and_parts (nat_le 1 (length (a ∷ b ∷ c ∷ letters)) && nat_le (length (a ∷ b ∷ c ∷ letters)) 2) (list_all is_letter (a ∷ b ∷ c ∷ letters)) outer.0 in
+    let hit = cond_some (nat_le 1 (length (a ∷ b ∷ c ∷ letters)) && nat_le (length (a ∷ b ∷ c ∷ letters)) 2 && list_all is_name_letter (a ∷ b ∷ c ∷ letters) && nat_le (column_number (a ∷ b ∷ c ∷ letters)) 256) (column_number (a ∷ b ∷ c ∷ letters) - 1) column h in
+    let outer = and_parts (nat_le 1 (length (a ∷ b ∷ c ∷ letters)) && nat_le (length (a ∷ b ∷ c ∷ letters)) 2 && list_all is_name_letter (a ∷ b ∷ c ∷ letters)) (nat_le (column_number (a ∷ b ∷ c ∷ letters)) 256) hit.0 in
+    let inner = and_parts (nat_le 1 (length (a ∷ b ∷ c ∷ letters)) && nat_le (length (a ∷ b ∷ c ∷ letters)) 2) (list_all is_name_letter (a ∷ b ∷ c ∷ letters)) outer.0 in
     let short = leb-true (length (a ∷ b ∷ c ∷ letters)) 2 (and_parts (nat_le 1 (length (a ∷ b ∷ c ∷ letters))) (nat_le (length (a ∷ b ∷ c ∷ letters)) 2) inner.0).1 in
     absurd (omega (arith, short))
 
@@ -149,43 +149,43 @@ row_spelled digits row h = by (nat_le 49 (slice_index digits 0)) refl (number 4 
 split_all : (p : ℕ → Bool) (xs ys : List ℕ) → list_all p (xs ++ ys) ≡ true → (list_all p xs ≡ true) × (list_all p ys ≡ true)
 split_all p xs ys h = and_parts (list_all p xs) (list_all p ys) (sym (list_all-append p xs ys) ∙ h)
 
-pub name_spelled : (word : List ℕ) (p : Place) → place_named word ≡ Some p → reference_text p ≡ word
+pub name_spelled : (word : List ℕ) (p : Position) → position_named word ≡ Some p → reference_text p ≡ word
 name_spelled word p h =
     let told = named_is word p h in
-    let k = prefix_len is_letter word in
+    let k = prefix_len is_name_letter word in
     by (row_of (drop k word)) refl (column_of (take k word)) refl told.1
     (split_all (λ c. nat_lt c 97) (take k word) (drop k word) (ap (list_all (λ c. nat_lt c 97)) (take-append-drop k word) ∙ told.0)).0
   where
-    by : (r : Option ℕ) → row_of (drop (prefix_len is_letter word) word) ≡ r → (c : Option ℕ) → column_of (take (prefix_len is_letter word) word) ≡ c → option_and_then (λ row. option_map (λ column. (row, column)) c) r ≡ Some p
-        → list_all (λ c. nat_lt c 97) (take (prefix_len is_letter word) word) ≡ true → reference_text p ≡ word
+    by : (r : Option ℕ) → row_of (drop (prefix_len is_name_letter word) word) ≡ r → (c : Option ℕ) → column_of (take (prefix_len is_name_letter word) word) ≡ c → option_and_then (λ row. option_map (λ column. (row, column)) c) r ≡ Some p
+        → list_all (λ c. nat_lt c 97) (take (prefix_len is_name_letter word) word) ≡ true → reference_text p ≡ word
     by None ris c cis e small = cc
     by (Some row) ris None cis e small = cc
     by (Some row) ris (Some column) cis e small =
         let same : (row, column) ≡ p = same_Some (row, column) p e in
         ap reference_text (sym same)
-        ∙ ap (λ (t : List ℕ). t ++ decimal (row + 1)) (column_spelled (take (prefix_len is_letter word) word) column cis small)
-        ∙ ap (λ (t : List ℕ). take (prefix_len is_letter word) word ++ t) (row_spelled (drop (prefix_len is_letter word) word) row ris)
-        ∙ take-append-drop (prefix_len is_letter word) word
+        ∙ ap (λ (t : List ℕ). t ++ decimal (row + 1)) (column_spelled (take (prefix_len is_name_letter word) word) column cis small)
+        ∙ ap (λ (t : List ℕ). take (prefix_len is_name_letter word) word ++ t) (row_spelled (drop (prefix_len is_name_letter word) word) row ris)
+        ∙ take-append-drop (prefix_len is_name_letter word) word
 
 -- ---- names that are written
 
 pub record IsCapitals (word : List ℕ) : Type 0 where
-  pub letters : list_all is_letter word ≡ true
+  pub letters : list_all is_name_letter word ≡ true
   pub capitals : list_all (λ c. nat_lt c 97) word ≡ true
 
-capital_code : (c : ℕ) → 65 ≤ c → c ≤ 90 → (is_letter c ≡ true) × (nat_lt c 97 ≡ true)
+capital_code : (c : ℕ) → 65 ≤ c → c ≤ 90 → (is_name_letter c ≡ true) × (nat_lt c 97 ≡ true)
 capital_code c low high = (grind (arith, nat_tests), grind (arith, nat_tests))
 
 one_capital : (a : ℕ) → 65 ≤ a → a ≤ 90 → IsCapitals (a ∷ [])
 one_capital a low high =
     let code = capital_code a low high in
-    record { letters = and_from (is_letter a) true code.0 refl; capitals = and_from (nat_lt a 97) true code.1 refl }
+    record { letters = and_from (is_name_letter a) true code.0 refl; capitals = and_from (nat_lt a 97) true code.1 refl }
 
 two_capitals : (a b : ℕ) → 65 ≤ a → a ≤ 90 → 65 ≤ b → b ≤ 90 → IsCapitals (a ∷ b ∷ [])
 two_capitals a b low high low2 high2 =
     let first = capital_code a low high in
     let last = one_capital b low2 high2 in
-    record { letters = and_from (is_letter a) (list_all is_letter (b ∷ [])) first.0 last.letters; capitals = and_from (nat_lt a 97) (list_all (λ c. nat_lt c 97) (b ∷ [])) first.1 last.capitals }
+    record { letters = and_from (is_name_letter a) (list_all is_name_letter (b ∷ [])) first.0 last.letters; capitals = and_from (nat_lt a 97) (list_all (λ c. nat_lt c 97) (b ∷ [])) first.1 last.capitals }
 
 pub column_capitals : (column : ℕ) → column < 256 → IsCapitals (column_letters column)
 column_capitals column h = by (nat_lt column 26) refl
@@ -199,13 +199,13 @@ column_capitals column h = by (nat_lt column 26) refl
 column_value : (a : ℕ) → IsCapital a → 26 * 0 + letter_number a ≡ a - 64
 column_value a is = let e = capital_number a is in omega (arith, e)
 
-column_from : (letters : List ℕ) (n : ℕ) → nat_le 1 (length letters) ≡ true → nat_le (length letters) 2 ≡ true → list_all is_letter letters ≡ true → column_number letters ≡ n + 1 → n < 256 → column_of letters ≡ Some n
+column_from : (letters : List ℕ) (n : ℕ) → nat_le 1 (length letters) ≡ true → nat_le (length letters) 2 ≡ true → list_all is_name_letter letters ≡ true → column_number letters ≡ n + 1 → n < 256 → column_of letters ≡ Some n
 column_from letters n some few all is small =
     let value : nat_le (column_number letters) 256 ≡ true = le-leb (column_number letters) 256 (omega (arith, is, small)) in
     let last : column_number letters - 1 ≡ n = omega (arith, is) in
-    cond-true (nat_le 1 (length letters) && nat_le (length letters) 2 && list_all is_letter letters && nat_le (column_number letters) 256) (Some (column_number letters - 1)) None
-    (and_from (nat_le 1 (length letters) && nat_le (length letters) 2 && list_all is_letter letters) (nat_le (column_number letters) 256)
-    (and_from (nat_le 1 (length letters) && nat_le (length letters) 2) (list_all is_letter letters) (and_from (nat_le 1 (length letters)) (nat_le (length letters) 2) some few) all) value)
+    cond-true (nat_le 1 (length letters) && nat_le (length letters) 2 && list_all is_name_letter letters && nat_le (column_number letters) 256) (Some (column_number letters - 1)) None
+    (and_from (nat_le 1 (length letters) && nat_le (length letters) 2 && list_all is_name_letter letters) (nat_le (column_number letters) 256)
+    (and_from (nat_le 1 (length letters) && nat_le (length letters) 2) (list_all is_name_letter letters) (and_from (nat_le 1 (length letters)) (nat_le (length letters) 2) some few) all) value)
     ∙ ap (λ (k : ℕ). Some k) last
 
 column_written : (column : ℕ) → column < 256 → column_of (column_letters column) ≡ Some column
@@ -242,12 +242,12 @@ run_length p (c ∷ xs) ys h none =
     let rest = run_length p xs ys parts.1 none in
     ap (λ (b : Bool). cond b (1 + prefix_len p (xs ++ ys)) 0) parts.0 ∙ omega (arith, rest)
 
-digit_code : (c : ℕ) → is_ascii_digit c ≡ true → (is_letter c ≡ false) × (nat_lt c 97 ≡ true)
+digit_code : (c : ℕ) → is_ascii_digit c ≡ true → (is_name_letter c ≡ false) × (nat_lt c 97 ≡ true)
 digit_code c h = (grind (arith, nat_tests), grind (arith, nat_tests))
 
-no_letters : (digits : List ℕ) → list_all is_ascii_digit digits ≡ true → prefix_len is_letter digits ≡ 0
+no_letters : (digits : List ℕ) → list_all is_ascii_digit digits ≡ true → prefix_len is_name_letter digits ≡ 0
 no_letters [] h = refl
-no_letters (c ∷ digits) h = ap (λ (b : Bool). cond b (1 + prefix_len is_letter digits) 0) (digit_code c (and_parts (is_ascii_digit c) (list_all is_ascii_digit digits) h).0).0
+no_letters (c ∷ digits) h = ap (λ (b : Bool). cond b (1 + prefix_len is_name_letter digits) 0) (digit_code c (and_parts (is_ascii_digit c) (list_all is_ascii_digit digits) h).0).0
 
 pub small_digits : (digits : List ℕ) → list_all is_ascii_digit digits ≡ true → list_all (λ c. nat_lt c 97) digits ≡ true
 small_digits [] h = refl
@@ -258,18 +258,18 @@ small_digits (c ∷ digits) h =
 pub join_all : (p : ℕ → Bool) (xs ys : List ℕ) → list_all p xs ≡ true → list_all p ys ≡ true → list_all p (xs ++ ys) ≡ true
 join_all p xs ys h k = list_all-append p xs ys ∙ and_from (list_all p xs) (list_all p ys) h k
 
-pub name_written : (p : Place) → p.0 < 4096 → p.1 < 256 → place_named (reference_text p) ≡ Some p
+pub name_written : (p : Position) → p.0 < 4096 → p.1 < 256 → position_named (reference_text p) ≡ Some p
 name_written p row column =
     let letters = column_letters p.1 in
     let digits = decimal (p.0 + 1) in
     let capitals = column_capitals p.1 column in
     let all : list_all is_ascii_digit (decimal (p.0 + 1)) ≡ true = digits_of (p.0 + 1) (omega (arith, row)) in
     let small : list_all (λ c. nat_lt c 97) (reference_text p) ≡ true = join_all (λ c. nat_lt c 97) letters digits capitals.capitals (small_digits digits all) in
-    let long : prefix_len is_letter (reference_text p) ≡ length letters = run_length is_letter letters digits capitals.letters (no_letters digits all) in
-    let front : take (prefix_len is_letter (reference_text p)) (reference_text p) ≡ letters = ap (λ (k : ℕ). take k (reference_text p)) long ∙ take-append_seam letters digits in
-    let back : drop (prefix_len is_letter (reference_text p)) (reference_text p) ≡ digits = ap (λ (k : ℕ). drop k (reference_text p)) long ∙ drop-append_seam letters digits in
+    let long : prefix_len is_name_letter (reference_text p) ≡ length letters = run_length is_name_letter letters digits capitals.letters (no_letters digits all) in
+    let front : take (prefix_len is_name_letter (reference_text p)) (reference_text p) ≡ letters = ap (λ (k : ℕ). take k (reference_text p)) long ∙ take-append_seam letters digits in
+    let back : drop (prefix_len is_name_letter (reference_text p)) (reference_text p) ≡ digits = ap (λ (k : ℕ). drop k (reference_text p)) long ∙ drop-append_seam letters digits in
     cond-true (list_all (λ c. nat_lt c 97) (reference_text p)) (reference (reference_text p)) None small
-    ∙ ap (λ (ls : List ℕ). cell_of ls (drop (prefix_len is_letter (reference_text p)) (reference_text p))) front
+    ∙ ap (λ (ls : List ℕ). cell_of ls (drop (prefix_len is_name_letter (reference_text p)) (reference_text p))) front
     ∙ ap (cell_of letters) back
-    ∙ ap (λ (r : Option ℕ). option_and_then (λ row. option_map {U = Place} (λ column. (row, column)) (column_of letters)) r) (row_written p.0 row)
-    ∙ ap (option_map {U = Place} (λ c. (p.0, c))) (column_written p.1 column)
+    ∙ ap (λ (r : Option ℕ). option_and_then (λ row. option_map {U = Position} (λ column. (row, column)) (column_of letters)) r) (row_written p.0 row)
+    ∙ ap (option_map {U = Position} (λ c. (p.0, c))) (column_written p.1 column)

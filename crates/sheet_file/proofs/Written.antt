@@ -9,11 +9,11 @@ use Rattle.std.specs.declared.cmp.Ordering.TheVariants.{Less}
 use Rattle.std.proofs.Math.ListN.{set}
 use Rattle.std.proofs.lemmas.List.Sums.{fold-append}
 use Rattle.sheet_cells.specs.declared.cells.CellRef.{CellRef}
-use Rattle.formula_base.specs.Ranges.{Place, place_cmp}
+use Rattle.formula_base.specs.Ranges.{Position, position_cmp}
 use Rattle.part_calc.specs.Parts.{Part, with_text}
 use Rattle.part_calc.specs.Kept.{IsEntry, IsPart}
 use Rattle.part_calc.specs.Text.{cell_line, part_lines}
-use Rattle.sheet_calc.specs.Books.{Parts, place_of, with_cell}
+use Rattle.sheet_calc.specs.Books.{Parts, position_of, with_cell}
 use Rattle.sheet_calc.specs.FileText.{all_lines}
 use Rattle.sheet_file.specs.declared.fault.BookFault.TheVariants.{OutOfOrder}
 use Rattle.sheet_file.specs.Lines.{Cell, lines_of, cell_said}
@@ -96,18 +96,18 @@ earlier : (before : Option CellRef) (n m : ℕ) → n ≤ m → Earlier before n
 earlier None n m h e = tt
 earlier (Some before) n m h e = omega (arith, h, e)
 
-after_earlier : (before : Option CellRef) (n : ℕ) (p : Place) → Earlier before n → comes_after before (cell_at n p) ≡ true
+after_earlier : (before : Option CellRef) (n : ℕ) (p : Position) → Earlier before n → comes_after before (cell_at n p) ≡ true
 after_earlier None n p e = refl
-after_earlier (Some before) n p e = ap is_lt (part_before before.part (place_of before) (cell_at n p) e)
+after_earlier (Some before) n p e = ap is_lt (part_before before.part (position_of before) (cell_at n p) e)
 
-part_ordered : (n : ℕ) (part : Part) (before : Option CellRef) (rest : List Cell) → IsStrictlySortedBy place_cmp (keys_of part) → AllByRecursion (λ p. comes_after before (cell_at n p) ≡ true) (keys_of part) → Earlier before (n + 1)
+part_ordered : (n : ℕ) (part : Part) (before : Option CellRef) (rest : List Cell) → IsStrictlySortedBy position_cmp (keys_of part) → AllByRecursion (λ p. comes_after before (cell_at n p) ≡ true) (keys_of part) → Earlier before (n + 1)
     → ((b : Option CellRef) → Earlier b (n + 1) → Ordered b rest) → Ordered before (cells_in n part ++ rest)
 unfolding IsStrictlySortedBy
 part_ordered n [] before rest sorted all e more = more before e
 part_ordered n (entry ∷ part) before rest sorted all e more =
     (all.0, part_ordered n part (Some (cell_at n entry.0)) rest sorted.1 (behind part sorted.0) (omega arith) more)
   where
-    behind : (s : Part) → AllByRecursion (λ q. place_cmp entry.0 q ≡ Less) (keys_of s) → AllByRecursion (λ p. comes_after (Some (cell_at n entry.0)) (cell_at n p) ≡ true) (keys_of s)
+    behind : (s : Part) → AllByRecursion (λ q. position_cmp entry.0 q ≡ Less) (keys_of s) → AllByRecursion (λ p. comes_after (Some (cell_at n entry.0)) (cell_at n p) ≡ true) (keys_of s)
     behind [] less = tt
     behind (f ∷ s) less = (ap is_lt (part_order n entry.0 (cell_at n f.0) refl ∙ less.0), behind s less.1)
 
@@ -139,16 +139,16 @@ set_middle [] part new rest = refl
 set_middle (p ∷ done) part new rest = ap (λ (s : Parts). p ∷ s) (set_middle done part new rest)
 
 -- in a part all cells in front of one come before it
-at_middle : (k : Place) (s : Part) (x : Place × List ℕ) (t : Part) → AllByRecursion (λ y. place_cmp k y ≡ Less) (keys_of (s ++ x ∷ t)) → place_cmp k x.0 ≡ Less
+at_middle : (k : Position) (s : Part) (x : Position × List ℕ) (t : Part) → AllByRecursion (λ y. position_cmp k y ≡ Less) (keys_of (s ++ x ∷ t)) → position_cmp k x.0 ≡ Less
 at_middle k [] x t all = all.0
 at_middle k (e ∷ s) x t all = at_middle k s x t all.1
 
-all_before : (s : Part) (x : Place × List ℕ) (t : Part) → IsStrictlySortedBy place_cmp (keys_of (s ++ x ∷ t)) → AllByRecursion (λ e. place_cmp e.0 x.0 ≡ Less) s
+all_before : (s : Part) (x : Position × List ℕ) (t : Part) → IsStrictlySortedBy position_cmp (keys_of (s ++ x ∷ t)) → AllByRecursion (λ e. position_cmp e.0 x.0 ≡ Less) s
 unfolding IsStrictlySortedBy
 all_before [] x t sorted = tt
 all_before (e ∷ s) x t sorted = (at_middle e.0 s x t sorted.0, all_before s x t sorted.1)
 
-put_middle : (done : Parts) (part : Part) (rest : Parts) (p : Place) (raw : List ℕ) → 1 ≤ length raw → AllByRecursion (λ e. place_cmp e.0 p ≡ Less) part
+put_middle : (done : Parts) (part : Part) (rest : Parts) (p : Position) (raw : List ℕ) → 1 ≤ length raw → AllByRecursion (λ e. position_cmp e.0 p ≡ Less) part
     → with_cell (done ++ part ∷ rest) (cell_at (length done) p) raw ≡ done ++ (part ++ (p, raw) ∷ []) ∷ rest
 unfolding with_cell
 put_middle done part rest p raw some all =
@@ -156,12 +156,12 @@ put_middle done part rest p raw some all =
     ∙ set_middle done part (with_text part p raw) rest
     ∙ ap (λ (s : Part). done ++ s ∷ rest) (last_put part p raw some all)
 
-part_made : (done : Parts) (part : Part) (rest : Parts) (left : Part) → IsStrictlySortedBy place_cmp (keys_of (part ++ left)) → AllByRecursion IsEntry left
+part_made : (done : Parts) (part : Part) (rest : Parts) (left : Part) → IsStrictlySortedBy position_cmp (keys_of (part ++ left)) → AllByRecursion IsEntry left
     → fold with_said (done ++ part ∷ rest) (map Some (cells_in (length done) left)) ≡ done ++ (part ++ left) ∷ rest
 part_made done part rest [] sorted all = ap (λ (s : Part). done ++ s ∷ rest) (sym (append-nil part))
 part_made done part rest (e ∷ left) sorted all =
     ap (λ (d : Parts). fold with_said d (map Some (cells_in (length done) left))) (put_middle done part rest e.0 e.1 (all.0).some (all_before part e left sorted))
-    ∙ part_made done (part ++ e ∷ []) rest left (subst (λ (s : Part). IsStrictlySortedBy place_cmp (keys_of s)) (sym (append_assoc part (e ∷ []) left)) sorted) all.1
+    ∙ part_made done (part ++ e ∷ []) rest left (subst (λ (s : Part). IsStrictlySortedBy position_cmp (keys_of s)) (sym (append_assoc part (e ∷ []) left)) sorted) all.1
     ∙ ap (λ (s : Part). done ++ s ∷ rest) (append_assoc part (e ∷ []) left)
 
 map-append : (xs ys : List Cell) → map Some (xs ++ ys) ≡ map Some xs ++ map Some ys

@@ -4,6 +4,7 @@ use Rattle.std.specs.Str.{bytes_eq}
 use Rattle.std.specs.Ordering.{is_lt}
 use Rattle.sheet_cells.specs.declared.cells.CellRef.{CellRef}
 use Rattle.sheet_cells.specs.Cells.{cell_cmp}
+use Rattle.sheet_calc.specs.declared.limits.TheConstants.{FILE_LIMIT}
 use Rattle.sheet_calc.specs.Books.{Parts, with_cell}
 use Rattle.sheet_file.specs.declared.fault.BookFault.{BookFault}
 use Rattle.sheet_file.specs.declared.fault.BookFault.TheVariants.{TooLarge, NoHeader, BadLine, OutOfOrder}
@@ -54,4 +55,4 @@ lines_read (line ∷ lines) = if bytes_eq line (codes "coolsheet 1\n") then part
 
 -- what the bytes of a file say
 unfoldable pub book_of : List ℕ → Result Parts BookFault
-book_of bytes = if nat_lt 2097152 (length bytes) then Err TooLarge else lines_read (lines_of bytes)
+book_of bytes = if nat_lt FILE_LIMIT (length bytes) then Err TooLarge else lines_read (lines_of bytes)

@@ -7,7 +7,8 @@ use Rattle.cool_words.specs.Words.{cut_at}
 use Rattle.sheet_cells.specs.declared.cells.CellRef.{CellRef}
 use Rattle.sheet_cells.specs.Cells.{is_raw}
 use Rattle.sheet_cells.specs.References.{reference}
-use Rattle.formula_base.specs.Ranges.{Place}
+use Rattle.sheet_cells.specs.declared.limits.TheConstants.{MOST_PARTS}
+use Rattle.formula_base.specs.Ranges.{Position}
 
 -- a byte in front of lines
 abbrev pub in_front : ℕ → List (List ℕ) → List (List ℕ)
@@ -38,9 +39,9 @@ abbrev pub some_parts : ℕ → Option ℕ
 some_parts count = if nat_le 1 count then Some count else None
 
 abbrev pub parts_in : List ℕ × List ℕ → Option ℕ
-parts_in (word, rest) = if bytes_eq word (codes "parts") then option_and_then some_parts (plain_number 16 rest) else None
+parts_in (word, rest) = if bytes_eq word (codes "parts") then option_and_then some_parts (plain_number MOST_PARTS rest) else None
 
--- how many parts the text of a line says that there are: `parts`, a blank and the number, from 1 to 16
+-- how many parts the text of a line says that there are: `parts`, a blank and the number, from 1 to 16 (`MOST_PARTS`)
 abbrev pub parts_of_text : List ℕ → Option ℕ
 parts_of_text text = option_and_then parts_in (cut_at 32 text)
 
@@ -48,9 +49,9 @@ parts_of_text text = option_and_then parts_in (cut_at 32 text)
 unfoldable pub parts_said : List ℕ → Option ℕ
 parts_said line = option_and_then parts_of_text (before_newline line)
 
--- the place of the cell that a word names in capital letters
-abbrev pub place_named : List ℕ → Option Place
-place_named word = if list_all (λ c. nat_lt c 97) word then reference word else None
+-- the position of the cell that a word names in capital letters
+abbrev pub position_named : List ℕ → Option Position
+position_named word = if list_all (λ c. nat_lt c 97) word then reference word else None
 
 -- the raw text that a line can have: UTF-8 of 1 to 1,024 bytes without control characters
 abbrev pub raw_written : List ℕ → Option (List ℕ)
@@ -60,13 +61,13 @@ raw_written raw = if nat_le 1 (length raw) && is_raw raw && is_utf8 raw then Som
 abbrev pub Cell : Type 0
 Cell = CellRef × List ℕ
 
-abbrev pub cell_with : ℕ → Place → List ℕ → Cell
-cell_with part place raw = (record { part = part; row = place.0; col = place.1 }, raw)
+abbrev pub cell_with : ℕ → Position → List ℕ → Cell
+cell_with part position raw = (record { part = part; row = position.0; col = position.1 }, raw)
 
 -- a cell by the words of its part and of its name, and by its raw text
 abbrev pub cell_by : ℕ → List ℕ → List ℕ × List ℕ → Option Cell
 cell_by parts part (name, raw) =
-    option_and_then (λ p. option_and_then (λ place. option_map (cell_with p place) (raw_written raw)) (place_named name)) (plain_number (parts - 1) part)
+    option_and_then (λ p. option_and_then (λ position. option_map (cell_with p position) (raw_written raw)) (position_named name)) (plain_number (parts - 1) part)
 
 abbrev pub cell_in : ℕ → List ℕ × List ℕ → Option Cell
 cell_in parts (part, behind) = option_and_then (cell_by parts part) (cut_at 32 behind)

@@ -4,10 +4,11 @@ ghost use Rattle.std.specs.Prelude.{◌≡◌, ◌<◌, ◌≤◌, ℕ, List, le
 ghost use Rattle.sheet_calc.specs.Books.{Parts, IsBook};
 ghost use Rattle.sheet_calc.specs.FileText.{file_text};
 ghost use Rattle.sheet_file.specs.BookFile.{book_of};
+ghost use Rattle.sheet_calc.specs.declared.limits.TheConstants.{FILE_LIMIT};
 
 /// What is written of a book is read again as that book, where it is short enough for a file.
 pub fn what_is_written_is_read()
-    ensures { (parts : Parts) → IsBook parts → length (file_text parts) ≤ 2097152 → book_of (file_text parts) ≡ Ok parts }
+    ensures { (parts : Parts) → IsBook parts → length (file_text parts) ≤ FILE_LIMIT → book_of (file_text parts) ≡ Ok parts }
 {}
 
 /// A book has one spelling: a file that has a byte and says a book is the text that is written of it,

@@ -3,24 +3,24 @@ ghost use Rattle.std.specs.Prelude.{◌≡◌, ◌==◌, ◌<◌, ◌≤◌, opt
 ghost use Rattle.std.specs.Option.{IfSome};
 ghost use Rattle.std.specs.List.{list_all};
 ghost use Rattle.sheet_cells.specs.Cells.{IsCell, IsRaw, is_raw, is_raw_byte};
-ghost use Rattle.sheet_file.specs.Lines.{has_leading_zero, plain_number, some_parts, parts_in, parts_of_text, place_named, raw_written, cell_by, cell_of_text};
+ghost use Rattle.sheet_file.specs.Lines.{has_leading_zero, plain_number, some_parts, parts_in, parts_of_text, position_named, raw_written, cell_by, cell_of_text};
 
 use cool_base::read_number;
 use cool_words::split_once;
 use sheet_calc::is_raw;
-use sheet_cells::{CellRef, read_ref};
+use sheet_cells::{CellRef, MOST_PARTS, read_ref};
 
 /// How many parts the text of a line says that there are, from 1 to 16.
 pub fn parts_of_text(text: &[u8]) -> Option<u32>
     ensures parts { result ≡ parts_of_text text.now }
     ensures some { IfSome result (λ parts. 1 ≤ parts) }
-    ensures few { IfSome result (λ parts. parts ≤ 16) }
+    ensures few { IfSome result (λ parts. parts ≤ MOST_PARTS) }
 {
     let (word, rest) = split_once(text, b' ')?;
     if word != b"parts".as_slice() {
         return None;
     }
-    some_parts(plain_number(rest, 16)?)
+    some_parts(plain_number(rest, MOST_PARTS)?)
 }
 
 // A number of parts.
@@ -37,7 +37,7 @@ pub fn cell_of_text(parts: u32, text: &[u8]) -> Option<(CellRef, &str)>
     let (part, behind) = split_once(text, b' ')?;
     let (name, raw) = split_once(behind, b' ')?;
     let part = plain_number(part, parts.saturating_sub(1))?;
-    let (row, col) = place_named(name)?;
+    let (row, col) = position_named(name)?;
     let raw = raw_written(raw)?;
     Some((CellRef { part, row, col }, raw))
 }
@@ -63,9 +63,9 @@ fn has_leading_zero(word: &[u8]) -> bool
     }
 }
 
-// The place of the cell that the word names in capital letters.
-fn place_named(word: &[u8]) -> Option<(u32, u32)>
-    ensures { result ≡ place_named word.now }
+// The position of the cell that the word names in capital letters.
+fn position_named(word: &[u8]) -> Option<(u32, u32)>
+    ensures { result ≡ position_named word.now }
 {
     if !has_no_small_letter(word) {
         return None;

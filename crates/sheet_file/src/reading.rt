@@ -10,7 +10,7 @@ ghost use Rattle.sheet_file.specs.BookFile.{comes_after, with_lines, parts_read,
 use crate::fault::BookFault;
 use crate::lines::{cell_of_text, parts_of_text};
 use cool_words::split_once;
-use sheet_calc::{Book, BookDraft};
+use sheet_calc::{Book, BookDraft, FILE_LIMIT};
 use sheet_cells::CellRef;
 use std::alloc::Global;
 
@@ -21,15 +21,15 @@ pub fn read_book(alloc: Global, file: &[u8]) -> Result<Book, BookFault>
     ensures ok { IfOk result (λ book. book_of file.now ≡ Ok book) }
     ensures refused { IfErr result (λ fault. fault ≢ Memory → book_of file.now ≡ Err fault) }
 {
-    if file.len() > 2_097_152 {
+    if file.len() > FILE_LIMIT {
         return Err(BookFault::TooLarge);
     }
-    Ok(read_draft(alloc, file)?.finish(alloc)?)
+    Ok(read_draft(alloc, file)?.finish()?)
 }
 
 // The parts that the bytes of a file say.
 fn read_draft(alloc: Global, file: &[u8]) -> Result<BookDraft, BookFault>
-    requires { length file.now ≤ 2097152 }
+    requires { length file.now ≤ FILE_LIMIT }
     ensures ok { IfOk result (λ draft. lines_read (lines_of file.now) ≡ Ok draft) }
     ensures refused { IfErr result (λ fault. fault ≢ Memory → lines_read (lines_of file.now) ≡ Err fault) }
 {
@@ -44,7 +44,7 @@ fn read_draft(alloc: Global, file: &[u8]) -> Result<BookDraft, BookFault>
 
 // The parts that the lines behind a first line say.
 fn behind_header(alloc: Global, first: &[u8], lines: &[u8]) -> Result<BookDraft, BookFault>
-    requires { length lines.now ≤ 2097152 }
+    requires { length lines.now ≤ FILE_LIMIT }
     ensures ok { IfOk result (λ draft. (if bytes_eq first.now (codes "coolsheet 1") then parts_read (lines_of lines.now) else Err NoHeader) ≡ Ok draft) }
     ensures refused { IfErr result (λ fault. fault ≢ Memory → (if bytes_eq first.now (codes "coolsheet 1") then parts_read (lines_of lines.now) else Err NoHeader) ≡ Err fault) }
 {
@@ -68,7 +68,7 @@ fn cut_off(first: &[u8]) -> BookFault
 
 // The parts that the lines behind the first say.
 fn read_parts(alloc: Global, lines: &[u8]) -> Result<BookDraft, BookFault>
-    requires { length lines.now ≤ 2097152 }
+    requires { length lines.now ≤ FILE_LIMIT }
     ensures ok { IfOk result (λ draft. parts_read (lines_of lines.now) ≡ Ok draft) }
     ensures refused { IfErr result (λ fault. fault ≢ Memory → parts_read (lines_of lines.now) ≡ Err fault) }
 {
@@ -79,22 +79,17 @@ fn read_parts(alloc: Global, lines: &[u8]) -> Result<BookDraft, BookFault>
         return Err(BookFault::BadLine(2));
     };
     let mut draft = BookDraft::new(alloc, parts)?;
-    match read_cells(alloc, parts, &mut draft, behind) {
+    match read_cells(parts, &mut draft, behind) {
         Ok(()) => Ok(draft),
         Err(fault) => Err(fault),
     }
 }
 
 // Gives the draft, which has so many parts, the cells that the lines behind the first two say.
-fn read_cells(
-    alloc: Global,
-    parts: u32,
-    draft: &mut BookDraft,
-    lines: &[u8],
-) -> Result<(), BookFault>
+fn read_cells(parts: u32, draft: &mut BookDraft, lines: &[u8]) -> Result<(), BookFault>
     requires parts { length draft.old ≡ parts }
     requires some { 1 ≤ parts }
-    requires short { length lines.now ≤ 2097152 }
+    requires short { length lines.now ≤ FILE_LIMIT }
     ensures ok { OnOk result (with_lines draft.old 3 None (map (cell_said parts) (lines_of lines.now)) ≡ Ok draft.new) }
     ensures refused { IfErr result (λ fault. fault ≢ Memory → with_lines draft.old 3 None (map (cell_said parts) (lines_of lines.now)) ≡ Err fault) }
 {
@@ -108,7 +103,7 @@ fn read_cells(
         if !comes_after(before, at) {
             return Err(BookFault::OutOfOrder(number));
         }
-        draft.add(alloc, &at, raw)?;
+        draft.add(&at, raw)?;
         before = Some(at);
         number += 1;
         rest = behind;

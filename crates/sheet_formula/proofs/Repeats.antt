@@ -108,7 +108,7 @@ arguments_more deeper (suc n) m tokens behind rest front value e read comma =
 other_token : (further : Reading (List (Argument Expr))) (value : Argument Expr) (token : Token) (rest : List Token) → token ≢ Comma → token ≢ Close → behind_argument further value token rest ≡ None
 other_token further value (Number z) rest differs neither = refl
 other_token further value (Words text) rest differs neither = refl
-other_token further value (Cell place) rest differs neither = refl
+other_token further value (Cell position) rest differs neither = refl
 other_token further value (Function function) rest differs neither = refl
 other_token further value If rest differs neither = refl
 other_token further value (Sign operator) rest differs neither = refl
@@ -126,10 +126,10 @@ arguments_refused deeper zero tokens behind rest value token e read other differ
 arguments_refused deeper (suc n) tokens behind rest value token e read other differs neither =
     rw (read, other) (other_token (arguments deeper n) value token rest differs neither)
 
-deeper_token : (deeper : Reading Expr) (token : Token) (tokens : List Token) → ((z : ℤ) → token ≢ Number z) → ((text : List ℕ) → token ≢ Words text) → ((place : ℕ × ℕ) → token ≢ Cell place) → by_token deeper token tokens ≡ deeper tokens
+deeper_token : (deeper : Reading Expr) (token : Token) (tokens : List Token) → ((z : ℤ) → token ≢ Number z) → ((text : List ℕ) → token ≢ Words text) → ((position : ℕ × ℕ) → token ≢ Cell position) → by_token deeper token tokens ≡ deeper tokens
 deeper_token deeper (Number z) tokens a b c = absurd (a z refl)
 deeper_token deeper (Words text) tokens a b c = absurd (b text refl)
-deeper_token deeper (Cell place) tokens a b c = absurd (c place refl)
+deeper_token deeper (Cell position) tokens a b c = absurd (c position refl)
 deeper_token deeper (Function function) tokens a b c = refl
 deeper_token deeper If tokens a b c = refl
 deeper_token deeper (Sign operator) tokens a b c = refl
@@ -140,7 +140,7 @@ deeper_token deeper Comma tokens a b c = refl
 deeper_token deeper Colon tokens a b c = refl
 
 pub fact_deeper : (depth : ℕ) (tokens rest : List Token) (token : Token) → depth ≢ 0 → next tokens ≡ Some (token, rest)
-    → ((z : ℤ) → token ≢ Number z) → ((text : List ℕ) → token ≢ Words text) → ((place : ℕ × ℕ) → token ≢ Cell place)
+    → ((z : ℤ) → token ≢ Number z) → ((text : List ℕ) → token ≢ Words text) → ((position : ℕ × ℕ) → token ≢ Cell position)
     → fact depth tokens ≡ nested (fact (depth - 1)) token rest
 unfolding fact
 fact_deeper zero tokens rest token some read a b c = absurd (some refl)

@@ -7,7 +7,7 @@ use Rattle.sheet_formula.specs.declared.stop.Stop.{Stop}
 use Rattle.sheet_formula.specs.declared.stop.Stop.TheVariants.{Memory, NoFormula}
 use Rattle.sheet_formula.specs.declared.tokens.Token.{Token}
 use Rattle.sheet_formula.specs.Tokens.{Text, tokens_of}
-use Rattle.sheet_formula.specs.Cutting.{Makes}
+use Rattle.sheet_formula.specs.Tokenizing.{Makes}
 use Rattle.sheet_formula.specs.Grammar.{formula_of, formula}
 
 pub signed : (raw text : Text) → raw ≡ 61 ∷ text → formula_of raw ≡ option_and_then formula (tokens_of text)

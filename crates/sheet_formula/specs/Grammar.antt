@@ -8,13 +8,14 @@ use Rattle.formula_base.specs.declared.expressions.Argument.TheVariants as argum
 use Rattle.formula_base.specs.declared.expressions.Link.{Link}
 use Rattle.formula_base.specs.declared.expressions.Expr.{Expr}
 use Rattle.formula_base.specs.declared.expressions.Expr.TheVariants as e
-use Rattle.formula_base.specs.Ranges.{Place}
+use Rattle.formula_base.specs.Ranges.{Position}
 use Rattle.sheet_formula.specs.declared.tokens.Token.{Token}
 use Rattle.sheet_formula.specs.declared.tokens.Token.TheVariants.{Number, Words, Cell, Function, If, Sign, Compare, Open, Close, Comma, Colon}
 use Rattle.sheet_formula.specs.declared.levels.Level.{Level}
 use Rattle.sheet_formula.specs.declared.levels.Level.TheVariants as level
 use Rattle.sheet_formula.specs.Tokens.{Text, tokens_of}
 use Rattle.sheet_formula.specs.Reading.{Reading, pure, refused, next, ◌>>=◌}
+use Rattle.sheet_formula.specs.declared.formulas.TheConstants.{MAX_DEPTH}
 
 -- whether a sign stands between the operands of a level
 abbrev pub is_of_level : Level → Operator → Bool
@@ -95,12 +96,12 @@ part end fact = comparison fact >>= λ value. end >>= λ _. pure value
 
 -- a cell and a colon begin a range
 abbrev pub is_range : List Token → Bool
-is_range (Cell place ∷ (Colon ∷ tokens)) = true
+is_range (Cell position ∷ (Colon ∷ tokens)) = true
 is_range _ = false
 
 -- a cell
-abbrev pub cell : Reading Place
-cell (Cell place ∷ tokens) = Some (place, tokens)
+abbrev pub cell : Reading Position
+cell (Cell position ∷ tokens) = Some (position, tokens)
 cell _ = None
 
 -- ref ":" ref
@@ -138,7 +139,7 @@ nested fact _ = refused
 abbrev pub by_token : Reading Expr → Token → Reading Expr
 by_token deeper (Number z) = pure (e.Number z)
 by_token deeper (Words text) = pure (e.Words text)
-by_token deeper (Cell place) = pure (e.Cell place)
+by_token deeper (Cell position) = pure (e.Cell position)
 by_token deeper _ = deeper
 
 -- fact, with at most this many brackets, calls and minus signs open at a place in it
@@ -148,7 +149,7 @@ fact (suc depth) = next >>= λ token. by_token (nested (fact depth) token) token
 
 -- the words and signs are a formula, all of them
 unfoldable pub formula : List Token → Option Expr
-formula tokens = option_and_then (λ found. if length found.1 == 0 then Some found.0 else None) (comparison (fact 64) tokens)
+formula tokens = option_and_then (λ found. if length found.1 == 0 then Some found.0 else None) (comparison (fact MAX_DEPTH) tokens)
 
 -- the expression of a raw text: behind a first `=`, all of the text is a formula
 unfoldable pub formula_of : Text → Option Expr

@@ -1,4 +1,4 @@
 pub mod Tokens
-pub mod Cutting
+pub mod Tokenizing
 pub mod Reading
 pub mod Grammar

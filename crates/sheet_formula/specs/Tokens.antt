@@ -4,7 +4,7 @@ use Rattle.std.specs.List.{prefix_len}
 use Rattle.std.specs.Char.{is_ascii_digit, to_ascii_lowercase}
 use Rattle.std.specs.Str.{bytes_eq}
 use Rattle.cool_base.specs.Numbers.{number}
-use Rattle.sheet_cells.specs.References.{is_letter, cell_of}
+use Rattle.sheet_cells.specs.References.{is_name_letter, cell_of}
 use Rattle.formula_base.specs.declared.expressions.Operator.TheVariants as sign
 use Rattle.formula_base.specs.declared.expressions.Comparison.TheVariants as comparison
 use Rattle.formula_base.specs.declared.expressions.Function.TheVariants as function
@@ -58,7 +58,7 @@ function_of letters =
 -- letters alone name a function, and letters with digits behind them a cell
 abbrev pub name_of : Text → Text → Option Token
 name_of letters [] = function_of letters
-name_of letters (d ∷ digits) = option_map (λ place. Cell place) (cell_of letters (d ∷ digits))
+name_of letters (d ∷ digits) = option_map (λ position. Cell position) (cell_of letters (d ∷ digits))
 
 -- how many characters of a kind a text begins with, behind the first n
 abbrev pub run_behind : (ℕ → Bool) → ℕ → Text → ℕ
@@ -67,7 +67,7 @@ run_behind is_kind n text = prefix_len is_kind (drop n text)
 -- a name: as many letters as there are, and as many digits as there are behind them
 abbrev pub name_at : Text → Front
 name_at text =
-    let n = prefix_len is_letter text in
+    let n = prefix_len is_name_letter text in
     let m = run_behind is_ascii_digit n text in
     option_map (λ token. (token, drop (n + m) text)) (name_of (take n text) (take m (drop n text)))
 
@@ -97,7 +97,7 @@ words_at text = option_map (λ found. (Words found.0, found.1)) (quoted text)
 
 -- a number, a name or a sign, by its first character
 abbrev pub bare_at : ℕ → Text → Front
-bare_at c text = if is_ascii_digit c then number_at text else if is_letter c then name_at text else sign_at text
+bare_at c text = if is_ascii_digit c then number_at text else if is_name_letter c then name_at text else sign_at text
 
 -- the word or sign at the front of a text
 unfoldable pub token_at : Text → Front
@@ -109,13 +109,13 @@ abbrev pub with_token : Token → Option (List Token) → Option (List Token)
 with_token token tokens = option_map (λ tokens. token ∷ tokens) tokens
 
 -- the words and signs of a text with at most n characters, in order; blanks between them fall away
-unfoldable pub cut : ℕ → Text → Option (List Token)
-cut n [] = Some []
-cut zero (c ∷ text) = None
-cut (suc n) (c ∷ text) =
-    if c == 32 then cut n text
-    else option_and_then (λ found. with_token found.0 (cut n found.1)) (token_at (c ∷ text))
+unfoldable pub tokenize : ℕ → Text → Option (List Token)
+tokenize n [] = Some []
+tokenize zero (c ∷ text) = None
+tokenize (suc n) (c ∷ text) =
+    if c == 32 then tokenize n text
+    else option_and_then (λ found. with_token found.0 (tokenize n found.1)) (token_at (c ∷ text))
 
 -- the words and signs of a text; None where something in it is neither
 abbrev pub tokens_of : Text → Option (List Token)
-tokens_of text = cut (length text) text
+tokens_of text = tokenize (length text) text

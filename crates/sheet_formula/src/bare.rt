@@ -2,14 +2,14 @@
 ghost use Rattle.std.specs.Prelude.{◌≡◌, ◌<◌, ◌≤◌, ◌==◌, length, slice_index, IfSome, if◌then◌else◌};
 ghost use Rattle.std.specs.List.{prefix_len};
 ghost use Rattle.std.specs.Char.{is_ascii_digit};
-ghost use Rattle.sheet_cells.specs.References.{is_letter};
+ghost use Rattle.sheet_cells.specs.References.{is_name_letter};
 ghost use Rattle.sheet_formula.specs.Tokens.{sign_of, compared_of, is_named, function_of, name_of, name_at, number_at, sign_at, bare_at};
-ghost use Rattle.sheet_formula.specs.Cutting.{Finds};
+ghost use Rattle.sheet_formula.specs.Tokenizing.{Finds};
 
 use crate::tokens::Token;
 use cool_base::read_number;
 use formula_base::{Comparison, Function, Operator};
-use sheet_cells::{is_digit, is_letter, leading_letters, place_of};
+use sheet_cells::{is_digit, is_name_letter, leading_letters, position_of};
 
 /// The number, name or sign at the front of the text, and how many characters it takes.
 pub fn bare_at(text: &[u8]) -> Option<(Token, usize)>
@@ -18,7 +18,7 @@ pub fn bare_at(text: &[u8]) -> Option<(Token, usize)>
 {
     if is_digit(text[0]) {
         number_at(text)
-    } else if is_letter(text[0]) {
+    } else if is_name_letter(text[0]) {
         name_at(text)
     } else {
         sign_at(text)
@@ -37,7 +37,7 @@ fn number_at(text: &[u8]) -> Option<(Token, usize)>
 
 // As many letters as there are, with the digits behind them.
 fn name_at(text: &[u8]) -> Option<(Token, usize)>
-    requires { 0 < prefix_len is_letter text.now }
+    requires { 0 < prefix_len is_name_letter text.now }
     ensures { Finds (name_at text.now) text.now result }
 {
     let letters = leading_letters(text);
@@ -71,8 +71,8 @@ fn name_of(letters: &[u8], digits: &[u8]) -> Option<Token>
     if digits.is_empty() {
         return function_of(letters);
     }
-    let place = place_of(letters, digits)?;
-    Some(Token::Cell(place))
+    let position = position_of(letters, digits)?;
+    Some(Token::Cell(position))
 }
 
 // The function that letters name.

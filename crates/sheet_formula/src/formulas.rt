@@ -1,11 +1,11 @@
 //! The expression that a raw text holds.
 ghost use Rattle.std.specs.Prelude.{◌≡◌, IfOk};
-ghost use Rattle.sheet_formula.specs.Cutting.{Makes};
+ghost use Rattle.sheet_formula.specs.Tokenizing.{Makes};
 ghost use Rattle.sheet_formula.specs.Grammar.{formula_of, formula};
 
-use crate::cuts::cut;
 use crate::rules::comparison;
 use crate::stop::Stop;
+use crate::tokenizing::tokenize;
 use crate::tokens::Token;
 use cool_base::Memory;
 use formula_base::Expr;
@@ -34,7 +34,7 @@ fn behind_sign(alloc: Global, raw: &str) -> Result<Expr, Stop>
     let Some(text) = raw.strip_prefix('=') else {
         return Err(Stop::NoFormula);
     };
-    let mut tokens = cut(alloc, text)?;
+    let mut tokens = tokenize(alloc, text)?;
     formula(alloc, &mut tokens)
 }
 

@@ -4,13 +4,13 @@
 #![tactic(auto)]
 
 mod bare;
-mod cuts;
 mod formulas;
 mod levels;
 mod quotes;
 mod rules;
 mod signs;
 mod stop;
+mod tokenizing;
 mod tokens;
 mod trees;
 

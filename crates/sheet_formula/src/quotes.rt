@@ -1,7 +1,7 @@
 //! Texts in quotes.
 ghost use Rattle.std.specs.Prelude.{◌≡◌};
 ghost use Rattle.sheet_formula.specs.Tokens.{quoted};
-ghost use Rattle.sheet_formula.specs.Cutting.{FindsOrStops};
+ghost use Rattle.sheet_formula.specs.Tokenizing.{FindsOrStops};
 
 use crate::stop::Stop;
 use formula_base::Name;

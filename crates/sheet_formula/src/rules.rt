@@ -58,7 +58,7 @@ fn fact(alloc: Global, tokens: &mut VecDeque<Token>, depth: u32) -> Result<Expr,
     match signs::next(tokens)? {
         Token::Number(number) => Ok(Expr::Number(number)),
         Token::Words(text) => Ok(Expr::Words(text)),
-        Token::Cell(place) => Ok(Expr::Cell(place)),
+        Token::Cell(position) => Ok(Expr::Cell(position)),
         token => {
             if depth == 0 {
                 return Err(Stop::NoFormula);

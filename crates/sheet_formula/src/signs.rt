@@ -81,7 +81,7 @@ pub fn cell(tokens: &mut VecDeque<Token>) -> Result<(u32, u32), Stop>
     ensures { Gives (cell tokens.old.items) result tokens.new.items }
 {
     match next(tokens)? {
-        Token::Cell(place) => Ok(place),
+        Token::Cell(position) => Ok(position),
         _ => Err(Stop::NoFormula),
     }
 }

@@ -59,7 +59,7 @@ pub(crate) fn seat(
 }
 
 // Gives the view, which has a cursor, another one. It takes no memory.
-pub(crate) fn place(cursors: &mut BTreeMap<u32, Cursor>, view: u32, cursor: Cursor)
+pub(crate) fn reseat(cursors: &mut BTreeMap<u32, Cursor>, view: u32, cursor: Cursor)
     requires { lookup (is_at (nat_cmp view)) cursors.old.entries ≢ None }
     ensures { cursors.new.entries ≡ insert_entry nat_cmp cursors.old.entries view cursor }
 {

@@ -2,17 +2,14 @@
 //! cursor, what it leaves, and what it damages. Each call is one of the plain functions of `sheet_rules`.
 //!
 //! - `cursor_of` (`cursors`): where a view stands in a part.
-//! - `act_of` (`acts`): what a key or a mouse input means there.
-//! - `take_act` (`steps`): what it leaves, with the damage.
-//! - `damage_of` (`damages`): changed cells as rectangles.
+//! - `meaning_of` (`meanings`): what a key or a mouse input means there.
+//! - `carry_out` (`steps`): what it leaves, with the damage.
 #![tactic(auto)]
 
-mod acts;
 mod cursors;
-mod damages;
+mod meanings;
 mod steps;
 
-pub use acts::act_of;
 pub use cursors::cursor_of;
-pub use damages::damage_of;
-pub use steps::take_act;
+pub use meanings::meaning_of;
+pub use steps::carry_out;

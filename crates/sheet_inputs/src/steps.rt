@@ -6,40 +6,40 @@ ghost use Rattle.std.specs.Ordering.{nat_cmp};
 ghost use Rattle.std.specs.BTreeMap.{insert_entry};
 ghost use Rattle.sheet_cells.specs.Cells.{IsCell, IsRaw, is_raw_byte};
 ghost use Rattle.sheet_calc.specs.Books.{with_cell};
-ghost use Rattle.sheet_rules.specs.Typing.{fits, written, acted, writes_raw};
+ghost use Rattle.sheet_rules.specs.Typing.{fits, written, carried_out, writes_raw};
 ghost use Rattle.sheet_rules.specs.Damage.{damage_between};
 
-use crate::cursors::{place, seat, unseat};
-use crate::damages::damage_of;
+use crate::cursors::{reseat, seat, unseat};
+use cell_damage::{MOST_RECTANGLES, damage_of};
 use cool_base::Memory;
 use kit_trait::Damage;
-use sheet_calc::Book;
-use sheet_cells::CellRef;
-use sheet_rules::{Act, Cursor};
+use sheet_calc::{Book, FILE_LIMIT};
+use sheet_cells::{CellRef, RAW_LIMIT};
+use sheet_rules::{Cursor, Meaning};
 use std::alloc::Global;
 use std::collections::BTreeMap;
 
 /// Takes what the view's input means at the cell where its cursor stands, and tells what it damaged in
 /// the cell's part. After `Memory` nothing has changed.
-pub fn take_act(
+pub fn carry_out(
     alloc: Global,
     book: &mut Book,
     cursors: &mut BTreeMap<u32, Cursor>,
     view: u32,
     at: CellRef,
-    act: &Act,
+    meaning: &Meaning,
 ) -> Result<Vec<Damage>, Memory>
     requires cell { IsCell (length book.old) at }
-    requires raw { IsTrue (writes_raw act.now) }
-    ensures contents { OnOk result (record { parts = book.new; cursors = cursors.new.entries } ≡ acted (record { parts = book.old; cursors = cursors.old.entries }) view at act.now) }
-    ensures hurt { IfOk result (λ hurt. hurt.items ≡ damage_between book.old book.new at.part) }
+    requires raw { IsTrue (writes_raw meaning.now) }
+    ensures contents { OnOk result (record { parts = book.new; cursors = cursors.new.entries } ≡ carried_out (record { parts = book.old; cursors = cursors.old.entries }) view at meaning.now) }
+    ensures damage { IfOk result (λ damage. damage.items ≡ damage_between book.old book.new at.part) }
     ensures book { OnErr result (book.new ≡ book.old) }
     ensures cursors { OnErr result (cursors.new.entries ≡ cursors.old.entries) }
 {
-    match act {
-        Act::Stays => Ok(Vec::new(alloc)),
-        Act::Goes(to) => go(alloc, cursors, view, *to),
-        Act::Writes { raw, fresh } => {
+    match meaning {
+        Meaning::Stays => Ok(Vec::new(alloc)),
+        Meaning::Goes(to) => go(alloc, cursors, view, *to),
+        Meaning::Writes { raw, fresh } => {
             let cursor = Cursor { at, fresh: *fresh };
             write(alloc, book, cursors, view, cursor, raw.get())
         }
@@ -54,7 +54,7 @@ fn go(
     at: CellRef,
 ) -> Result<Vec<Damage>, Memory>
     ensures cursors { OnOk result (cursors.new.entries ≡ insert_entry nat_cmp cursors.old.entries view (record { at = at; fresh = true })) }
-    ensures none { IfOk result (λ hurt. hurt.items ≡ []) }
+    ensures none { IfOk result (λ damage. damage.items ≡ []) }
     ensures err { OnErr result (cursors.new.entries ≡ cursors.old.entries) }
 {
     cursors.insert(view, Cursor { at, fresh: true })?;
@@ -73,7 +73,7 @@ fn write(
     requires cell { IsCell (length book.old) cursor.at }
     requires raw { IsTrue (list_all is_raw_byte raw.now) }
     ensures contents { OnOk result (record { parts = book.new; cursors = cursors.new.entries } ≡ written (record { parts = book.old; cursors = cursors.old.entries }) view cursor raw.now) }
-    ensures hurt { IfOk result (λ hurt. hurt.items ≡ damage_between book.old book.new cursor.at.part) }
+    ensures damage { IfOk result (λ damage. damage.items ≡ damage_between book.old book.new cursor.at.part) }
     ensures book { OnErr result (book.new ≡ book.old) }
     ensures cursors { OnErr result (cursors.new.entries ≡ cursors.old.entries) }
 {
@@ -96,18 +96,18 @@ fn put(
     requires raw { IsRaw raw.now }
     ensures parts { OnOk result (book.new ≡ with_cell book.old cursor.at raw.now) }
     ensures seats { OnOk result (cursors.new.entries ≡ insert_entry nat_cmp cursors.old.entries view cursor) }
-    ensures hurt { IfOk result (λ hurt. hurt.items ≡ damage_between book.old book.new cursor.at.part) }
+    ensures damage { IfOk result (λ damage. damage.items ≡ damage_between book.old book.new cursor.at.part) }
     ensures book { OnErr result (book.new ≡ book.old) }
     ensures cursors { OnErr result (cursors.new.entries ≡ cursors.old.entries) }
 {
     let _before = book.parts();
-    let hurt = Vec::with_capacity(alloc, 256)?;
+    let damage = Vec::with_capacity(alloc, MOST_RECTANGLES)?;
     let new = seat(cursors, view, cursor)?;
-    match book.set(alloc, &cursor.at, raw) {
+    match book.set(&cursor.at, raw) {
         Ok(changed) => {
-            place(cursors, view, cursor);
+            reseat(cursors, view, cursor);
             let _after = book.parts();
-            Ok(damage_of(hurt, changed.part, changed.places.get()))
+            Ok(damage_of(damage, changed.part, changed.positions.get()))
         }
         Err(memory) => {
             unseat(cursors, view, new);
@@ -124,8 +124,8 @@ fn fits(book: &Book, at: &CellRef, raw: &str) -> bool
     ensures fits { result ≡ fits book.now at.now raw.now }
     ensures raw { OnTrue result (IsRaw raw.now) }
 {
-    if raw.len() > 1_024 {
+    if raw.len() > RAW_LIMIT {
         return false;
     }
-    book.text_len_with(at, raw) <= 2_097_152
+    book.text_len_with(at, raw) <= FILE_LIMIT as u64
 }

@@ -10,13 +10,14 @@ use Rattle.cool_base.specs.Points.{Rectangle, has_point}
 use Rattle.tile_key.specs.Places.{Place, IsArea}
 use Rattle.kit_trait.specs.Pictures.{Colour, white, x_at, y_at}
 use Rattle.tile_raster.specs.Painting.{Painting, IsBlank, IsPainted, Shows, pixel}
-use Rattle.tile_raster.specs.Lettering.{is_inked, text_dot}
+use Rattle.tile_raster.specs.Lettering.{text_dot}
 use Rattle.sheet_rules.specs.declared.cuts.ShownText.{ShownText}
 use Rattle.sheet_rules.specs.Typing.{is_inside}
-use Rattle.sheet_rules.specs.Colours.{black, grey, is_edge, is_line, is_lettered, has_dot}
+use Rattle.sheet_rules.specs.Colours.{black, grey, is_edge, is_line, is_lettered}
+use Rattle.bitmap_font.specs.Glyphs.{has_dot}
 use Rattle.sheet_rules.specs.Cuts.{is_dot_of, cut_colour}
 use Rattle.sheet_rules.specs.ShownTexts.{iff_same}
-use Rattle.sheet_rules.proofs.Hurts.{Has, has_facts, facts_has}
+use Rattle.cell_damage.proofs.Points.{Has, has_facts, facts_has}
 use Rattle.sheet_kit.specs.Layers.{column_line, row_line, cell_within, on_columns, on_rows, on_grid_to, on_edges, on_lines, lined}
 
 pub blank_shows : (p : Place) (c : Painting) → IsBlank p.width p.height c → Shows (λ part x y. white) p c
@@ -190,7 +191,7 @@ unfolding text_dot
 dot_there lines row col x y text h k e =
     let parts = and_parts (has_point (cell_within lines row col) x y) (text_dot (col * 960 + 30) (row * 240 + 60) (chars text) x y) e in
     let cell = in_cell lines row col x y parts.0 in
-    let dot = and_parts ((nat_le (col * 960 + 30) x && nat_le (row * 240 + 60) y) && nat_lt y (row * 240 + 60 + 120)) (is_inked (chars text) (x - (col * 960 + 30)) (y - (row * 240 + 60))) parts.1 in
+    let dot = and_parts ((nat_le (col * 960 + 30) x && nat_le (row * 240 + 60) y) && nat_lt y (row * 240 + 60 + 120)) (has_dot (chars text) (x - (col * 960 + 30)) (y - (row * 240 + 60))) parts.1 in
     let beside = and_parts (nat_le (col * 960 + 30) x && nat_le (row * 240 + 60) y) (nat_lt y (row * 240 + 60 + 120)) dot.0 in
     let behind = and_parts (nat_le (col * 960 + 30) x) (nat_le (row * 240 + 60) y) beside.0 in
     let left = leb-true (col * 960 + 30) x behind.0 in
@@ -207,7 +208,7 @@ dot_there lines row col x y text h k e =
     (and_from (nat_le 30 (x % 960) && (nat_le 60 (y % 240) && nat_le (y % 240) 179)) (has_dot (chars text) (x % 960 - 30) (y % 240 - 60))
     (and_from (nat_le 30 (x % 960)) (nat_le 60 (y % 240) && nat_le (y % 240) 179) (le-leb 30 (x % 960) (omega (arith, cell.left, cell.right, left)))
     (and_from (nat_le 60 (y % 240)) (nat_le (y % 240) 179) (le-leb 60 (y % 240) (omega (arith, cell.upper, cell.lower, top))) (le-leb (y % 240) 179 (omega (arith, cell.upper, cell.lower, low)))))
-    (ap (λ (n : ℕ). is_inked (chars text) n (y % 240 - 60)) (sym across) ∙ ap (λ (n : ℕ). is_inked (chars text) (x - (col * 960 + 30)) n) (sym down) ∙ dot.1)))
+    (ap (λ (n : ℕ). has_dot (chars text) n (y % 240 - 60)) (sym across) ∙ ap (λ (n : ℕ). has_dot (chars text) (x - (col * 960 + 30)) n) (sym down) ∙ dot.1)))
 
 -- and the point of a cell that lies on a dot of its text is one
 dot_here : (lines : Bool) (row col x y : ℕ) (text : List ℕ) → ((is_inside x y && not (is_line lines (x % 960) (y % 240))) && is_dot_of x y (record { row = row; col = col; text = text })) ≡ true
@@ -230,11 +231,11 @@ dot_here lines row col x y text e =
     let down : y - (row * 240 + 60) ≡ y % 240 - 60 = omega (arith, row_is) in
     and_from (has_point (cell_within lines row col) x y) (text_dot (col * 960 + 30) (row * 240 + 60) (chars text) x y)
     (clear_here lines row col x y row_is col_is clear.1)
-    (and_from ((nat_le (col * 960 + 30) x && nat_le (row * 240 + 60) y) && nat_lt y (row * 240 + 60 + 120)) (is_inked (chars text) (x - (col * 960 + 30)) (y - (row * 240 + 60)))
+    (and_from ((nat_le (col * 960 + 30) x && nat_le (row * 240 + 60) y) && nat_lt y (row * 240 + 60 + 120)) (has_dot (chars text) (x - (col * 960 + 30)) (y - (row * 240 + 60)))
     (and_from (nat_le (col * 960 + 30) x && nat_le (row * 240 + 60) y) (nat_lt y (row * 240 + 60 + 120))
     (and_from (nat_le (col * 960 + 30) x) (nat_le (row * 240 + 60) y) (le-leb (col * 960 + 30) x (omega (arith, col_is, left))) (le-leb (row * 240 + 60) y (omega (arith, row_is, top))))
     (lt-ltb y (row * 240 + 60 + 120) (omega (arith, row_is, low))))
-    (ap (λ (n : ℕ). is_inked (chars text) n (y - (row * 240 + 60))) across ∙ ap (λ (n : ℕ). is_inked (chars text) (x % 960 - 30) n) down ∙ letter.1))
+    (ap (λ (n : ℕ). has_dot (chars text) n (y - (row * 240 + 60))) across ∙ ap (λ (n : ℕ). has_dot (chars text) (x % 960 - 30) n) down ∙ letter.1))
 
 dot_is : (lines : Bool) (x y : ℕ) (t : ShownText) → t.row < 4096 → t.col < 256 → (has_point (cell_within lines t.row t.col) x y && text_dot (t.col * 960 + 30) (t.row * 240 + 60) (chars t.text) x y) ≡ ((is_inside x y && not (is_line lines (x % 960) (y % 240))) && is_dot_of x y t)
 dot_is lines x y t h k =

@@ -6,8 +6,9 @@ use Rattle.sheet_calc.specs.Books.{Parts}
 use Rattle.sheet_calc.specs.FileText.{file_text}
 use Rattle.sheet_file.specs.declared.fault.BookFault.{BookFault}
 use Rattle.sheet_file.specs.BookFile.{book_of}
+use Rattle.sheet_rules.specs.declared.limits.TheConstants.{PART_WIDTH, PART_HEIGHT}
 use Rattle.sheet_rules.specs.Typing.{Sheet, stepped}
-use Rattle.sheet_rules.specs.Damage.{step_hurt}
+use Rattle.sheet_rules.specs.Damage.{step_damage}
 use Rattle.sheet_rules.specs.Colours.{colour_of}
 
 -- what a file says; one part without cells where it says no book
@@ -27,10 +28,10 @@ sheet_kind =
       accepts = λ file. is_ok (book_of file);
       start = opened;
       step = stepped;
-      hurt = step_hurt;
+      hurt = step_damage;
       body = λ c. c.parts;
       colour = colour_of;
       text = file_text;
       parts = λ parts. length parts;
-      size = λ parts part. record { w = 245760; h = 983040 };
+      size = λ parts part. record { w = PART_WIDTH; h = PART_HEIGHT };
     }

@@ -4,9 +4,10 @@ ghost use Rattle.tile_key.specs.Places.{IsArea};
 ghost use Rattle.sheet_cells.specs.Cells.{IsCell};
 ghost use Rattle.sheet_rules.specs.Cuts.{text_in, texts_in_row, texts_of, cells_met};
 
+use cell_damage::{CELL_HEIGHT, CELL_WIDTH};
 use cool_base::{Memory, TextOf};
 use sheet_calc::Book;
-use sheet_cells::CellRef;
+use sheet_cells::{COLUMNS, CellRef, ROWS};
 use sheet_rules::ShownText;
 use std::alloc::Global;
 use tile_key::Area;
@@ -20,10 +21,10 @@ pub(crate) fn texts_of(alloc: Global, book: &Book, area: &Area) -> Result<Vec<Sh
     ensures form { OnOk result (IsArea area.now) }
 {
     let part = area.part();
-    let row = area.posy() / 240;
-    let col = area.posx() / 960;
-    let rows = cells_met(area.posy(), area.tileheight(), 240, 4_096);
-    let cols = cells_met(area.posx(), area.tilewidth(), 960, 256);
+    let row = area.posy() / CELL_HEIGHT;
+    let col = area.posx() / CELL_WIDTH;
+    let rows = cells_met(area.posy(), area.tileheight(), CELL_HEIGHT, ROWS);
+    let cols = cells_met(area.posx(), area.tilewidth(), CELL_WIDTH, COLUMNS);
     let mut texts = Vec::new(alloc);
     for n in 0..rows {
         push_row(alloc, &mut texts, book, part, row + n, col, cols)?;
@@ -53,8 +54,8 @@ fn push_row(
     count: u32,
 ) -> Result<(), Memory>
     requires part { part < length book.now }
-    requires row { row < 4096 }
-    requires right { count ≤ 256 - col }
+    requires row { row < ROWS }
+    requires right { count ≤ COLUMNS - col }
     ensures { OnOk result (texts.new.items ≡ texts.old.items ++ texts_in_row book.now part row col count) }
 {
     for n in 0..count {

@@ -5,10 +5,10 @@ use crate::cuts::texts_of;
 use crate::scene::SheetScene;
 use cool_base::{ListOf, Memory, Size};
 use kit_trait::{Damage, Input, Kit, KitName, LoadFault};
-use sheet_calc::Book;
+use sheet_calc::{Book, FILE_LIMIT};
 use sheet_file::{BookFault, read_book, write_book};
-use sheet_inputs::{act_of, cursor_of, take_act};
-use sheet_rules::Cursor;
+use sheet_inputs::{carry_out, cursor_of, meaning_of};
+use sheet_rules::{Cursor, PART_HEIGHT, PART_WIDTH};
 use std::alloc::Global;
 use std::collections::BTreeMap;
 use std::marker::Model;
@@ -43,6 +43,7 @@ impl Kit for SheetKit {
     ghost use Rattle.sheet_calc.specs.Books.{Parts};
     ghost use Rattle.sheet_rules.specs.Typing.{Sheet};
     ghost use Rattle.sheet_rules.specs.Sheets.{IsSheet};
+    ghost use Rattle.sheet_calc.specs.declared.limits.TheConstants.{FILE_LIMIT};
     ghost use Rattle.sheet_kit.specs.SheetKind.{sheet_kind};
     ghost use Rattle.sheet_kit.specs.Seen.{sheet_cut};
 
@@ -58,10 +59,10 @@ impl Kit for SheetKit {
 
     ghost cut = { sheet_cut };
 
-    ghost refuses = { λ file. nat_lt 2097152 (length file) };
+    ghost refuses = { λ file. nat_lt FILE_LIMIT (length file) };
 
     fn load(alloc: Global, file: &[u8]) -> Result<SheetKit, LoadFault> {
-        if file.len() > 2_097_152 {
+        if file.len() > FILE_LIMIT {
             return Err(LoadFault::BadFile);
         }
         match read_book(alloc, file) {
@@ -84,22 +85,22 @@ impl Kit for SheetKit {
 
     fn size(&self, _part: u32) -> Size {
         Size {
-            w: 245_760,
-            h: 983_040,
+            w: PART_WIDTH,
+            h: PART_HEIGHT,
         }
     }
 
     fn input(&mut self, alloc: Global, input: &Input) -> Result<Vec<Damage>, Memory> {
         let view = input.view.0;
         let cursor = cursor_of(&self.cursors, view, input.part);
-        let act = act_of(alloc, &self.book, &cursor, input.part, &input.what)?;
-        take_act(
+        let meaning = meaning_of(alloc, &self.book, &cursor, input.part, &input.what)?;
+        carry_out(
             alloc,
             &mut self.book,
             &mut self.cursors,
             view,
             cursor.at,
-            &act,
+            &meaning,
         )
     }
 

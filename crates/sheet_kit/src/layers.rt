@@ -7,8 +7,10 @@ ghost use Rattle.sheet_rules.specs.Colours.{has_lines};
 ghost use Rattle.sheet_rules.specs.Cuts.{cut_colour};
 ghost use Rattle.sheet_kit.specs.Layers.{column_line, row_line, on_columns, on_edges, on_lines, lined, cell_within};
 
+use cell_damage::{CELL_HEIGHT, CELL_WIDTH};
 use cool_base::Rect;
-use sheet_rules::ShownText;
+use sheet_cells::{COLUMNS, ROWS};
+use sheet_rules::{PART_HEIGHT, PART_WIDTH, ShownText};
 use tile_key::Area;
 use tile_raster::Canvas;
 
@@ -37,49 +39,49 @@ pub(crate) fn draw_lines(canvas: &mut Canvas, area: &Area, lines: bool)
 // Draws the lines of the columns that the area meets.
 fn draw_columns(canvas: &mut Canvas, area: &Area)
     requires { Shows (λ part x y. white) area.now canvas.old }
-    ensures { Shows (λ part x y. lined (on_columns 256 x y)) area.now canvas.new }
+    ensures { Shows (λ part x y. lined (on_columns COLUMNS x y)) area.now canvas.new }
 {
-    let first = area.posx() / 960;
-    let end = (area.posx() + area.tilewidth() - 1) / 960 + 1;
-    for col in first..end.min(256) {
+    let first = area.posx() / CELL_WIDTH;
+    let end = (area.posx() + area.tilewidth() - 1) / CELL_WIDTH + 1;
+    for col in first..end.min(COLUMNS) {
         canvas.fill_rect(area, &column_line(col), GREY);
     }
 }
 
 // Draws the lines of the rows that the area meets.
 fn draw_rows(canvas: &mut Canvas, area: &Area)
-    requires { Shows (λ part x y. lined (on_columns 256 x y)) area.now canvas.old }
+    requires { Shows (λ part x y. lined (on_columns COLUMNS x y)) area.now canvas.old }
     ensures { Shows (λ part x y. lined (on_edges x y)) area.now canvas.new }
 {
-    let first = area.posy() / 240;
-    let end = (area.posy() + area.tileheight() - 1) / 240 + 1;
-    for row in first..end.min(4_096) {
+    let first = area.posy() / CELL_HEIGHT;
+    let end = (area.posy() + area.tileheight() - 1) / CELL_HEIGHT + 1;
+    for row in first..end.min(ROWS) {
         canvas.fill_rect(area, &row_line(row), GREY);
     }
 }
 
 // The line at the right edge of a column.
 fn column_line(col: u32) -> Rect
-    requires { col < 256 }
+    requires { col < COLUMNS }
     ensures { result ≡ column_line col }
 {
     Rect {
-        x: col * 960 + 945,
+        x: col * CELL_WIDTH + 945,
         y: 0,
         w: 15,
-        h: 983_040,
+        h: PART_HEIGHT,
     }
 }
 
 // The line at the lower edge of a row.
 fn row_line(row: u32) -> Rect
-    requires { row < 4096 }
+    requires { row < ROWS }
     ensures { result ≡ row_line row }
 {
     Rect {
         x: 0,
-        y: row * 240 + 225,
-        w: 245_760,
+        y: row * CELL_HEIGHT + 225,
+        w: PART_WIDTH,
         h: 15,
     }
 }
@@ -101,7 +103,7 @@ fn draw_text(canvas: &mut Canvas, area: &Area, lines: bool, shown: &ShownText)
     ensures { (texts : List ShownText) → Shows (λ part. cut_colour lines texts) area.now canvas.old
         → Shows (λ part. cut_colour lines (texts ++ shown.now ∷ [])) area.now canvas.new }
 {
-    if shown.row >= 4_096 || shown.col >= 256 {
+    if shown.row >= ROWS || shown.col >= COLUMNS {
         return;
     }
     let cell = cell_within(lines, shown.row, shown.col);
@@ -110,14 +112,14 @@ fn draw_text(canvas: &mut Canvas, area: &Area, lines: bool, shown: &ShownText)
 
 // The points of a cell that no line takes.
 fn cell_within(lines: bool, row: u32, col: u32) -> Rect
-    requires row { row < 4096 }
-    requires col { col < 256 }
+    requires row { row < ROWS }
+    requires col { col < COLUMNS }
     ensures { result ≡ cell_within lines row col }
 {
     Rect {
-        x: col * 960,
-        y: row * 240,
-        w: if lines { 945 } else { 960 },
-        h: if lines { 225 } else { 240 },
+        x: col * CELL_WIDTH,
+        y: row * CELL_HEIGHT,
+        w: if lines { 945 } else { CELL_WIDTH },
+        h: if lines { 225 } else { CELL_HEIGHT },
     }
 }

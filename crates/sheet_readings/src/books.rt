@@ -6,7 +6,7 @@ ghost use Rattle.sheet_cells.specs.Cells.{IsCell};
 use crate::desk::Desk;
 use crate::spelling::{cell, number};
 use sheet_calc::{Book, is_raw};
-use sheet_cells::{CellRef, Cells};
+use sheet_cells::{COLUMNS, CellRef, Cells, MOST_PARTS, ROWS};
 use std::alloc::Global;
 use std::io::Print;
 
@@ -16,44 +16,38 @@ pub fn texts(rt: &impl Print, alloc: Global, text: &str) -> anyhow::Result<()> {
     let (first, rest) = text.split_once('|').unwrap_or((text, ""));
     let (second, rest) = rest.split_once('|').unwrap_or((rest, ""));
     let (third, fourth) = rest.split_once('|').unwrap_or((rest, ""));
-    let mut cells = Cells::new(alloc, 16)?;
-    write_two(rt, alloc, &mut cells, first, second)?;
-    write_two(rt, alloc, &mut cells, third, fourth)?;
+    let mut cells = Cells::new(alloc, MOST_PARTS)?;
+    write_two(rt, &mut cells, first, second)?;
+    write_two(rt, &mut cells, third, fourth)?;
     look(rt, &cells, first)?;
     look(rt, &cells, second)
 }
 
 // Gives two cells their raw texts, and prints then what the first of them has.
-fn write_two(
-    rt: &impl Print,
-    alloc: Global,
-    cells: &mut Cells,
-    first: &str,
-    second: &str,
-) -> anyhow::Result<()>
-    requires { cells.old.parts ≡ 16 }
-    ensures { OnOk result (cells.new.parts ≡ 16) }
+fn write_two(rt: &impl Print, cells: &mut Cells, first: &str, second: &str) -> anyhow::Result<()>
+    requires { cells.old.parts ≡ MOST_PARTS }
+    ensures { OnOk result (cells.new.parts ≡ MOST_PARTS) }
 {
-    write(rt, alloc, cells, first)?;
-    write(rt, alloc, cells, second)?;
+    write(rt, cells, first)?;
+    write(rt, cells, second)?;
     look(rt, cells, first)
 }
 
 // The cell and the text behind it, where the cell is one of sixteen parts.
 fn in_sixteen(text: &str) -> Option<(CellRef, &str)>
-    ensures { IfSome result (λ pair. IsCell 16 pair.0) }
+    ensures { IfSome result (λ pair. IsCell MOST_PARTS pair.0) }
 {
     let (at, raw) = cell(text)?;
-    if at.part >= 16 || at.row >= 4096 || at.col >= 256 {
+    if at.part >= MOST_PARTS || at.row >= ROWS || at.col >= COLUMNS {
         return None;
     }
     Some((at, raw))
 }
 
 // Gives the cell its raw text, where both are, and prints what it has then.
-fn write(rt: &impl Print, alloc: Global, cells: &mut Cells, text: &str) -> anyhow::Result<()>
-    requires { cells.old.parts ≡ 16 }
-    ensures { OnOk result (cells.new.parts ≡ 16) }
+fn write(rt: &impl Print, cells: &mut Cells, text: &str) -> anyhow::Result<()>
+    requires { cells.old.parts ≡ MOST_PARTS }
+    ensures { OnOk result (cells.new.parts ≡ MOST_PARTS) }
 {
     let Some((at, raw)) = in_sixteen(text) else {
         println!(rt; "  no cell")?;
@@ -63,14 +57,14 @@ fn write(rt: &impl Print, alloc: Global, cells: &mut Cells, text: &str) -> anyho
         println!(rt; "  no raw text")?;
         return Ok(());
     }
-    cells.set(alloc, &at, raw)?;
+    cells.set(&at, raw)?;
     println!(rt; "  [{}]", cells.raw(&at))?;
     Ok(())
 }
 
 // Prints what the cell has.
 fn look(rt: &impl Print, cells: &Cells, text: &str) -> anyhow::Result<()>
-    requires { cells.now.parts ≡ 16 }
+    requires { cells.now.parts ≡ MOST_PARTS }
 {
     match in_sixteen(text) {
         Some((at, _)) => println!(rt; "  [{}]", cells.raw(&at))?,
@@ -83,7 +77,7 @@ fn look(rt: &impl Print, cells: &Cells, text: &str) -> anyhow::Result<()>
 pub fn in_book(book: &Book, at: CellRef) -> Option<CellRef>
     ensures { IfSome result (λ at. IsCell (length book.now) at) }
 {
-    if at.part >= book.parts() || at.row >= 4096 || at.col >= 256 {
+    if at.part >= book.parts() || at.row >= ROWS || at.col >= COLUMNS {
         return None;
     }
     Some(at)
@@ -97,7 +91,7 @@ pub fn begin_book(
     text: &str,
 ) -> anyhow::Result<()> {
     let parts = number(text);
-    if parts < 1 || parts > 16 {
+    if parts < 1 || parts > MOST_PARTS {
         println!(rt; "  no book")?;
         return Ok(());
     }
@@ -112,21 +106,15 @@ pub fn begin_book(
 
 /// Gives a cell of the book a raw text, and prints the length that was foretold of the file, each cell that
 /// shows another text, and the file's length.
-pub fn set(rt: &impl Print, alloc: Global, desk: &mut Desk, text: &str) -> anyhow::Result<()> {
+pub fn set(rt: &impl Print, desk: &mut Desk, text: &str) -> anyhow::Result<()> {
     match cell(text) {
-        Some((at, raw)) => edit(rt, alloc, &mut desk.book, at, raw),
+        Some((at, raw)) => edit(rt, &mut desk.book, at, raw),
         None => Ok(println!(rt; "  no cell")?),
     }
 }
 
 // Gives the cell the raw text, where both are, and prints what comes of it.
-fn edit(
-    rt: &impl Print,
-    alloc: Global,
-    book: &mut Book,
-    at: CellRef,
-    raw: &str,
-) -> anyhow::Result<()> {
+fn edit(rt: &impl Print, book: &mut Book, at: CellRef, raw: &str) -> anyhow::Result<()> {
     let Some(at) = in_book(book, at) else {
         println!(rt; "  no cell or no raw text")?;
         return Ok(());
@@ -136,8 +124,8 @@ fn edit(
         return Ok(());
     }
     let foretold = book.text_len_with(&at, raw);
-    let changed = book.set(alloc, &at, raw)?;
-    for (row, col) in changed.places.get() {
+    let changed = book.set(&at, raw)?;
+    for (row, col) in changed.positions.get() {
         let (row, col) = (*row, *col);
         shown(
             rt,

@@ -2,18 +2,15 @@
 use crate::desk::Desk;
 use crate::spelling::{bytes, cell, number};
 use cool_base::Memory;
-use sheet_calc::{BookDraft, is_raw};
-use sheet_cells::CellRef;
+use sheet_calc::{BookDraft, FILE_LIMIT, is_raw};
+use sheet_cells::{COLUMNS, CellRef, MOST_PARTS, ROWS};
 use sheet_file::{read_book, write_book};
 use std::alloc::Global;
 use std::io::{self, Print, Write};
 
-/// The largest file that is written.
-const MAX_FILE: u64 = 2_097_152;
-
 /// The file of the book.
 pub fn written(rt: &impl Print, alloc: Global, desk: &Desk) -> anyhow::Result<()> {
-    if desk.book.text_len() > MAX_FILE {
+    if desk.book.text_len() > FILE_LIMIT as u64 {
         println!(rt; "  too long")?;
         return Ok(());
     }
@@ -27,7 +24,7 @@ pub fn written(rt: &impl Print, alloc: Global, desk: &Desk) -> anyhow::Result<()
 pub fn draft(rt: &impl Print, alloc: Global, desk: &mut Desk, text: &str) -> anyhow::Result<()> {
     let (parts, mut rest) = text.split_once('|').unwrap_or((text, ""));
     let parts = number(parts);
-    if parts < 1 || parts > 16 {
+    if parts < 1 || parts > MOST_PARTS {
         println!(rt; "  no draft")?;
         return Ok(());
     }
@@ -36,22 +33,22 @@ pub fn draft(rt: &impl Print, alloc: Global, desk: &mut Desk, text: &str) -> any
         let (one, behind) = rest.split_once('|').unwrap_or((rest, ""));
         rest = behind;
         if let Some((at, raw)) = cell(one) {
-            add(alloc, &mut draft, at, raw)?;
+            add(&mut draft, at, raw)?;
         }
     }
-    desk.book = draft.finish(alloc)?;
+    desk.book = draft.finish()?;
     written(rt, alloc, desk)
 }
 
 // Gives the cell of the draft the raw text, where both are.
-fn add(alloc: Global, draft: &mut BookDraft, at: CellRef, raw: &str) -> Result<(), Memory> {
-    if at.part >= draft.parts() || at.row >= 4096 || at.col >= 256 {
+fn add(draft: &mut BookDraft, at: CellRef, raw: &str) -> Result<(), Memory> {
+    if at.part >= draft.parts() || at.row >= ROWS || at.col >= COLUMNS {
         return Ok(());
     }
     if !is_raw(raw) {
         return Ok(());
     }
-    draft.add(alloc, &at, raw)
+    draft.add(&at, raw)
 }
 
 /// What the file of these bytes says; where it says a book, that is the book, and its file is written.

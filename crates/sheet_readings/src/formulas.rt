@@ -23,7 +23,7 @@ struct Sevens {
 impl Lookup for Sevens {
     ghost use Rattle.std.specs.Prelude.{◌==◌, if◌then◌else◌};
 
-    ghost value_at = { λ cells place. if place.0 == cells.row then Number (pos 7) else Empty };
+    ghost value_at = { λ cells position. if position.0 == cells.row then Number (pos 7) else Empty };
 
     fn value(&self, _alloc: Global, row: u32, _col: u32) -> Result<Value, Memory> {
         if row == self.row {

@@ -37,7 +37,7 @@ fn answer(rt: &impl Print, alloc: Global, desk: &mut Desk, line: &str) -> anyhow
         "nested" => formulas::nested(rt, alloc, rest),
         "texts" => books::texts(rt, alloc, rest),
         "book" => books::begin_book(rt, alloc, desk, rest),
-        "set" => books::set(rt, alloc, desk, rest),
+        "set" => books::set(rt, desk, rest),
         "show" => books::show(rt, desk, rest),
         "written" => files::written(rt, alloc, desk),
         "draft" => files::draft(rt, alloc, desk, rest),

@@ -7,14 +7,14 @@ use Rattle.std.proofs.lemmas.Bool.{and_from, and_parts}
 use Rattle.std.proofs.lemmas.Bool.Decides.{nat_tests}
 use Rattle.std.proofs.lemmas.List.Folds.{list_any-append}
 use Rattle.std.proofs.lemmas.Str.{chars-nil}
-use Rattle.bitmap_font.specs.Glyphs.{dot_of}
+use Rattle.bitmap_font.specs.Glyphs.{dot_of, has_dot}
 use Rattle.tile_key.specs.Places.{Place, IsArea}
 use Rattle.kit_trait.specs.Pictures.{Colour, white, rgba, row, rows, picture, x_at, y_at}
 use Rattle.sheet_cells.specs.declared.cells.CellRef.{CellRef}
 use Rattle.sheet_calc.specs.Books.{Parts, shown_of}
 use Rattle.sheet_rules.specs.declared.cuts.ShownText.{ShownText}
 use Rattle.sheet_rules.specs.Typing.{is_inside, cell_at}
-use Rattle.sheet_rules.specs.Colours.{black, grey, has_lines, is_line, has_dot, is_lettered, cell_colour, colour_of}
+use Rattle.sheet_rules.specs.Colours.{black, grey, has_lines, is_line, is_lettered, cell_colour, colour_of}
 use Rattle.sheet_rules.specs.Cuts.{text_in, texts_in_row, texts_in_rows, cells_met, texts_of, is_dot_of, cut_colour}
 
 -- ---- pictures that agree at each sampled point are one

@@ -17,12 +17,12 @@ use Rattle.std.proofs.lemmas.List.Folds.{list_all-append}
 use Rattle.std.proofs.lemmas.Str.{IsUtf8-nil, IsUtf8-append, IsUtf8-encode, IsUtf8-from_is_utf8, encodes-append, encodes-chars, scalars-chars}
 use Rattle.sheet_cells.specs.declared.cells.CellRef.{CellRef}
 use Rattle.sheet_cells.specs.Cells.{IsCell, IsRaw, is_raw_byte}
-use Rattle.formula_base.specs.Ranges.{Place, place_cmp}
+use Rattle.formula_base.specs.Ranges.{Position, position_cmp}
 use Rattle.part_calc.specs.Parts.{Part, text_at, with_text}
 use Rattle.part_calc.specs.Kept.{IsEntry, IsPart}
 use Rattle.part_calc.proofs.KeptLaws.{put_kept}
 use Rattle.part_calc.proofs.ListLaws.{sorted_insert}
-use Rattle.sheet_calc.specs.Books.{Parts, IsBook, place_of, part_at, text_of, with_cell}
+use Rattle.sheet_calc.specs.Books.{Parts, IsBook, position_of, part_at, text_of, with_cell}
 use Rattle.sheet_calc.specs.FileText.{file_text}
 use Rattle.kit_trait.specs.declared.keys.KeyCode.{KeyCode}
 use Rattle.kit_trait.specs.declared.keys.KeyCode.TheVariants.{Down, Up, Left, Right, Home, End, Return, Tab, Backspace, Delete}
@@ -31,9 +31,9 @@ use Rattle.kit_trait.specs.declared.values.Input.{Input}
 use Rattle.kit_trait.specs.declared.values.What.{What}
 use Rattle.kit_trait.specs.declared.values.What.TheVariants.{Key, Mouse}
 use Rattle.sheet_rules.specs.declared.cursors.Cursor.{Cursor}
-use Rattle.sheet_rules.specs.declared.cursors.Act.{Act}
-use Rattle.sheet_rules.specs.declared.cursors.Act.TheVariants.{Stays, Goes, Writes}
-use Rattle.sheet_rules.specs.Typing.{Sheet, first_cursor, cursor_in, cursor_of, cell_below, cell_above, cell_left, cell_right, row_start, last_filled, row_end, is_inside, cell_at, without_last, char_act, code_act, key_act, mouse_act, act_of, fits, writes_raw, written, acted, stepped}
+use Rattle.sheet_rules.specs.declared.cursors.Meaning.{Meaning}
+use Rattle.sheet_rules.specs.declared.cursors.Meaning.TheVariants.{Stays, Goes, Writes}
+use Rattle.sheet_rules.specs.Typing.{Sheet, first_cursor, cursor_in, cursor_of, cell_below, cell_above, cell_left, cell_right, row_start, last_filled, row_end, is_inside, cell_at, without_last, char_meaning, code_meaning, key_meaning, mouse_meaning, meaning_of, fits, writes_raw, written, carried_out, stepped}
 use Rattle.sheet_rules.specs.Sheets.{AreCursors, IsSheet}
 use Rattle.sheet_rules.proofs.ChangedCells.{part_kept}
 
@@ -93,7 +93,7 @@ pub record IsText (raw : List ℕ) : Type 0 where
 no_text : IsText []
 no_text = record { bytes = refl; utf8 = IsUtf8-nil }
 
-found_text : (test : Place → Bool) (part : Part) → AllByRecursion IsEntry part → IsText (unwrap_or (lookup test part) [])
+found_text : (test : Position → Bool) (part : Part) → AllByRecursion IsEntry part → IsText (unwrap_or (lookup test part) [])
 found_text test [] all = no_text
 found_text test (e ∷ part) all = by (test e.0) (found_text test part all.1)
   where
@@ -104,7 +104,7 @@ found_text test (e ∷ part) all = by (test e.0) (found_text test part all.1)
 -- the raw text of a cell
 pub text_is : (parts : Parts) (at : CellRef) → IsBook parts → IsText (text_of parts at)
 unfolding text_of text_at
-text_is parts at book = found_text (is_at (place_cmp (place_of at))) (part_at parts at.part) (part_kept parts at.part book.each).entries
+text_is parts at book = found_text (is_at (position_cmp (position_of at))) (part_at parts at.part) (part_kept parts at.part book.each).entries
 
 front_scalars : (n : ℕ) (cs : List ℕ) → all_scalars cs ≡ true → all_scalars (take n cs) ≡ true
 front_scalars zero cs e = refl
@@ -165,16 +165,16 @@ added_text a b s t = record {
 
 -- ---- acts
 
--- an act goes to a cell, or writes a text that a cell may have
-abbrev pub IsAct : ℕ → Act → Type 0
-IsAct n Stays = Unit {0}
-IsAct n (Goes to) = IsCell n to
-IsAct n (Writes raw fresh) = IsText raw
+-- a meaning goes to a cell, or writes a text that a cell may have
+abbrev pub IsMeant : ℕ → Meaning → Type 0
+IsMeant n Stays = Unit {0}
+IsMeant n (Goes to) = IsCell n to
+IsMeant n (Writes raw fresh) = IsText raw
 
-char_is : (n : ℕ) (parts : Parts) (a : Cursor) (chr : ℕ) → IsBook parts → IsAct n (char_act parts a chr)
+char_is : (n : ℕ) (parts : Parts) (a : Cursor) (chr : ℕ) → IsBook parts → IsMeant n (char_meaning parts a chr)
 char_is n parts a chr book = by (is_typed chr) refl
   where
-    by : (b : Bool) → is_typed chr ≡ b → IsAct n (if b then Writes (if a.fresh then encode_utf8 chr else text_of parts a.at ++ encode_utf8 chr) false else Stays)
+    by : (b : Bool) → is_typed chr ≡ b → IsMeant n (if b then Writes (if a.fresh then encode_utf8 chr else text_of parts a.at ++ encode_utf8 chr) false else Stays)
     by true e = either IsText a.fresh (encode_utf8 chr) (text_of parts a.at ++ encode_utf8 chr) (typed_text chr e) (added_text (text_of parts a.at) (encode_utf8 chr) (text_is parts a.at book) (typed_text chr e))
     by false e = tt
 
@@ -202,7 +202,7 @@ right_is n at cell = record { part = cell.part; row = cell.row; col = omega arit
 start_is : (n : ℕ) (at : CellRef) → IsCell n at → IsCell n (row_start at)
 start_is n at cell = record { part = cell.part; row = cell.row; col = lit< tt }
 
-code_is : (n : ℕ) (parts : Parts) (a : Cursor) (key : KeyCode) → IsBook parts → IsCell n a.at → IsAct n (code_act parts a key)
+code_is : (n : ℕ) (parts : Parts) (a : Cursor) (key : KeyCode) → IsBook parts → IsCell n a.at → IsMeant n (code_meaning parts a key)
 code_is n parts a Down book cell = below_is n a.at cell
 code_is n parts a Up book cell = above_is n a.at cell
 code_is n parts a Left book cell = left_is n a.at cell
@@ -214,42 +214,42 @@ code_is n parts a Tab book cell = right_is n a.at cell
 code_is n parts a Backspace book cell = shorter_text (text_of parts a.at) (text_is parts a.at book)
 code_is n parts a Delete book cell = no_text
 
-key_is : (n : ℕ) (parts : Parts) (a : Cursor) (chr : ℕ) (key : Option KeyCode) → IsBook parts → IsCell n a.at → IsAct n (key_act parts a chr key)
+key_is : (n : ℕ) (parts : Parts) (a : Cursor) (chr : ℕ) (key : Option KeyCode) → IsBook parts → IsCell n a.at → IsMeant n (key_meaning parts a chr key)
 key_is n parts a chr (Some key) book cell = code_is n parts a key book cell
 key_is n parts a chr None book cell = char_is n parts a chr book
 
-mouse_is : (n part x y : ℕ) → part < n → IsAct n (mouse_act part x y)
+mouse_is : (n part x y : ℕ) → part < n → IsMeant n (mouse_meaning part x y)
 mouse_is n part x y h = by (is_inside x y) refl
   where
-    by : (b : Bool) → is_inside x y ≡ b → IsAct n (if b then Goes (cell_at part x y) else Stays)
+    by : (b : Bool) → is_inside x y ≡ b → IsMeant n (if b then Goes (cell_at part x y) else Stays)
     by true e =
         let sides = and_parts (nat_lt x 245760) (nat_lt y 983040) e in
         record { part = h; row = omega (arith, ltb-true y 983040 sides.1); col = omega (arith, ltb-true x 245760 sides.0) }
     by false e = tt
 
-pub act_is : (n : ℕ) (parts : Parts) (a : Cursor) (part : ℕ) (what : What) → IsBook parts → IsCell n a.at → part < n → IsAct n (act_of parts a part what)
-act_is n parts a part (Key chr code) book cell h = key_is n parts a chr (key_with code) book cell
-act_is n parts a part (Mouse x y count buttons modifier) book cell h = mouse_is n part x y h
+pub meaning_is : (n : ℕ) (parts : Parts) (a : Cursor) (part : ℕ) (what : What) → IsBook parts → IsCell n a.at → part < n → IsMeant n (meaning_of parts a part what)
+meaning_is n parts a part (Key chr code) book cell h = key_is n parts a chr (key_with code) book cell
+meaning_is n parts a part (Mouse x y count buttons modifier) book cell h = mouse_is n part x y h
 
 -- so what it writes may stand in a raw text
-pub act_writes : (n : ℕ) (act : Act) → IsAct n act → writes_raw act ≡ true
-act_writes n Stays is = refl
-act_writes n (Goes to) is = refl
-act_writes n (Writes raw fresh) is = is.bytes
+pub meaning_writes : (n : ℕ) (meaning : Meaning) → IsMeant n meaning → writes_raw meaning ≡ true
+meaning_writes n Stays is = refl
+meaning_writes n (Goes to) is = refl
+meaning_writes n (Writes raw fresh) is = is.bytes
 
 -- ---- parts
 
-keys_inserted : (part : Part) (p : Place) (raw : List ℕ) → insert_key place_cmp (keys_of part) p ≡ keys_of (insert_entry place_cmp part p raw)
+keys_inserted : (part : Part) (p : Position) (raw : List ℕ) → insert_key position_cmp (keys_of part) p ≡ keys_of (insert_entry position_cmp part p raw)
 keys_inserted [] p raw = refl
-keys_inserted (e ∷ part) p raw = by (place_cmp p e.0) (keys_inserted part p raw)
+keys_inserted (e ∷ part) p raw = by (position_cmp p e.0) (keys_inserted part p raw)
   where
-    by : (o : Ordering) → insert_key place_cmp (keys_of part) p ≡ keys_of (insert_entry place_cmp part p raw)
-        → match_ordering o (p ∷ e.0 ∷ keys_of part) (e.0 ∷ keys_of part) (e.0 ∷ insert_key place_cmp (keys_of part) p) ≡ keys_of (match_ordering o ((p, raw) ∷ e ∷ part) ((e.0, raw) ∷ part) (e ∷ insert_entry place_cmp part p raw))
+    by : (o : Ordering) → insert_key position_cmp (keys_of part) p ≡ keys_of (insert_entry position_cmp part p raw)
+        → match_ordering o (p ∷ e.0 ∷ keys_of part) (e.0 ∷ keys_of part) (e.0 ∷ insert_key position_cmp (keys_of part) p) ≡ keys_of (match_ordering o ((p, raw) ∷ e ∷ part) ((e.0, raw) ∷ part) (e ∷ insert_entry position_cmp part p raw))
     by Less ih = refl
     by Equal ih = refl
-    by Greater ih = ap (λ (ks : List Place). e.0 ∷ ks) ih
+    by Greater ih = ap (λ (ks : List Position). e.0 ∷ ks) ih
 
-all_removed : (P : Place → Type 0) (test : Place → Bool) (part : Part) → AllByRecursion P (keys_of part) → AllByRecursion P (keys_of (remove_entry test part))
+all_removed : (P : Position → Type 0) (test : Position → Bool) (part : Part) → AllByRecursion P (keys_of part) → AllByRecursion P (keys_of (remove_entry test part))
 all_removed P test [] all = tt
 all_removed P test (e ∷ part) all = by (test e.0) (all_removed P test part all.1)
   where
@@ -257,21 +257,21 @@ all_removed P test (e ∷ part) all = by (test e.0) (all_removed P test part all
     by true ih = all.1
     by false ih = (all.0, ih)
 
-sorted_removed : (test : Place → Bool) (part : Part) → IsStrictlySortedBy place_cmp (keys_of part) → IsStrictlySortedBy place_cmp (keys_of (remove_entry test part))
+sorted_removed : (test : Position → Bool) (part : Part) → IsStrictlySortedBy position_cmp (keys_of part) → IsStrictlySortedBy position_cmp (keys_of (remove_entry test part))
 unfolding IsStrictlySortedBy
 sorted_removed test [] s = tt
 sorted_removed test (e ∷ part) s = by (test e.0) (sorted_removed test part s.1)
   where
-    by : (b : Bool) → IsStrictlySortedBy place_cmp (keys_of (remove_entry test part)) → IsStrictlySortedBy place_cmp (keys_of (cond b part (e ∷ remove_entry test part)))
+    by : (b : Bool) → IsStrictlySortedBy position_cmp (keys_of (remove_entry test part)) → IsStrictlySortedBy position_cmp (keys_of (cond b part (e ∷ remove_entry test part)))
     by true ih = s.1
-    by false ih = (all_removed (λ q. place_cmp e.0 q ≡ Less) test part s.0, ih)
+    by false ih = (all_removed (λ q. position_cmp e.0 q ≡ Less) test part s.0, ih)
 
-sorted_edit : (part : Part) (p : Place) (raw : List ℕ) → IsStrictlySortedBy place_cmp (keys_of part) → IsStrictlySortedBy place_cmp (keys_of (with_text part p raw))
+sorted_edit : (part : Part) (p : Position) (raw : List ℕ) → IsStrictlySortedBy position_cmp (keys_of part) → IsStrictlySortedBy position_cmp (keys_of (with_text part p raw))
 unfolding with_text
-sorted_edit part p [] s = sorted_removed (is_at (place_cmp p)) part s
-sorted_edit part p (c ∷ raw) s = subst (IsStrictlySortedBy place_cmp) (keys_inserted part p (c ∷ raw)) (sorted_insert (keys_of part) p s)
+sorted_edit part p [] s = sorted_removed (is_at (position_cmp p)) part s
+sorted_edit part p (c ∷ raw) s = subst (IsStrictlySortedBy position_cmp) (keys_inserted part p (c ∷ raw)) (sorted_insert (keys_of part) p s)
 
-part_edited : (part : Part) (p : Place) (raw : List ℕ) → IsPart part → p.0 < 4096 → p.1 < 256 → IsRaw raw → IsUtf8 raw → IsPart (with_text part p raw)
+part_edited : (part : Part) (p : Position) (raw : List ℕ) → IsPart part → p.0 < 4096 → p.1 < 256 → IsRaw raw → IsUtf8 raw → IsPart (with_text part p raw)
 part_edited part p raw is row col valid utf8 = put_kept part (with_text part p raw) p raw raw is row col valid utf8 refl refl (sorted_edit part p raw is.ordered)
 
 each_set : (parts : Parts) (n : ℕ) (part : Part) → AllByRecursion IsPart parts → IsPart part → AllByRecursion IsPart (set parts n part)
@@ -282,17 +282,17 @@ each_set (p ∷ parts) (suc n) part all is = (all.0, each_set parts n part all.1
 -- the parts stay as many
 pub parts_stay : (parts : Parts) (at : CellRef) (raw : List ℕ) → length (with_cell parts at raw) ≡ length parts
 unfolding with_cell
-parts_stay parts at raw = length-set parts at.part (with_text (part_at parts at.part) (place_of at) raw)
+parts_stay parts at raw = length-set parts at.part (with_text (part_at parts at.part) (position_of at) raw)
 
 book_edited : (parts : Parts) (at : CellRef) (raw : List ℕ) → IsBook parts → IsCell (length parts) at → IsRaw raw → IsUtf8 raw → IsBook (with_cell parts at raw)
 unfolding with_cell
 book_edited parts at raw book cell valid utf8 =
-    let new = with_text (part_at parts at.part) (place_of at) raw in
+    let new = with_text (part_at parts at.part) (position_of at) raw in
     let same = length-set parts at.part new in
     record {
       some = omega (arith, book.some, same);
       few = omega (arith, book.few, same);
-      each = each_set parts at.part new book.each (part_edited (part_at parts at.part) (place_of at) raw (part_kept parts at.part book.each) cell.row cell.col valid utf8);
+      each = each_set parts at.part new book.each (part_edited (part_at parts at.part) (position_of at) raw (part_kept parts at.part book.each) cell.row cell.col valid utf8);
     }
 
 -- ---- the document
@@ -314,19 +314,19 @@ written_sound c view a raw sound cell text = by (fits c.parts a.at raw) refl
     }
     by false e = sound
 
-pub acted_sound : (c : Sheet) (view : ℕ) (at : CellRef) (act : Act) → IsSheet c → IsCell (length c.parts) at → IsAct (length c.parts) act → IsSheet (acted c view at act)
-acted_sound c view at Stays sound cell is = sound
-acted_sound c view at (Goes to) sound cell is =
+pub carried_out_sound : (c : Sheet) (view : ℕ) (at : CellRef) (meaning : Meaning) → IsSheet c → IsCell (length c.parts) at → IsMeant (length c.parts) meaning → IsSheet (carried_out c view at meaning)
+carried_out_sound c view at Stays sound cell is = sound
+carried_out_sound c view at (Goes to) sound cell is =
     record { book = sound.book; short = sound.short; cursors = cursors_put (length c.parts) c.cursors view (record { at = to; fresh = true }) sound.cursors is }
-acted_sound c view at (Writes raw fresh) sound cell is = written_sound c view (record { at = at; fresh = fresh }) raw sound cell is
+carried_out_sound c view at (Writes raw fresh) sound cell is = written_sound c view (record { at = at; fresh = fresh }) raw sound cell is
 
 pub step_sound : (c : Sheet) (input : Input) → IsSheet c → IsSheet (stepped c input)
 step_sound c input sound = by (nat_lt input.part (length c.parts)) refl
   where
-    by : (b : Bool) → nat_lt input.part (length c.parts) ≡ b → IsSheet (if b then acted c input.view.0 (cursor_of c.cursors input.view.0 input.part).at (act_of c.parts (cursor_of c.cursors input.view.0 input.part) input.part input.what) else c)
+    by : (b : Bool) → nat_lt input.part (length c.parts) ≡ b → IsSheet (if b then carried_out c input.view.0 (cursor_of c.cursors input.view.0 input.part).at (meaning_of c.parts (cursor_of c.cursors input.view.0 input.part) input.part input.what) else c)
     by true e =
         let h = ltb-true input.part (length c.parts) e in
         let a = cursor_of c.cursors input.view.0 input.part in
         let cell = cursor_cell (length c.parts) c.cursors input.view.0 input.part sound.cursors h in
-        acted_sound c input.view.0 a.at (act_of c.parts a input.part input.what) sound cell (act_is (length c.parts) c.parts a input.part input.what sound.book cell h)
+        carried_out_sound c input.view.0 a.at (meaning_of c.parts a input.part input.what) sound cell (meaning_is (length c.parts) c.parts a input.part input.what sound.book cell h)
     by false e = sound

@@ -1,9 +1,10 @@
 -- The colours of a sheet document: cells of 960 by 240 twips, in each the text that it shows, in black on
 -- white; in the look with lines they have grey lines at their right and lower edges.
-use Rattle.std.specs.Prelude.{ℕ, ◌-◌, ◌/◌, ◌%◌, Bool, ◌&&◌, ◌||◌, nat_lt, nat_le, nat_eq, List, length, slice_index, if◌then◌else◌}
+use Rattle.std.specs.Prelude.{ℕ, ◌-◌, ◌%◌, Bool, ◌&&◌, ◌||◌, nat_lt, nat_le, nat_eq, List, length, if◌then◌else◌}
 use Rattle.std.specs.Str.{chars}
 use Rattle.kit_trait.specs.Pictures.{Colour, white}
-use Rattle.bitmap_font.specs.Glyphs.{dot_of}
+use Rattle.bitmap_font.specs.Glyphs.{has_dot}
+use Rattle.cell_damage.specs.declared.limits.TheConstants.{CELL_WIDTH, CELL_HEIGHT}
 use Rattle.sheet_calc.specs.Books.{Parts, shown_of}
 use Rattle.sheet_rules.specs.Typing.{is_inside, cell_at}
 
@@ -25,12 +26,6 @@ is_edge dx dy = nat_le 945 dx || nat_le 225 dy
 abbrev pub is_line : Bool → ℕ → ℕ → Bool
 is_line lines dx dy = lines && is_edge dx dy
 
--- whether a place so many twips right of a text's beginning and below its upper edge lies on a dot of it: the
--- letters stand side by side, each 90 twips wide, and a dot has 15 by 15 twips
-abbrev pub has_dot : List ℕ → ℕ → ℕ → Bool
-has_dot letters across down =
-    nat_lt (across / 90) (length letters) && dot_of (slice_index letters (across / 90)) (across % 90 / 15) (down / 15)
-
 -- whether it lies on a dot of the text that the cell shows: the text begins 30 twips from the left edge and
 -- 60 from the upper one, and is 120 high
 abbrev pub is_lettered : List ℕ → ℕ → ℕ → Bool
@@ -45,5 +40,5 @@ cell_colour lines shown dx dy =
 unfoldable pub colour_of : Parts → (nviewid part x y : ℕ) → Colour
 colour_of parts nviewid part x y =
     if nat_lt part (length parts) && is_inside x y
-    then cell_colour (has_lines nviewid) (shown_of parts (cell_at part x y)) (x % 960) (y % 240)
+    then cell_colour (has_lines nviewid) (shown_of parts (cell_at part x y)) (x % CELL_WIDTH) (y % CELL_HEIGHT)
     else white

@@ -4,6 +4,8 @@ use Rattle.std.specs.List.{list_any}
 use Rattle.kit_trait.specs.Pictures.{Colour, white}
 use Rattle.tile_key.specs.Places.{Place}
 use Rattle.sheet_cells.specs.declared.cells.CellRef.{CellRef}
+use Rattle.sheet_cells.specs.declared.limits.TheConstants.{COLUMNS, ROWS}
+use Rattle.cell_damage.specs.declared.limits.TheConstants.{CELL_WIDTH, CELL_HEIGHT}
 use Rattle.sheet_calc.specs.Books.{Parts, shown_of}
 use Rattle.sheet_rules.specs.declared.cuts.ShownText.{ShownText}
 use Rattle.sheet_rules.specs.Typing.{is_inside}
@@ -33,15 +35,15 @@ cells_met pos size unit limit = min ((pos + size - 1) / unit + 1) limit - pos / 
 -- the texts of the cells that an area meets, by rows and then columns
 unfoldable pub texts_of : Parts → Place → List ShownText
 texts_of parts p =
-    texts_in_rows parts p.part (p.posy / 240) (p.posx / 960) (cells_met p.posx p.tilewidth 960 256) (cells_met p.posy p.tileheight 240 4096)
+    texts_in_rows parts p.part (p.posy / CELL_HEIGHT) (p.posx / CELL_WIDTH) (cells_met p.posx p.tilewidth CELL_WIDTH COLUMNS) (cells_met p.posy p.tileheight CELL_HEIGHT ROWS)
 
 -- whether the point (x, y) lies on a dot of the text
 abbrev pub is_dot_of : ℕ → ℕ → ShownText → Bool
-is_dot_of x y t = (nat_eq t.row (y / 240) && nat_eq t.col (x / 960)) && is_lettered t.text (x % 960) (y % 240)
+is_dot_of x y t = (nat_eq t.row (y / CELL_HEIGHT) && nat_eq t.col (x / CELL_WIDTH)) && is_lettered t.text (x % CELL_WIDTH) (y % CELL_HEIGHT)
 
 -- with lines or without: the colour of a point where the cells show these texts
 abbrev pub cut_colour : Bool → List ShownText → ℕ → ℕ → Colour
 cut_colour lines texts x y =
     if is_inside x y
-    then (if is_line lines (x % 960) (y % 240) then grey else (if list_any (is_dot_of x y) texts then black else white))
+    then (if is_line lines (x % CELL_WIDTH) (y % CELL_HEIGHT) then grey else (if list_any (is_dot_of x y) texts then black else white))
     else white

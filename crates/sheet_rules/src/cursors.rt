@@ -12,7 +12,7 @@ pub struct Cursor {
 
 /// What an input means at a cursor.
 #[derive(Debug, Drop)]
-pub enum Act {
+pub enum Meaning {
     /// Nothing changes.
     Stays,
     /// The cursor goes to the cell, and is fresh there.

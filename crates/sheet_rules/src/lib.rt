@@ -4,15 +4,15 @@
 //! here is the types that they speak of.
 //!
 //! - `Cursor` (`cursors`): where a view stands.
-//! - `Act` (`cursors`): what an input means at a cursor.
+//! - `Meaning` (`cursors`): what an input means at a cursor.
 //! - `ShownText` (`cuts`): what a scene holds of a cell.
-//! - `Stretch` (`runs`): cells side by side.
+//! - `limits`: how large a part is.
 #![tactic(auto)]
 
 mod cursors;
 mod cuts;
-mod runs;
+mod limits;
 
-pub use cursors::{Act, Cursor};
+pub use cursors::{Cursor, Meaning};
 pub use cuts::ShownText;
-pub use runs::Stretch;
+pub use limits::{PART_HEIGHT, PART_WIDTH};

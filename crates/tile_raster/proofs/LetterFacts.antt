@@ -6,9 +6,9 @@ use Rattle.std.proofs.lemmas.List.{get_or-take, get_or_default, length-take, tak
 use Rattle.cool_base.specs.Points.{Rectangle, has_point}
 use Rattle.tile_key.specs.Places.{Place}
 use Rattle.kit_trait.specs.Pictures.{Colour, x_at, y_at}
-use Rattle.bitmap_font.specs.Glyphs.{dot_of}
+use Rattle.bitmap_font.specs.Glyphs.{dot_of, has_dot}
 use Rattle.tile_raster.specs.Painting.{Painting, pixel, IsPainted}
-use Rattle.tile_raster.specs.Lettering.{text_dot, is_inked, letter_at}
+use Rattle.tile_raster.specs.Lettering.{text_dot, letter_at}
 use Rattle.tile_raster.specs.Bytes.{letter_dot}
 use Rattle.tile_raster.specs.Spans.{in_span}
 
@@ -71,7 +71,7 @@ painted_none area c colour old none = record {
   pixels = λ i j inside below. rw (none (x_at area i) (y_at area j)) refl;
 }
 
-inked_front : (cs : List ℕ) (n across down : ℕ) → n ≤ length cs → is_inked (take n cs) across down ≡ (nat_lt (letter_at across) n && dot_of (slice_index cs (letter_at across)) (across % 90 / 15) (down / 15))
+inked_front : (cs : List ℕ) (n across down : ℕ) → n ≤ length cs → has_dot (take n cs) across down ≡ (nat_lt (letter_at across) n && dot_of (slice_index cs (letter_at across)) (across % 90 / 15) (down / 15))
 inked_front cs n across down within =
     let long : length (take n cs) ≡ n = simp length-take (omega arith) in
     ⊎_elim (λ (front : across / 90 < n). rw (long, get_or-take n cs (across / 90) 0 front) refl)

@@ -1,6 +1,6 @@
 use Rattle.std.proofs.Common.{◌≡◌, ◌+◌, ◌-◌, ◌≤◌, min, List, ◌++◌, ap, ◌∙◌, arith}
 use Rattle.std.specs.List.{range_with_len}
-use Rattle.formula_base.specs.Ranges.{Place, row_cells}
+use Rattle.formula_base.specs.Ranges.{Position, row_cells}
 use Rattle.formula_base.proofs.SpanLaws.{rows_more, rows_done}
 use Rattle.formula_base.proofs.spans.cells_between.Goals as goal
 
@@ -10,7 +10,7 @@ loop-row-preserved c =
     let columns = range_with_len c.min-left.result (c.max-right.result - c.min-left.result + 1) in
     let below : low ≤ c.loop-row.row = omega arith in
     let one : c.loop-row.row + 1 - low ≡ c.loop-row.row - low + 1 = omega arith in
-    rw one (c.in_ok-push_row.ensures ∙ ap (λ (cells : List Place). cells ++ row_cells columns c.loop-row.row) c.loop-row.invariant ∙ rows_more (row_cells columns) low c.loop-row.row below)
+    rw one (c.in_ok-push_row.ensures ∙ ap (λ (cells : List Position). cells ++ row_cells columns c.loop-row.row) c.loop-row.invariant ∙ rows_more (row_cells columns) low c.loop-row.row below)
 
 pub returns : goal.returns
 returns c =

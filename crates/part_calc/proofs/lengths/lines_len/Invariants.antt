@@ -2,5 +2,5 @@ use Rattle.std.proofs.Common.{◌≡◌, ◌+◌, length}
 use Rattle.part_calc.specs.Text.{part_lines}
 use Rattle.part_calc.proofs.lengths.lines_len.Given as goal
 
-abbrev pub invariant-loop-place : goal.invariant-loop-place
-invariant-loop-place l = l.total + length (part_lines l.number l.place-iterator) ≡ length (part_lines l.number l.cells.entries)
+abbrev pub invariant-loop-position : goal.invariant-loop-position
+invariant-loop-position l = l.total + length (part_lines l.number l.position-iterator) ≡ length (part_lines l.number l.cells.entries)

@@ -1,4 +1,0 @@
-pub mod Characters
-pub mod Apart
-pub mod Written
-pub mod Readable

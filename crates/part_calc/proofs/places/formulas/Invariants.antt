@@ -1,8 +1,0 @@
-use Rattle.std.proofs.Common.{◌≡◌, take}
-use Rattle.std.specs.List.{filter}
-use Rattle.part_calc.specs.Contents.{is_formula}
-use Rattle.part_calc.specs.Parts.{content_at}
-use Rattle.part_calc.proofs.places.formulas.Given as goal
-
-abbrev pub invariant-loop-place : goal.invariant-loop-place
-invariant-loop-place l = l.formulas.items ≡ filter (λ p. is_formula (content_at l.edited p)) (take l.place-index l.places)
