@@ -57,8 +57,8 @@ fn role_of(alloc: Global, lines: &str) -> Result<Option<LineRole>, Memory> {
 }
 
 /// The word for what a line does.
-fn role_word(role_of: &Option<LineRole>) -> &'static str {
-    match role_of {
+fn role_word(role: &Option<LineRole>) -> &'static str {
+    match role {
         None => "none",
         Some(LineRole::Acts(_)) => "acts",
         Some(LineRole::Ends) => "ends",
@@ -106,8 +106,8 @@ fn reading(alloc: Global, line: &str) -> Result<Vec<u8>, Memory> {
             Ok(said.into_bytes())
         }
         "position" => {
-            let role_of = role_of(alloc, rest)?;
-            Ok(Vec::from_slice(alloc, role_word(&role_of).as_bytes())?)
+            let role = role_of(alloc, rest)?;
+            Ok(Vec::from_slice(alloc, role_word(&role).as_bytes())?)
         }
         "source" => {
             let bytes = percent_decoded(alloc, rest.as_bytes())?;

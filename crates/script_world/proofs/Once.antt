@@ -22,7 +22,7 @@ use Rattle.kit_trait.specs.Rules.{Rules, doc}
 use Rattle.kit_trait.specs.declared.jobs.PaintJob.{PaintJob}
 use Rattle.kit_trait.specs.declared.values.Input.{Input}
 use Rattle.tile_key.specs.Places.{Place}
-use Rattle.script_world.specs.House.{House, rights, JoinsWhere, BeginsWhere, LoadsOne, LoadsWhere, seated, SaysAs, LeavesAs, TakesOne, TakesFirst, painted_all, WorksAtOnce, TurnsDocument, PollTurn, wids_of, acknowledges, acknowledgements_by, acknowledgements, IsHousedBy, IsHoused}
+use Rattle.script_world.specs.House.{House, rights, JoinsWhere, BeginsWhere, LoadsOne, LoadsWhere, seated, SaysAs, LeavesAs, TakesOne, TakesFirst, map answered, WorksAtOnce, TurnsDocument, PollTurn, wids_of, says_processed, acknowledgements_by, acknowledgements, IsHousedBy, IsHoused}
 use Rattle.script_world.specs.Seats.{Seats, is_waiting, sits, without, records}
 use Rattle.script_world.specs.World.{Seen, Move, Turn, Acknowledge, Moves, Chain, turns, RestsNow, IsIdle, Turned, Settled, IsAtRest}
 use Rattle.script_world.specs.declared.event.Waiting.{Waiting}
@@ -73,13 +73,13 @@ module _ {C B S : Type 0} (rules : Rules C B) (cut : C → Place → S) where
       ]
 
   cut_at_once : (old mid new : Document S) (outs later : Outs S) (key : Place) → old.jobs ≡ [] → Cuts rules cut old outs mid → map (λ job. job.group) outs.jobs ≡ (key ∷ []) ∷ []
-      → Segment rules cut mid (painted_all outs.jobs) later new
+      → Segment rules cut mid (map answered outs.jobs) later new
       → (outs.frames ++ later.frames ≡ tiles_now old key) × (new ≡ served old key)
   cut_at_once old mid new outs later key none cuts groups answered =
       let job : Job S = cuts.job in
       let group : job.keys ∷ [] ≡ (key ∷ []) ∷ [] = sym (ap (λ (o : Outs S). map (λ (j : PaintJob S). j.group) o.jobs) cuts.outs_are) ∙ groups in
       let keys : job.keys ≡ key ∷ [] = cc in
-      let run : Segment rules cut mid (Painted job.ticket job.scene ∷ []) later new = subst (λ (o : Outs S). Segment rules cut mid (painted_all o.jobs) later new) cuts.outs_are answered in
+      let run : Segment rules cut mid (Painted job.ticket job.scene ∷ []) later new = subst (λ (o : Outs S). Segment rules cut mid (map answered o.jobs) later new) cuts.outs_are answered in
       let step : Step rules cut (cut_now old job) (Painted job.ticket job.scene) run.1 run.0 = subst (λ (d : Document S). Step rules cut d (Painted job.ticket job.scene) run.1 run.0) cuts.new_is run.3 in
       let done = answered_at_once old run.0 job run.1 none step in
       let first : outs.frames ≡ [] = ap (λ (o : Outs S). o.frames) cuts.outs_are in
@@ -101,7 +101,7 @@ module _ {C B S : Type 0} (rules : Rules C B) (cut : C → Place → S) where
   one_work old new frames none work =
       elim (work.works) [
         | inl applies ↦
-            let run = subst (λ (o : Outs S). Segment rules cut work.mid (painted_all o.jobs) work.later new) applies.outs_are work.answered in
+            let run = subst (λ (o : Outs S). Segment rules cut work.mid (map answered o.jobs) work.later new) applies.outs_are work.answered in
             let first : work.first.frames ≡ hurt_now old applies.input = ap (λ (o : Outs S). o.frames) applies.outs_are in
             let rest : work.later.frames ≡ [] = ap (λ (o : Outs S). o.frames) run.0 in
             inl (
@@ -157,7 +157,7 @@ module _ {C B S : Type 0} (rules : Rules C B) (cut : C → Place → S) where
 
   -- a turn of the document
   document_once : (seats : Seats) (old : Option (Document S)) (out others : List ℕ) (worked too : Bool) (new other : Option (Document S))
-      → IsHousedBy rules seats old → TurnsDocument rules cut seats old out worked new → TurnsDocument rules cut seats old others too other
+      → IsHousedBy rules cut seats old → TurnsDocument rules cut seats old out worked new → TurnsDocument rules cut seats old others too other
       → (out ≡ others) × (worked ≡ too) × (new ≡ other)
   document_once seats None out others worked too new other housed a b = (a.0 ∙ sym b.0, a.1 ∙ sym b.1, a.2 ∙ sym b.2)
   document_once seats (Some d) out others true true new other housed a b =
@@ -240,11 +240,11 @@ module _ {C B S : Type 0} (rules : Rules C B) (cut : C → Place → S) where
 
   -- a poll turn
   poll_once : (keeps : Keeps rules cut) (waiting : List Waiting) (old : House S) (out others : List ℕ) (worked too : Bool) (rest more : List Waiting) (new other : House S)
-      → IsHoused rules old → PollTurn rules cut waiting old out worked rest new → PollTurn rules cut waiting old others too more other
+      → IsHoused rules cut old → PollTurn rules cut waiting old out worked rest new → PollTurn rules cut waiting old others too more other
       → (out ≡ others) × (worked ≡ too) × (rest ≡ more) × (new ≡ other)
   poll_once keeps waiting old out others worked too rest more new other housed a b =
       let first = first_once waiting old a.here b.here rest more a.mid b.mid a.takes b.takes in
-      let mid : IsHoused rules b.mid = first_housed rules cut keeps waiting old b.here more b.mid housed b.takes in
+      let mid : IsHoused rules cut b.mid = first_housed rules cut keeps waiting old b.here more b.mid housed b.takes in
       let turn : TurnsDocument rules cut b.mid.seats b.mid.document a.later a.turned new.document = subst (λ (h : House S). TurnsDocument rules cut h.seats h.document a.later a.turned new.document) first.2 a.turns in
       let same = document_once b.mid.seats b.mid.document a.later b.later a.turned b.turned new.document other.document mid turn b.turns in
       let seats : new.seats ≡ other.seats = a.stays ∙ ap (λ (h : House S). h.seats) first.2 ∙ sym b.stays in (
@@ -256,13 +256,13 @@ module _ {C B S : Type 0} (rules : Rules C B) (cut : C → Place → S) where
 
   -- where nothing waits and the document rests, no poll turn works
   no_work : (seats : Seats) (document : Option (Document S)) (out : List ℕ) (worked : Bool) (new : Option (Document S))
-      → IsHousedBy rules seats document → RestsNow rules document → TurnsDocument rules cut seats document out worked new → worked ≡ true → ⊥
+      → IsHousedBy rules cut seats document → RestsNow rules document → TurnsDocument rules cut seats document out worked new → worked ≡ true → ⊥
   no_work seats None out worked new housed rests turn works = let odd : false ≡ true = sym turn.1 ∙ works in absurd (cc)
   no_work seats (Some d) out true new housed rests turn works = work_or_rest d turn.0 turn.1 housed.none_out turn.2 rests
   no_work seats (Some d) out false new housed rests turn works = absurd (cc)
 
   still : (waiting : List Waiting) (old : House S) (out : List ℕ) (rest : List Waiting) (new : House S)
-      → IsHoused rules old → waiting ≡ [] → RestsNow rules old.document → PollTurn rules cut waiting old out true rest new → ⊥
+      → IsHoused rules cut old → waiting ≡ [] → RestsNow rules old.document → PollTurn rules cut waiting old out true rest new → ⊥
   still [] old out rest new housed none rests turn =
       no_work old.seats old.document turn.later turn.turned new.document housed rests
       (subst (λ (h : House S). TurnsDocument rules cut h.seats h.document turn.later turn.turned new.document) turn.takes.2 turn.turns) (sym turn.worked_is)
@@ -276,7 +276,7 @@ module _ {C B S : Type 0} (rules : Rules C B) (cut : C → Place → S) where
   none_acknowledge : (d : Document S) (seats : List (ℕ × ℕ)) → AllByRecursion (λ (v : View). v.window ≡ []) d.views → acknowledgements_by (Some d) seats ≡ []
   none_acknowledge d [] empty = refl
   none_acknowledge d (seat ∷ seats) empty =
-      ap (λ (wids : List ℕ). acknowledges seat.0 wids ++ acknowledgements_by (Some d) seats) (empty_window d seat.1 (find_view d.views seat.1) empty refl) ∙ none_acknowledge d seats empty
+      ap (λ (wids : List ℕ). says_processed seat.0 wids ++ acknowledgements_by (Some d) seats) (empty_window d seat.1 (find_view d.views seat.1) empty refl) ∙ none_acknowledge d seats empty
 
   nobody_acknowledges : (seats : List (ℕ × ℕ)) → acknowledgements_by {S = S} None seats ≡ []
   nobody_acknowledges [] = refl
@@ -296,7 +296,7 @@ module _ {C B S : Type 0} (rules : Rules C B) (cut : C → Place → S) where
       ap (λ (w : List Waiting). record { waiting = w; house = s.house }) waiting ∙ ap (λ (h : House S). record { waiting = t.waiting; house = h }) house
 
   move_once : (keeps : Keeps rules cut) (move too : Move) (s t u : Seen S) (out others : List ℕ)
-      → IsHoused rules s.house → Moves rules cut move s out t → Moves rules cut too s others u → (out ≡ others) × (t ≡ u)
+      → IsHoused rules cut s.house → Moves rules cut move s out t → Moves rules cut too s others u → (out ≡ others) × (t ≡ u)
   move_once keeps Turn Turn s t u out others housed a b =
       let same = poll_once keeps s.waiting s.house out others true true t.waiting u.waiting t.house u.house housed a b in
       (same.0, same_seen t u same.2 same.3)
@@ -304,16 +304,16 @@ module _ {C B S : Type 0} (rules : Rules C B) (cut : C → Place → S) where
   move_once keeps Acknowledge Turn s t u out others housed a b = absurd (still s.waiting s.house others u.waiting u.house housed a.0.0 a.0.1 b)
   move_once keeps Acknowledge Acknowledge s t u out others housed a b = (a.2 ∙ sym b.2, a.3 ∙ sym b.3)
 
-  move_housed : (keeps : Keeps rules cut) (move : Move) (s t : Seen S) (out : List ℕ) → IsHoused rules s.house → Moves rules cut move s out t → IsHoused rules t.house
+  move_housed : (keeps : Keeps rules cut) (move : Move) (s t : Seen S) (out : List ℕ) → IsHoused rules cut s.house → Moves rules cut move s out t → IsHoused rules cut t.house
   move_housed keeps Turn s t out housed a = poll_housed rules cut keeps s.waiting s.house out true t.waiting t.house housed a
-  move_housed keeps Acknowledge s t out housed a = subst (λ (x : Seen S). IsHoused rules x.house) (sym a.3) housed
+  move_housed keeps Acknowledge s t out housed a = subst (λ (x : Seen S). IsHoused rules cut x.house) (sym a.3) housed
 
-  pub chain_housed : (keeps : Keeps rules cut) (moves : List Move) (s t : Seen S) (out : List ℕ) → IsHoused rules s.house → Chain (Moves rules cut) moves s out t → IsHoused rules t.house
-  chain_housed keeps [] s t out housed a = subst (λ (x : Seen S). IsHoused rules x.house) (sym a.1) housed
+  pub chain_housed : (keeps : Keeps rules cut) (moves : List Move) (s t : Seen S) (out : List ℕ) → IsHoused rules cut s.house → Chain (Moves rules cut) moves s out t → IsHoused rules cut t.house
+  chain_housed keeps [] s t out housed a = subst (λ (x : Seen S). IsHoused rules cut x.house) (sym a.1) housed
   chain_housed keeps (move ∷ moves) s t out housed a = chain_housed keeps moves a.0 t a.2 (move_housed keeps move s a.0 a.1 housed a.3) a.4
 
   -- a house at rest makes no move
-  no_move : (move : Move) (s t : Seen S) (out : List ℕ) → IsHoused rules s.house → s.waiting ≡ [] → IsAtRest rules s.house.document → Moves rules cut move s out t → ⊥
+  no_move : (move : Move) (s t : Seen S) (out : List ℕ) → IsHoused rules cut s.house → s.waiting ≡ [] → IsAtRest rules s.house.document → Moves rules cut move s out t → ⊥
   no_move Turn s t out housed none rest a = still s.waiting s.house out t.waiting t.house housed none (rest_is_idle s.house.document rest) a
   no_move Acknowledge s t out housed none rest a =
       let silent : length (acknowledgements s.house) ≡ length {A = Waiting} [] = ap length (rest_is_silent s.house.document s.house.seats.views rest) in
@@ -321,7 +321,7 @@ module _ {C B S : Type 0} (rules : Rules C B) (cut : C → Place → S) where
 
   -- moves up to where all is at rest
   chain_once : (keeps : Keeps rules cut) (moves too : List Move) (s t u : Seen S) (out others : List ℕ)
-      → IsHoused rules s.house → Chain (Moves rules cut) moves s out t → Chain (Moves rules cut) too s others u
+      → IsHoused rules cut s.house → Chain (Moves rules cut) moves s out t → Chain (Moves rules cut) too s others u
       → t.waiting ≡ [] → IsAtRest rules t.house.document → u.waiting ≡ [] → IsAtRest rules u.house.document → (out ≡ others) × (t ≡ u)
   chain_once keeps [] [] s t u out others housed a b none rest still_none still_rest = (a.0 ∙ sym b.0, a.1 ∙ sym b.1)
   chain_once keeps [] (move ∷ moves) s t u out others housed a b none rest still_none still_rest =
@@ -352,14 +352,14 @@ module _ {C B S : Type 0} (rules : Rules C B) (cut : C → Place → S) where
 
   -- no turn is left to make
   none_left : (made n count : ℕ) (s t next u : Seen S) (out : List ℕ)
-      → IsHoused rules s.house → t ≡ s → Reaches (made + 0) count t → Reaches (made + suc n) count u → Moves rules cut Turn s out next → ⊥
+      → IsHoused rules cut s.house → t ≡ s → Reaches (made + 0) count t → Reaches (made + suc n) count u → Moves rules cut Turn s out next → ⊥
   none_left made n count s t next u out housed same (inl is) further turn = too_many made n count u (omega (arith, is)) further
   none_left made n count s t next u out housed same (inr idle) further turn =
       let here : IsIdle rules s = subst (IsIdle rules) same idle.1 in
       still s.waiting s.house out next.waiting next.house housed here.0 here.1 turn
 
   turns_once : (keeps : Keeps rules cut) (made n m count : ℕ) (s t u : Seen S) (out others : List ℕ)
-      → IsHoused rules s.house → Chain (Moves rules cut) (turns n) s out t → Chain (Moves rules cut) (turns m) s others u
+      → IsHoused rules cut s.house → Chain (Moves rules cut) (turns n) s out t → Chain (Moves rules cut) (turns m) s others u
       → Reaches (made + n) count t → Reaches (made + m) count u → (out ≡ others) × (t ≡ u)
   turns_once keeps made zero zero count s t u out others housed a b all every = (a.0 ∙ sym b.0, a.1 ∙ sym b.1)
   turns_once keeps made zero (suc m) count s t u out others housed a b all every = absurd (none_left made m count s t b.0 u b.1 housed a.1 all every b.3)
@@ -372,11 +372,11 @@ module _ {C B S : Type 0} (rules : Rules C B) (cut : C → Place → S) where
 
   -- what the lines `turn` and `settle` write, and the world behind them
   pub turned_once : (keeps : Keeps rules cut) (count : ℕ) (s t u : Seen S) (out others : List ℕ)
-      → IsHoused rules s.house → Turned rules cut count s out t → Turned rules cut count s others u → (out ≡ others) × (t ≡ u)
+      → IsHoused rules cut s.house → Turned rules cut count s out t → Turned rules cut count s others u → (out ≡ others) × (t ≡ u)
   turned_once keeps count s t u out others housed a b =
       turns_once keeps 0 a.made b.made count s t u out others housed a.follows b.follows (from_none a.made count t a.all) (from_none b.made count u b.all)
 
   pub settled_once : (keeps : Keeps rules cut) (s t u : Seen S) (out others : List ℕ)
-      → IsHoused rules s.house → Settled rules cut s out t → Settled rules cut s others u → (out ≡ others) × (t ≡ u)
+      → IsHoused rules cut s.house → Settled rules cut s out t → Settled rules cut s others u → (out ≡ others) × (t ≡ u)
   settled_once keeps s t u out others housed a b =
       chain_once keeps a.moves b.moves s t u out others housed a.follows b.follows a.none_waits a.rests b.none_waits b.rests

@@ -24,14 +24,14 @@ pub struct World<K: Kit> {
 }
 
 impl<K: Kit> Model for World<K> {
-    ghost use Rattle.script_world.specs.House.{IsHoused, held};
+    ghost use Rattle.script_world.specs.House.{IsHoused, document_of};
     ghost use Rattle.script_world.specs.World.{Seen};
 
     ghost Value = { Seen K.Scene };
 
-    ghost view = { λ w. record { waiting = w.waiting.items; house = record { seats = w.seats; document = held w.broker } } };
+    ghost view = { λ w. record { waiting = w.waiting.items; house = record { seats = w.seats; document = document_of w.broker } } };
 
-    ghost invariant = { λ w. IsHoused K.rules (record { seats = w.seats; document = held w.broker }) };
+    ghost invariant = { λ w. IsHoused K.rules K.cut (record { seats = w.seats; document = document_of w.broker }) };
 }
 
 impl<K: Kit> World<K> {
