@@ -8,14 +8,16 @@ use Rattle.cool_message.specs.Reading.{reading}
 use Rattle.cool_message.specs.Writing.{written}
 use Rattle.cool_message.specs.declared.message.ClientMessage.TheVariants.{TileProcessed}
 use Rattle.kit_trait.specs.Rules.{Rules}
-use Rattle.document_machine.proofs.Lists.{all_gone, filter_le}
+use Rattle.document_machine.proofs.Lists.{all_gone}
+use Rattle.send_window.proofs.Closing.{filter_le}
 use Rattle.tile_key.specs.Places.{Place}
 use Rattle.document_machine.specs.Due.{keys}
 use Rattle.document_machine.specs.Kept.{IsKept, IsViewKept}
 use Rattle.document_machine.specs.Message.{acknowledged, becomes, effect, heard, limits_of, reading_effect, reply}
 use Rattle.document_machine.specs.Outputs.{nothing}
 use Rattle.document_machine.specs.Rank.{left_to_do, still_to_come, unacknowledged}
-use Rattle.document_machine.specs.State.{Sent, View, Document, find_view, with_view}
+use Rattle.document_machine.specs.State.{View, Document, find_view, with_view}
+use Rattle.send_window.specs.Tiles.{Sent}
 use Rattle.document_machine.specs.Step.{Says}
 use Rattle.document_machine.specs.declared.outs.Outs.{Outs}
 use Rattle.message_laws.proofs.BoundLemmas.{text_again}

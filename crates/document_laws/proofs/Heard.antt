@@ -23,13 +23,16 @@ use Rattle.kit_trait.specs.declared.values.What.{What}
 use Rattle.tile_key.specs.Places.{Place, Scale, IsKey, is_key, is_zoom, zoom_of, same_place}
 use Rattle.tile_key.specs.Visible.{IsBefore, is_too_large}
 use Rattle.tile_key.proofs.PlaceFacts.{key_facts}
-use Rattle.document_machine.proofs.Lists.{all_push, all_filter, filter_le, same_self}
+use Rattle.document_machine.proofs.Lists.{all_push, all_filter, same_self}
+use Rattle.send_window.proofs.Closing.{filter_le}
 use Rattle.document_machine.specs.Due.{parts_of, size_of, visible, wants, sees_or_asks}
 use Rattle.document_machine.specs.Keys.{Pairwise, is_among}
 use Rattle.document_machine.specs.Kept.{IsViewKept}
 use Rattle.document_machine.specs.Message.{Effect, becomes, answers, enters, asked_with, asked_with_all, input_effect, key_effect, mouse_effect, asking_effect, seeing_effect, zooming_effect, going_effect, message_effect, reading_effect, effect, heard, limits_of, forgets, cancels, acknowledged}
-use Rattle.document_machine.specs.State.{Shown, Sent, View, Document, find_view, with_view}
-use Rattle.document_machine.specs.declared.limits.TheConstants.{MOST_ASKED, MOST_INPUTS, MOST_SENT}
+use Rattle.document_machine.specs.State.{Shown, View, Document, find_view, with_view}
+use Rattle.send_window.specs.Tiles.{Sent}
+use Rattle.document_machine.specs.declared.limits.TheConstants.{MOST_ASKED, MOST_INPUTS}
+use Rattle.send_window.specs.declared.windows.TheConstants.{MOST_SENT}
 use Rattle.document_laws.specs.Tiles.{IsNoStepBack}
 use Rattle.document_laws.proofs.Forgetting.{same_screen, filtered}
 use Rattle.document_laws.proofs.Ordered.{weaker}

@@ -7,13 +7,15 @@ use Rattle.kit_trait.specs.Rules.{Rules}
 use Rattle.kit_trait.specs.declared.values.Input.{Input}
 use Rattle.tile_key.specs.Places.{Place, IsKey, key_order, same_place}
 use Rattle.tile_key.specs.Visible.{IsBefore}
-use Rattle.document_machine.proofs.Lists.{all_push, all_filter, filter_le}
+use Rattle.document_machine.proofs.Lists.{all_push, all_filter}
+use Rattle.send_window.proofs.Closing.{filter_le}
 use Rattle.document_machine.specs.Due.{parts_of, has_room, is_current, is_due, takes, visible, with_version, asked_after, screen_after, sent}
 use Rattle.document_machine.specs.Keys.{Pairwise, is_among}
 use Rattle.document_machine.specs.Kept.{IsViewKept}
 use Rattle.document_machine.specs.State.{Shown, View, Job, Document, find_view, with_view, without_view}
 use Rattle.document_machine.specs.Step.{offered, views_offered}
-use Rattle.document_machine.specs.declared.limits.TheConstants.{MOST_ASKED, MOST_SENT, MOST_VIEWS}
+use Rattle.document_machine.specs.declared.limits.TheConstants.{MOST_ASKED, MOST_VIEWS}
+use Rattle.send_window.specs.declared.windows.TheConstants.{MOST_SENT}
 use Rattle.document_laws.proofs.KeyOrder.{same_is, same_sym, before_by, after_by, before_trans}
 use Rattle.document_laws.proofs.Ordered.{weaker}
 use Rattle.document_laws.proofs.Sending.{asked_other}

@@ -16,7 +16,8 @@ use Rattle.document_machine.specs.Kept.{IsKept, IsViewKept}
 use Rattle.document_machine.specs.Quiet.{IsQuiet, IsRight, AllRight}
 use Rattle.document_machine.specs.State.{Shown, View, Document}
 use Rattle.document_machine.specs.Step.{IsServed}
-use Rattle.document_machine.specs.declared.limits.TheConstants.{MOST_JOBS, MOST_SENT}
+use Rattle.document_machine.specs.declared.limits.TheConstants.{MOST_JOBS}
+use Rattle.send_window.specs.declared.windows.TheConstants.{MOST_SENT}
 use Rattle.document_laws.proofs.Ordered.{both, weaker, all_by, all_ordered, all_among}
 
 -- a place that no input between touched looks the same

@@ -6,7 +6,8 @@ use Rattle.std.proofs.lemmas.List.{drop_more, take-append-drop}
 use Rattle.std.proofs.lemmas.Map.Views.{any-filter_same}
 use Rattle.tile_key.specs.Places.{Place, key_order, same_place}
 use Rattle.document_machine.specs.Keys.{is_among, inserted}
-use Rattle.document_machine.specs.State.{Sent}
+use Rattle.send_window.proofs.Closing.{filter_le}
+use Rattle.send_window.specs.Tiles.{Sent}
 
 -- a number is itself
 pub nat_eq_self : (n : ℕ) → nat_eq n n ≡ true
@@ -74,16 +75,6 @@ holds_among P (other ∷ others) key move all e =
 pub taken_out : (keys : List Place) (key : Place) → is_among (filter (λ other. not (same_place other key)) keys) key ≡ false
 taken_out keys key =
     any-filter_same (λ other. same_place other key) (λ other. not (same_place other key)) false (λ other is. rw is refl) keys
-
--- a filter keeps at most all
-pub filter_le : {X : Type 0} (p : X → Bool) (xs : List X) → length (filter p xs) ≤ length xs
-filter_le p [] = omega arith
-filter_le p (x ∷ xs) =
-    let go : (b : Bool) → length (cond b (x ∷ filter p xs) (filter p xs)) ≤ length (x ∷ xs) = elim [
-      | true ↦ omega (arith, filter_le p xs)
-      | false ↦ omega (arith, filter_le p xs)
-    ] in
-    go (p x)
 
 -- fewer keys are left once one of them is taken out
 pub fewer : (keys : List Place) (key : Place) → is_among keys key ≡ true → length (filter (λ other. not (same_place other key)) keys) < length keys

@@ -15,7 +15,7 @@ use Rattle.tile_key.specs.Visible.{visible_keys}
 use Rattle.document_machine.specs.Keys.{is_among, ordered}
 use Rattle.document_machine.specs.Outputs.{named}
 use Rattle.document_machine.specs.State.{Shown, View, Job, Document}
-use Rattle.document_machine.specs.declared.limits.TheConstants.{MOST_SENT}
+use Rattle.send_window.specs.declared.windows.TheConstants.{MOST_SENT}
 
 -- how many parts the document has, by the bytes that it was loaded from
 abbrev pub parts_of : {C B : Type 0} → Rules C B → List ℕ → ℕ

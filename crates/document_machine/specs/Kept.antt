@@ -7,7 +7,8 @@ use Rattle.tile_key.specs.Visible.{IsBefore, is_too_large}
 use Rattle.document_machine.specs.Due.{parts_of, sees_or_asks, visible}
 use Rattle.document_machine.specs.Keys.{Pairwise, is_among}
 use Rattle.document_machine.specs.State.{View, Job, Document}
-use Rattle.document_machine.specs.declared.limits.TheConstants.{MOST_ASKED, MOST_JOBS, MOST_SENT, MOST_VIEWS}
+use Rattle.document_machine.specs.declared.limits.TheConstants.{MOST_ASKED, MOST_JOBS, MOST_VIEWS}
+use Rattle.send_window.specs.declared.windows.TheConstants.{MOST_SENT}
 
 -- a view stands in one of the parts and sees no more than it may; it asks for keys of the document's parts,
 -- not too many, each once; its screen has each key once, in key order, keys that it sees or asks for

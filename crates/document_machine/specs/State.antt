@@ -3,17 +3,13 @@ use Rattle.std.specs.Prelude.{ℕ, List, [], ◌∷◌, Option, Some, None, nat_
 use Rattle.cool_base.specs.Points.{Rectangle}
 use Rattle.document_machine.specs.declared.rights.Rights.{Rights}
 use Rattle.kit_trait.specs.declared.values.Input.{Input}
+use Rattle.send_window.specs.Tiles.{Sent}
 use Rattle.tile_key.specs.Places.{Place, Scale}
 
 -- a key on a view's screen, with the version last sent to it
 pub record Shown : Type 0 where
   pub key : Place
   pub version : ℕ
-
--- a tile that was sent and not yet acknowledged: its number and its key
-pub record Sent : Type 0 where
-  pub wid : ℕ
-  pub key : Place
 
 -- one view: who it is and what it may do, its part of the document, its zoom and the area that it looks
 -- at, the keys that it asked for in the order asked, what it was last sent of each key, in key order, what

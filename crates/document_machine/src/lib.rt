@@ -15,6 +15,7 @@ mod limits;
 mod outs;
 mod rights;
 
-pub use limits::{MOST_ASKED, MOST_INPUTS, MOST_JOBS, MOST_SENT, MOST_VIEWS};
+pub use limits::{MOST_ASKED, MOST_INPUTS, MOST_JOBS, MOST_VIEWS};
 pub use outs::{Outs, Turned};
 pub use rights::Rights;
+pub use send_window::MOST_SENT;

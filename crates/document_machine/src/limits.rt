@@ -3,9 +3,6 @@
 /// The most views of a document.
 pub const MOST_VIEWS: usize = 64;
 
-/// The most tiles that a view has not acknowledged.
-pub const MOST_SENT: usize = 64;
-
 /// The most keys that a view asks for.
 pub const MOST_ASKED: usize = 1_024;
 

@@ -14,7 +14,8 @@ use Rattle.document_machine.specs.Message.{effect, reply, took}
 use Rattle.document_machine.specs.Next.{none_kept, next_pair}
 use Rattle.document_machine.specs.Outputs.{frames_only}
 use Rattle.document_machine.specs.Run.{Segment}
-use Rattle.document_machine.specs.State.{View, Sent, Job, Document, opening, find_view, find_job, without_job}
+use Rattle.document_machine.specs.State.{View, Job, Document, opening, find_view, find_job, without_job}
+use Rattle.send_window.specs.Tiles.{Sent}
 use Rattle.document_machine.specs.Step.{Step, Rests, Cuts, Paints, Says as MachineSays, JoinsWhere as MachineJoins, told, tiles_for, views_offered, given}
 use Rattle.document_machine.specs.declared.outs.Outs.{Outs}
 use Rattle.document_machine.specs.declared.rights.Rights.{Rights}

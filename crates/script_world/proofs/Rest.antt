@@ -21,7 +21,8 @@ use Rattle.document_machine.specs.Keys.{Pairwise}
 use Rattle.document_machine.specs.Kept.{IsViewKept}
 use Rattle.document_machine.specs.Quiet.{IsQuiet, AllRight}
 use Rattle.document_machine.specs.Rank.{left_to_do}
-use Rattle.document_machine.specs.State.{View, Document, Sent, find_view}
+use Rattle.document_machine.specs.State.{View, Document, find_view}
+use Rattle.send_window.specs.Tiles.{Sent}
 use Rattle.kit_trait.specs.Rules.{Rules}
 use Rattle.tile_key.specs.Places.{Place}
 use Rattle.script_world.specs.House.{House, seated, seated_at, SaysAs, TakesOne, wids_of, window_in, says_processed, acknowledgements_by, acknowledgements, ids_of, IsSeated, IsHousedBy, IsHoused}

@@ -1,5 +1,5 @@
-//! The tiles that were sent to one view and that it has not acknowledged: at most 64, in the order
-//! sent. It takes no memory.
+//! The tiles that were sent to one view and that it has not acknowledged: at most `MOST_SENT`, in
+//! the order sent. It takes no memory.
 //!
 //! `Window` is the one type. Contracts see it as the list of its tiles, each with its number and its
 //! key.
@@ -7,4 +7,4 @@
 
 mod windows;
 
-pub use windows::Window;
+pub use windows::{MOST_SENT, Window};

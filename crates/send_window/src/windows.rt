@@ -7,8 +7,8 @@ use cool_base::{Wid, Wids};
 use std::marker::Model;
 use tile_key::TileKey;
 
-/// The most tiles that may be sent and not acknowledged.
-const MOST: u32 = 64;
+/// The most tiles of a view that may be sent and not acknowledged.
+pub const MOST_SENT: usize = 64;
 
 // A tile that was sent and is not acknowledged.
 #[derive(Clone, Copy, Default)]
@@ -18,7 +18,7 @@ struct Sent {
 }
 
 impl Model for Sent {
-    ghost use Rattle.document_machine.specs.State.{Sent as SentTile};
+    ghost use Rattle.send_window.specs.Tiles.{Sent as SentTile};
 
     ghost Value = { SentTile };
 
@@ -27,15 +27,15 @@ impl Model for Sent {
     ghost inverse = { λ t. record { wid = t.wid; key = t.key } };
 }
 
-/// The tiles that were sent and not acknowledged, at most 64, in the order sent.
+/// The tiles that were sent and not acknowledged, at most `MOST_SENT`, in the order sent.
 #[derive(Drop)]
 pub struct Window {
-    sent: ArrayVec<Sent, 64>,
+    sent: ArrayVec<Sent, MOST_SENT>,
 }
 
 impl Model for Window {
     ghost use Rattle.std.specs.Prelude.{List};
-    ghost use Rattle.document_machine.specs.State.{Sent as SentTile};
+    ghost use Rattle.send_window.specs.Tiles.{Sent as SentTile};
 
     ghost Value = { List SentTile };
 
@@ -54,9 +54,9 @@ impl Window {
 
     /// How many more tiles may be sent.
     pub fn room(&self) -> u32
-        ensures { result + length self.now ≡ 64 }
+        ensures { result + length self.now ≡ MOST_SENT }
     {
-        MOST - self.sent.len() as u32
+        (MOST_SENT - self.sent.len()) as u32
     }
 
     /// Whether no tile waits to be acknowledged.
@@ -68,7 +68,7 @@ impl Window {
 
     /// Adds a tile with this number and key at the end.
     pub fn put(&mut self, wid: Wid, key: &TileKey)
-        requires { length self.old < 64 }
+        requires { length self.old < MOST_SENT }
         ensures { self.new ≡ self.old ++ record { wid = wid.0; key = key.now } ∷ [] }
     {
         self.sent.push(Sent {

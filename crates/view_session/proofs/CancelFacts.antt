@@ -6,7 +6,7 @@ use Rattle.document_machine.specs.Keys.{is_among, Pairwise}
 use Rattle.view_session.specs.Viewing.{Entry}
 use Rattle.view_session.specs.Slots.{keys_in, seen_in, screen_in, with_shown, IsSlotted}
 use Rattle.view_session.specs.Moves.{IsAt, IsGap}
-use Rattle.view_session.specs.declared.slots.Shown.{Shown}
+use Rattle.view_session.specs.declared.slots.OnScreen.{OnScreen}
 use Rattle.view_session.specs.declared.slots.Slot.{Slot}
 use Rattle.view_session.proofs.ListFacts.{all_kept, pairs_keep}
 use Rattle.view_session.proofs.OrderFacts.{same_is}
@@ -70,7 +70,7 @@ screen_filter : (t : Place → Bool) (p : Slot → Bool) (slots : List Slot) →
 screen_filter t p [] a = refl
 screen_filter t p (slot ∷ slots) a =
     let rest : screen_in (filter p slots) ≡ filter (λ (e : Entry). t e.key) (screen_in slots) = screen_filter t p slots a.1 in
-    let go : (b : Bool) (o : Option Shown) → t slot.key ≡ b → slot.shown ≡ o → screen_in (cond b (slot ∷ filter p slots) (filter p slots)) ≡ filter (λ (e : Entry). t e.key) (with_shown slot.key o (screen_in slots)) = elim [
+    let go : (b : Bool) (o : Option OnScreen) → t slot.key ≡ b → slot.shown ≡ o → screen_in (cond b (slot ∷ filter p slots) (filter p slots)) ≡ filter (λ (e : Entry). t e.key) (with_shown slot.key o (screen_in slots)) = elim [
       | true ↦ elim [
         | None ↦ λ pass none. rw none rest
         | Some shown ↦ λ pass some. rw (some, pass) (ap (λ es. entry_at slot.key shown ∷ es) rest)

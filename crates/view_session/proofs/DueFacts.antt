@@ -7,7 +7,7 @@ use Rattle.document_machine.specs.Keys.{is_among}
 use Rattle.view_session.specs.Viewing.{Entry, Viewing, version_on, wants, is_lacking, is_due}
 use Rattle.view_session.specs.Slots.{keys_in, seen_in, screen_in, lacks, slot_due, IsSlotted}
 use Rattle.view_session.specs.Moves.{IsAt, IsGap}
-use Rattle.view_session.specs.declared.slots.Shown.{Shown}
+use Rattle.view_session.specs.declared.slots.OnScreen.{OnScreen}
 use Rattle.view_session.specs.declared.slots.Slot.{Slot}
 use Rattle.view_session.proofs.SlotFacts.{Tells, TellsNone, entry_at, tells, tells_none, at_split, gap_others, each_slot}
 
@@ -17,11 +17,11 @@ pub record IsOf (v : Viewing) (slots : List Slot) : Type 0 where
   pub screen : v.screen ≡ screen_in slots
   pub slotted : IsSlotted slots v.asked
 
-versions : (o : Option Shown) (key : Place) → option_map (λ (e : Entry). e.version) (option_map (entry_at key) o) ≡ option_map (λ shown. shown.version) o
+versions : (o : Option OnScreen) (key : Place) → option_map (λ (e : Entry). e.version) (option_map (entry_at key) o) ≡ option_map (λ shown. shown.version) o
 versions None key = refl
 versions (Some shown) key = refl
 
-lacking : (o : Option Shown) (key : Place) → is_lacking (option_map (entry_at key) o) ≡ lacks o
+lacking : (o : Option OnScreen) (key : Place) → is_lacking (option_map (entry_at key) o) ≡ lacks o
 lacking None key = refl
 lacking (Some shown) key = refl
 

@@ -6,7 +6,8 @@ use Rattle.cool_base.specs.Points.{Extent, intersection_of, nowhere}
 use Rattle.tile_key.specs.Places.{Place, Scale}
 use Rattle.tile_key.specs.Visible.{IsBefore, rows_of, visible_keys, whole_part, is_too_large}
 use Rattle.document_machine.specs.Keys.{Pairwise}
-use Rattle.document_machine.specs.State.{Sent, first_zoom, no_area}
+use Rattle.document_machine.specs.State.{first_zoom, no_area}
+use Rattle.send_window.specs.Tiles.{Sent}
 use Rattle.document_machine.specs.declared.rights.Rights.{Rights}
 use Rattle.view_session.specs.Viewing.{opening}
 use Rattle.view_session.specs.Slots.{seen_in, screen_in, IsSlotted}

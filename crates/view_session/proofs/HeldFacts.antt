@@ -7,9 +7,11 @@ use Rattle.tile_key.specs.Places.{Place, Scale, IsKey, is_zoom, same_place}
 use Rattle.tile_key.specs.Visible.{IsBefore}
 use Rattle.document_machine.specs.Due.{asked_after}
 use Rattle.document_machine.specs.Keys.{is_among, Pairwise}
-use Rattle.document_machine.specs.State.{Sent}
+use Rattle.document_machine.specs.declared.limits.TheConstants.{MOST_ASKED}
+use Rattle.send_window.specs.Tiles.{Sent}
+use Rattle.send_window.specs.declared.windows.TheConstants.{MOST_SENT}
 use Rattle.document_machine.specs.declared.rights.Rights.{Rights}
-use Rattle.document_machine.proofs.Lists.{filter_le}
+use Rattle.send_window.proofs.Closing.{filter_le}
 use Rattle.view_session.specs.Viewing.{Entry, Viewing, wants, is_due, hit, damaged, keys, uncurrent, cancels, sent, screen_after}
 use Rattle.view_session.specs.Keeps.{IsViewing}
 use Rattle.view_session.specs.Slots.{keys_in, seen_in, with_shown, screen_in, slot_due, IsSlotted}
@@ -34,7 +36,7 @@ few_kept : {X : Type 0} (p : X → Bool) (xs : List X) (n : ℕ) → length xs �
 few_kept p xs n le = let less : length (filter p xs) ≤ length xs = filter_le p xs in omega arith
 
 -- what every view keeps
-pub viewing_by : (v : Viewing) (slots : List Slot) → IsOf v slots → IsHeld v.zoom slots v.asked v.window v.next_wid → is_zoom v.zoom ≡ true → length v.window ≤ 64 → v.next_wid < 2 ^ 64 → IsViewing v
+pub viewing_by : (v : Viewing) (slots : List Slot) → IsOf v slots → IsHeld v.zoom slots v.asked v.window v.next_wid → is_zoom v.zoom ≡ true → length v.window ≤ MOST_SENT → v.next_wid < 2 ^ 64 → IsViewing v
 viewing_by v slots o h zoom few numbers = record {
   zoom = zoom;
   visible = rw o.visible (rising_seen slots h.slotted.order);
@@ -141,7 +143,7 @@ module _ (rights : Rights) (part : ℕ) (zoom : Scale) (area : Rectangle) (slots
   pub whole_of : IsSlotted slots asked → IsOf v slots
   whole_of k = subst (λ (w : Viewing). IsOf w slots) is (record { visible = refl; screen = refl; slotted = k })
 
-  pub whole_kept : IsHeld zoom slots asked window next → is_zoom zoom ≡ true → length window ≤ 64 → next < 2 ^ 64 → IsViewing v
+  pub whole_kept : IsHeld zoom slots asked window next → is_zoom zoom ≡ true → length window ≤ MOST_SENT → next < 2 ^ 64 → IsViewing v
   whole_kept h sized few numbers =
       subst IsViewing is
       (viewing_by (whole rights part zoom area slots asked window next) slots (record { visible = refl; screen = refl; slotted = h.slotted }) h sized few numbers)
@@ -203,12 +205,12 @@ held_cancelled zoom slots new asked kept window next h k seen kept_is = record {
   seen = rw seen h.seen;
   asked_keys = rw kept_is (all_keep IsKey (is_among (seen_in slots)) asked h.asked_keys);
   asked_once = rw kept_is (pairs_keep (λ p q. p ≢ q) (is_among (seen_in slots)) asked h.asked_once);
-  asked_few = rw kept_is (few_kept (is_among (seen_in slots)) asked 1024 h.asked_few);
+  asked_few = rw kept_is (few_kept (is_among (seen_in slots)) asked MOST_ASKED h.asked_few);
   wids = h.wids;
   wids_below = h.wids_below;
 }
 
-pub held_asked : (zoom : Scale) (slots new : List Slot) (asked now : List Place) (window : List Sent) (next : ℕ) → IsHeld zoom slots asked window next → IsSlotted new now → seen_in new ≡ seen_in slots → AllByRecursion IsKey now → Pairwise (λ p q. p ≢ q) now → length now ≤ 1024 → IsHeld zoom new now window next
+pub held_asked : (zoom : Scale) (slots new : List Slot) (asked now : List Place) (window : List Sent) (next : ℕ) → IsHeld zoom slots asked window next → IsSlotted new now → seen_in new ≡ seen_in slots → AllByRecursion IsKey now → Pairwise (λ p q. p ≢ q) now → length now ≤ MOST_ASKED → IsHeld zoom new now window next
 held_asked zoom slots new asked now window next h k seen form once few = record {
   slotted = k;
   seen = rw seen h.seen;
@@ -229,7 +231,7 @@ held_sent zoom slots new asked now window window_new next key ends h k seen now_
   seen = rw seen h.seen;
   asked_keys = rw now_is (asked_rest (AllByRecursion IsKey) asked key ends h.asked_keys (all_keep IsKey (λ x. not (same_place x key)) asked h.asked_keys));
   asked_once = rw now_is (asked_rest (Pairwise (λ p q. p ≢ q)) asked key ends h.asked_once (pairs_keep (λ p q. p ≢ q) (λ x. not (same_place x key)) asked h.asked_once));
-  asked_few = rw now_is (asked_rest (λ ks. length ks ≤ 1024) asked key ends h.asked_few (few_kept (λ x. not (same_place x key)) asked 1024 h.asked_few));
+  asked_few = rw now_is (asked_rest (λ ks. length ks ≤ MOST_ASKED) asked key ends h.asked_few (few_kept (λ x. not (same_place x key)) asked MOST_ASKED h.asked_few));
   wids = rw window_is (pairs_push (λ (a b : Sent). a.wid < b.wid) window (record { wid = next; key = key }) h.wids h.wids_below);
   wids_below = rw window_is (all_join (λ (tile : Sent). tile.wid < next + 1) window (record { wid = next; key = key } ∷ []) (all_from (λ (tile : Sent). tile.wid < next) (λ (tile : Sent). tile.wid < next + 1) window (λ tile lt. omega arith) h.wids_below) (omega arith, tt));
 }

@@ -9,7 +9,7 @@ use Rattle.document_machine.specs.Message.{asked_with, asked_with_all}
 use Rattle.view_session.specs.Viewing.{Entry, with_entry, screen_after}
 use Rattle.view_session.specs.Slots.{seen_in, screen_in, with_shown, IsSlotted}
 use Rattle.view_session.specs.Moves.{shown_in, shown_again}
-use Rattle.view_session.specs.declared.slots.Shown.{Shown}
+use Rattle.view_session.specs.declared.slots.OnScreen.{OnScreen}
 use Rattle.view_session.specs.declared.slots.Slot.{Slot}
 use Rattle.view_session.proofs.ListFacts.{all_keep, pairs_before}
 use Rattle.view_session.proofs.OrderFacts.{same_is, not_back, apart_back}
@@ -59,7 +59,7 @@ copied_none slots old keys asked i slot c lt e none =
 filter_one : (p : Entry → Bool) (b : Bool) (e : Entry) → p e ≡ b → filter p (e ∷ []) ≡ cond b (e ∷ []) []
 filter_one p b e is = rw is refl
 
-screen_more : (old : List Slot) (keys asked : List Place) (i : ℕ) (slot : Slot) (shown : Shown) (b : Bool) → i < length old → slot ≡ get_or old i slot → slot.shown ≡ Some shown → is_wanted keys asked (entry_at slot.key shown) ≡ b
+screen_more : (old : List Slot) (keys asked : List Place) (i : ℕ) (slot : Slot) (shown : OnScreen) (b : Bool) → i < length old → slot ≡ get_or old i slot → slot.shown ≡ Some shown → is_wanted keys asked (entry_at slot.key shown) ≡ b
     → filter (is_wanted keys asked) (screen_in (take (i + 1) old)) ≡ filter (is_wanted keys asked) (screen_in (take i old)) ++ cond b (entry_at slot.key shown ∷ []) []
 screen_more old keys asked i slot shown b lt e some wanted =
     let more : take (i + 1) old ≡ take i old ++ slot ∷ [] = take_more old i slot lt ∙ ap (λ (s : Slot). take i old ++ s ∷ []) (sym e) in
@@ -69,7 +69,7 @@ screen_more old keys asked i slot shown b lt e some wanted =
     ∙ filter_join (is_wanted keys asked) (screen_in (take i old)) (entry_at slot.key shown ∷ [])
     ∙ ap (λ es. filter (is_wanted keys asked) (screen_in (take i old)) ++ es) (filter_one (is_wanted keys asked) b (entry_at slot.key shown) wanted)
 
-copied_wanted : (slots new old : List Slot) (keys asked : List Place) (i : ℕ) (slot : Slot) (shown : Shown) → Pairwise Comes old → IsCopied slots (take i old) keys asked → i < length old → slot ≡ get_or old i slot → slot.shown ≡ Some shown → new ≡ shown_in slots slot.key shown false → (is_among (seen_in slots) slot.key || is_among asked slot.key) ≡ true → IsCopied new (take (i + 1) old) keys asked
+copied_wanted : (slots new old : List Slot) (keys asked : List Place) (i : ℕ) (slot : Slot) (shown : OnScreen) → Pairwise Comes old → IsCopied slots (take i old) keys asked → i < length old → slot ≡ get_or old i slot → slot.shown ≡ Some shown → new ≡ shown_in slots slot.key shown false → (is_among (seen_in slots) slot.key || is_among asked slot.key) ≡ true → IsCopied new (take (i + 1) old) keys asked
 copied_wanted slots new old keys asked i slot shown order c lt e some is wanted =
     let s : IsShown slots new asked asked slot.key shown = shown_by slots new asked asked slot.key shown false c.slotted wanted is refl in
     let want : is_wanted keys asked (entry_at slot.key shown) ≡ true = subst (λ (ks : List Place). (is_among ks slot.key || is_among asked slot.key) ≡ true) c.seen wanted in
@@ -85,7 +85,7 @@ copied_wanted slots new old keys asked i slot shown order c lt e some is wanted 
           ∙ sym (screen_more old keys asked i slot shown true lt e some want);
     }
 
-copied_other : (slots new old : List Slot) (keys asked : List Place) (i : ℕ) (slot : Slot) (shown : Shown) → IsCopied slots (take i old) keys asked → i < length old → slot ≡ get_or old i slot → slot.shown ≡ Some shown → new ≡ shown_in slots slot.key shown false → Others slot.key slots → IsCopied new (take (i + 1) old) keys asked
+copied_other : (slots new old : List Slot) (keys asked : List Place) (i : ℕ) (slot : Slot) (shown : OnScreen) → IsCopied slots (take i old) keys asked → i < length old → slot ≡ get_or old i slot → slot.shown ≡ Some shown → new ≡ shown_in slots slot.key shown false → Others slot.key slots → IsCopied new (take (i + 1) old) keys asked
 copied_other slots new old keys asked i slot shown c lt e some is off =
     let t : TellsNone slots asked slot.key = tells_none slots asked slot.key c.slotted off in
     let seen_off : is_among keys slot.key ≡ false = subst (λ (ks : List Place). is_among ks slot.key ≡ false) c.seen t.seen in
@@ -98,7 +98,7 @@ copied_other slots new old keys asked i slot shown c lt e some is off =
     })
 
 -- one more slot, with something on the screen
-copied_more : (slots new old : List Slot) (keys asked : List Place) (i : ℕ) (slot : Slot) (shown : Shown) → Pairwise Comes old → IsCopied slots (take i old) keys asked → i < length old → slot ≡ get_or old i slot → slot.shown ≡ Some shown → new ≡ shown_in slots slot.key shown false → IsCopied new (take (i + 1) old) keys asked
+copied_more : (slots new old : List Slot) (keys asked : List Place) (i : ℕ) (slot : Slot) (shown : OnScreen) → Pairwise Comes old → IsCopied slots (take i old) keys asked → i < length old → slot ≡ get_or old i slot → slot.shown ≡ Some shown → new ≡ shown_in slots slot.key shown false → IsCopied new (take (i + 1) old) keys asked
 copied_more slots new old keys asked i slot shown order c lt e some is =
     elim (where_is slots slot.key c.slotted.order) [
       | inl p ↦ let t : Tells slots asked slot.key p.slot = tells slots asked slot.key p.front p.slot p.back c.slotted p.split in
@@ -109,7 +109,7 @@ copied_more slots new old keys asked i slot shown order c lt e some is =
 -- one more slot
 pub copied_step : (slots new old : List Slot) (keys asked : List Place) (i : ℕ) (slot : Slot) → Pairwise Comes old → IsCopied slots (take i old) keys asked → i < length old → slot ≡ get_or old i slot → new ≡ shown_again slots slot.key slot.shown → IsCopied new (take (i + 1) old) keys asked
 copied_step slots new old keys asked i slot order c lt e is =
-    let go : (o : Option Shown) → slot.shown ≡ o → new ≡ shown_again slots slot.key o → IsCopied new (take (i + 1) old) keys asked = elim [
+    let go : (o : Option OnScreen) → slot.shown ≡ o → new ≡ shown_again slots slot.key o → IsCopied new (take (i + 1) old) keys asked = elim [
       | None ↦ λ none same. subst (λ (x : List Slot). IsCopied x (take (i + 1) old) keys asked) (sym same) (copied_none slots old keys asked i slot c lt e none)
       | Some shown ↦ λ some same. copied_more slots new old keys asked i slot shown order c lt e some same
     ] in

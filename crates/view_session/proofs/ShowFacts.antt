@@ -10,7 +10,7 @@ use Rattle.document_machine.proofs.Lists.{same_self, taken_out}
 use Rattle.view_session.specs.Viewing.{Entry, with_entry, without_entry, screen_after}
 use Rattle.view_session.specs.Slots.{keys_in, seen_in, with_shown, screen_in, IsSlotted}
 use Rattle.view_session.specs.Moves.{IsAt, IsGap, show_slot, shown_in}
-use Rattle.view_session.specs.declared.slots.Shown.{Shown}
+use Rattle.view_session.specs.declared.slots.OnScreen.{OnScreen}
 use Rattle.view_session.specs.declared.slots.Slot.{Slot}
 use Rattle.view_session.proofs.ListFacts.{all_join, all_left, all_right, all_swap, all_out, all_keep, all_kept, all_both, all_from, pairs_swap, pairs_out}
 use Rattle.view_session.proofs.OrderFacts.{same_is, same_swap, not_back, not_self, apart_back}
@@ -18,16 +18,16 @@ use Rattle.view_session.proofs.FindFacts.{Comes}
 use Rattle.view_session.proofs.SlotFacts.{all_shown, IsSplit, Others, Tells, TellsNone, entry_at, others_before, others_after, at_split, gap_others, tells, tells_none, where_is}
 
 -- a slot with this on the screen
-abbrev pub showing : Slot → Shown → (ends : Bool) → Slot
+abbrev pub showing : Slot → OnScreen → (ends : Bool) → Slot
 showing slot shown ends = record slot { asked = slot.asked && not ends; shown = Some shown }
 
-pub shown_split : (front : List Slot) (slot : Slot) (back : List Slot) (key : Place) (shown : Shown) (ends : Bool) → Others key front → slot.key ≡ key → shown_in (front ++ slot ∷ back) key shown ends ≡ front ++ show_slot slot shown ends back
+pub shown_split : (front : List Slot) (slot : Slot) (back : List Slot) (key : Place) (shown : OnScreen) (ends : Bool) → Others key front → slot.key ≡ key → shown_in (front ++ slot ∷ back) key shown ends ≡ front ++ show_slot slot shown ends back
 shown_split [] slot back key shown ends off here =
     let one : same_place slot.key key ≡ true = subst (λ (p : Place). same_place slot.key p ≡ true) here (same_self slot.key) in
     rw one refl
 shown_split (s ∷ front) slot back key shown ends off here = rw off.0 (ap (λ ss. s ∷ ss) (shown_split front slot back key shown ends off.1 here))
 
-pub shown_none : (slots : List Slot) (key : Place) (shown : Shown) (ends : Bool) → Others key slots → shown_in slots key shown ends ≡ slots
+pub shown_none : (slots : List Slot) (key : Place) (shown : OnScreen) (ends : Bool) → Others key slots → shown_in slots key shown ends ≡ slots
 shown_none [] key shown ends off = refl
 shown_none (s ∷ slots) key shown ends off = rw off.0 (ap (λ ss. s ∷ ss) (shown_none slots key shown ends off.1))
 
@@ -36,14 +36,14 @@ set_cut [] i x h = absurd (omega arith)
 set_cut (y ∷ xs) zero x h = refl
 set_cut (y ∷ xs) (suc i) x h = ap (λ ys. y ∷ ys) (set_cut xs i x (omega arith))
 
-shown_at : (slots : List Slot) (key : Place) (i : ℕ) (slot : Slot) (shown : Shown) (ends : Bool) → Pairwise Comes slots → IsAt slots key i → slot ≡ get_or slots i slot → shown_in slots key shown ends ≡ take i slots ++ show_slot slot shown ends (drop (suc i) slots)
+shown_at : (slots : List Slot) (key : Place) (i : ℕ) (slot : Slot) (shown : OnScreen) (ends : Bool) → Pairwise Comes slots → IsAt slots key i → slot ≡ get_or slots i slot → shown_in slots key shown ends ≡ take i slots ++ show_slot slot shown ends (drop (suc i) slots)
 shown_at slots key i slot shown ends order at e =
     let s : IsSplit slots key (take i slots) slot (drop (suc i) slots) = at_split slots key i slot order at e in
     ap (λ (x : List Slot). shown_in x key shown ends) s.is
     ∙ shown_split (take i slots) slot (drop (suc i) slots) key shown ends (others_before key (take i slots) s.before) s.here
 
 -- the code's two ways: the slot is written, or it goes
-pub show_stays : (slots now : List Slot) (key : Place) (i : ℕ) (slot after : Slot) (shown : Shown) (ends : Bool) → Pairwise Comes slots → now ≡ slots → IsAt now key i → slot ≡ get_or slots i slot → after ≡ showing slot shown ends → (after.visible || after.asked) ≡ true → set slots i after ≡ shown_in slots key shown ends
+pub show_stays : (slots now : List Slot) (key : Place) (i : ℕ) (slot after : Slot) (shown : OnScreen) (ends : Bool) → Pairwise Comes slots → now ≡ slots → IsAt now key i → slot ≡ get_or slots i slot → after ≡ showing slot shown ends → (after.visible || after.asked) ≡ true → set slots i after ≡ shown_in slots key shown ends
 show_stays slots now key i slot after shown ends order same at e is needed =
     let here : IsAt slots key i = subst (λ (x : List Slot). IsAt x key i) same at in
     let stays : (slot.visible || (slot.asked && not ends)) ≡ true = subst (λ (s : Slot). (s.visible || s.asked) ≡ true) is needed in
@@ -53,7 +53,7 @@ show_stays slots now key i slot after shown ends order same at e is needed =
     ∙ ap (λ (x : List Slot). take i slots ++ x) (sym kept)
     ∙ sym (shown_at slots key i slot shown ends order here e)
 
-pub show_goes : (slots now new : List Slot) (key : Place) (i : ℕ) (slot after : Slot) (shown : Shown) (ends : Bool) → Pairwise Comes slots → now ≡ slots → IsAt now key i → slot ≡ get_or slots i slot → after ≡ showing slot shown ends → (after.visible || after.asked) ≡ false → new ≡ remove slots i → new ≡ shown_in slots key shown ends
+pub show_goes : (slots now new : List Slot) (key : Place) (i : ℕ) (slot after : Slot) (shown : OnScreen) (ends : Bool) → Pairwise Comes slots → now ≡ slots → IsAt now key i → slot ≡ get_or slots i slot → after ≡ showing slot shown ends → (after.visible || after.asked) ≡ false → new ≡ remove slots i → new ≡ shown_in slots key shown ends
 show_goes slots now new key i slot after shown ends order same at e is needed gone =
     let here : IsAt slots key i = subst (λ (x : List Slot). IsAt x key i) same at in
     let goes : (slot.visible || (slot.asked && not ends)) ≡ false = subst (λ (s : Slot). (s.visible || s.asked) ≡ false) is needed in
@@ -62,13 +62,13 @@ show_goes slots now new key i slot after shown ends order same at e is needed go
     ∙ ap (λ (x : List Slot). take i slots ++ x) (sym left)
     ∙ sym (shown_at slots key i slot shown ends order here e)
 
-pub show_none : (slots now : List Slot) (key : Place) (i : ℕ) (shown : Shown) (ends : Bool) → now ≡ slots → IsGap now key i → slots ≡ shown_in slots key shown ends
+pub show_none : (slots now : List Slot) (key : Place) (i : ℕ) (shown : OnScreen) (ends : Bool) → now ≡ slots → IsGap now key i → slots ≡ shown_in slots key shown ends
 show_none slots now key i shown ends same gap =
     sym (shown_none slots key shown ends (gap_others slots key i (subst (λ (x : List Slot). IsGap x key i) same gap)))
 
 -- ---- what the lists are then
 
-module _ (slot : Slot) (marked : Bool) (o : Option Shown) (back : List Slot) where
+module _ (slot : Slot) (marked : Bool) (o : Option OnScreen) (back : List Slot) where
   -- the slot with other marks
   abbrev pub other : Slot
   other = record slot { asked = marked; shown = o }
@@ -87,7 +87,7 @@ first_entry [] key version stale a = refl
 first_entry (e ∷ entries) key version stale a = rw (ap is_lt a.0) refl
 
 -- the screen then has the entry
-pub screen_put : (front : List Slot) (slot : Slot) (back : List Slot) (marked : Bool) (shown : Shown) → AllByRecursion (λ s. IsBefore s.key slot.key) front → AllByRecursion (λ s. IsBefore slot.key s.key) back
+pub screen_put : (front : List Slot) (slot : Slot) (back : List Slot) (marked : Bool) (shown : OnScreen) → AllByRecursion (λ s. IsBefore s.key slot.key) front → AllByRecursion (λ s. IsBefore slot.key s.key) back
     → screen_in (front ++ record slot { asked = marked; shown = Some shown } ∷ back) ≡ with_entry (screen_in (front ++ slot ∷ back)) slot.key shown.version shown.stale
 screen_put [] slot back marked shown before after =
     elim slot.shown as (λ o. entry_at slot.key shown ∷ screen_in back ≡ with_entry (with_shown slot.key o (screen_in back)) slot.key shown.version shown.stale) [
@@ -170,7 +170,7 @@ and_true false = refl
 
 -- ---- the slots then
 
-module _ (front : List Slot) (slot : Slot) (back : List Slot) (asked : List Place) (shown : Shown) (k : IsSlotted (front ++ slot ∷ back) asked) (before : AllByRecursion (λ s. IsBefore s.key slot.key) front) (after : AllByRecursion (λ s. IsBefore slot.key s.key) back) where
+module _ (front : List Slot) (slot : Slot) (back : List Slot) (asked : List Place) (shown : OnScreen) (k : IsSlotted (front ++ slot ∷ back) asked) (before : AllByRecursion (λ s. IsBefore s.key slot.key) front) (after : AllByRecursion (λ s. IsBefore slot.key s.key) back) where
   marks_front : AllByRecursion (λ s. s.asked ≡ is_among asked s.key) front
   marks_front = all_left (λ s. s.asked ≡ is_among asked s.key) front (slot ∷ back) k.marks
 
@@ -211,7 +211,7 @@ module _ (front : List Slot) (slot : Slot) (back : List Slot) (asked : List Plac
   }
 
 -- what the change says
-pub record IsShown (slots new : List Slot) (asked asked_new : List Place) (key : Place) (shown : Shown) : Type 0 where
+pub record IsShown (slots new : List Slot) (asked asked_new : List Place) (key : Place) (shown : OnScreen) : Type 0 where
   pub slotted : IsSlotted new asked_new
   pub seen : seen_in new ≡ seen_in slots
   pub screen : screen_in new ≡ screen_after (screen_in slots) key shown.version shown.stale (is_among (seen_in slots) key || is_among asked_new key)
@@ -224,7 +224,7 @@ or_false : (b : Bool) → (b || false) ≡ b
 or_false true = refl
 or_false false = refl
 
-module _ (front : List Slot) (slot : Slot) (back : List Slot) (asked : List Place) (shown : Shown) (k : IsSlotted (front ++ slot ∷ back) asked) (before : AllByRecursion (λ s. IsBefore s.key slot.key) front) (after : AllByRecursion (λ s. IsBefore slot.key s.key) back) (t : Tells (front ++ slot ∷ back) asked slot.key slot) where
+module _ (front : List Slot) (slot : Slot) (back : List Slot) (asked : List Place) (shown : OnScreen) (k : IsSlotted (front ++ slot ∷ back) asked) (before : AllByRecursion (λ s. IsBefore s.key slot.key) front) (after : AllByRecursion (λ s. IsBefore slot.key s.key) back) (t : Tells (front ++ slot ∷ back) asked slot.key slot) where
   -- a tile that isn't the present one
   shown_old : IsShown (front ++ slot ∷ back) (front ++ show_slot slot shown false back) asked asked slot.key shown
   shown_old =
@@ -257,7 +257,7 @@ module _ (front : List Slot) (slot : Slot) (back : List Slot) (asked : List Plac
   shown_both true = shown_now
   shown_both false = shown_old
 
-shown_here : (front : List Slot) (slot : Slot) (back slots : List Slot) (asked : List Place) (shown : Shown) (ends : Bool) → IsSlotted slots asked → IsSplit slots slot.key front slot back → IsShown slots (shown_in slots slot.key shown ends) asked (asked_after asked slot.key ends) slot.key shown
+shown_here : (front : List Slot) (slot : Slot) (back slots : List Slot) (asked : List Place) (shown : OnScreen) (ends : Bool) → IsSlotted slots asked → IsSplit slots slot.key front slot back → IsShown slots (shown_in slots slot.key shown ends) asked (asked_after asked slot.key ends) slot.key shown
 shown_here front slot back slots asked shown ends k s =
     let mine : IsSlotted (front ++ slot ∷ back) asked = subst (λ (x : List Slot). IsSlotted x asked) s.is k in
     let again : IsSplit (front ++ slot ∷ back) slot.key front slot back = record { is = refl; here = refl; before = s.before; after = s.after } in
@@ -267,13 +267,13 @@ shown_here front slot back slots asked shown ends k s =
     subst (λ (x : List Slot). IsShown (front ++ slot ∷ back) x asked (asked_after asked slot.key ends) slot.key shown) (sym e) (shown_both front slot back asked shown mine s.before s.after told ends) in
     subst (λ (x : List Slot). IsShown x (shown_in x slot.key shown ends) asked (asked_after asked slot.key ends) slot.key shown) (sym s.is) done
 
-at_split_shown : (slots : List Slot) (asked : List Place) (key : Place) (shown : Shown) (ends : Bool) (front : List Slot) (slot : Slot) (back : List Slot) → IsSlotted slots asked → IsSplit slots key front slot back → IsShown slots (shown_in slots key shown ends) asked (asked_after asked key ends) key shown
+at_split_shown : (slots : List Slot) (asked : List Place) (key : Place) (shown : OnScreen) (ends : Bool) (front : List Slot) (slot : Slot) (back : List Slot) → IsSlotted slots asked → IsSplit slots key front slot back → IsShown slots (shown_in slots key shown ends) asked (asked_after asked key ends) key shown
 at_split_shown slots asked key shown ends front slot back k s =
     let mine : IsSplit slots slot.key front slot back = subst (λ (p : Place). IsSplit slots p front slot back) (sym s.here) s in
     subst (λ (p : Place). IsShown slots (shown_in slots p shown ends) asked (asked_after asked p ends) p shown) s.here (shown_here front slot back slots asked shown ends k mine)
 
 -- a tile of a key that is wanted is sent
-pub shown_by : (slots new : List Slot) (asked asked_new : List Place) (key : Place) (shown : Shown) (ends : Bool) → IsSlotted slots asked → (is_among (seen_in slots) key || is_among asked key) ≡ true → new ≡ shown_in slots key shown ends → asked_new ≡ asked_after asked key ends → IsShown slots new asked asked_new key shown
+pub shown_by : (slots new : List Slot) (asked asked_new : List Place) (key : Place) (shown : OnScreen) (ends : Bool) → IsSlotted slots asked → (is_among (seen_in slots) key || is_among asked key) ≡ true → new ≡ shown_in slots key shown ends → asked_new ≡ asked_after asked key ends → IsShown slots new asked asked_new key shown
 shown_by slots new asked asked_new key shown ends k wanted is is_asked =
     elim (where_is slots key k.order) [
       | inl p ↦ rw (is, is_asked) (at_split_shown slots asked key shown ends p.front p.slot p.back k p.split)

@@ -10,7 +10,7 @@ use Rattle.document_machine.proofs.Lists.{same_self, holds_among}
 use Rattle.view_session.specs.Viewing.{Entry, entry_of}
 use Rattle.view_session.specs.Slots.{keys_in, seen_in, with_shown, screen_in, IsSlotted}
 use Rattle.view_session.specs.Moves.{IsAt, IsGap}
-use Rattle.view_session.specs.declared.slots.Shown.{Shown}
+use Rattle.view_session.specs.declared.slots.OnScreen.{OnScreen}
 use Rattle.view_session.specs.declared.slots.Slot.{Slot}
 use Rattle.view_session.proofs.ListFacts.{all_join, all_from, all_mid, all_places, pairs_before, pairs_after}
 use Rattle.view_session.proofs.OrderFacts.{apart, apart_back, same_is}
@@ -103,7 +103,7 @@ module _ (key : Place) where
       ]
 
 -- the entry of what is shown of a key
-abbrev pub entry_at : Place → Shown → Entry
+abbrev pub entry_at : Place → OnScreen → Entry
 entry_at key shown = record { key = key; version = shown.version; stale = shown.stale }
 
 -- what holds of the keys of slots holds of those on the screen

@@ -4,17 +4,18 @@ use Rattle.std.specs.List.{AllByRecursion}
 use Rattle.tile_key.specs.Places.{Place, Scale, IsKey}
 use Rattle.tile_key.specs.Visible.{is_too_large}
 use Rattle.document_machine.specs.Keys.{Pairwise}
-use Rattle.document_machine.specs.State.{Sent}
+use Rattle.document_machine.specs.declared.limits.TheConstants.{MOST_ASKED}
+use Rattle.send_window.specs.Tiles.{Sent}
 use Rattle.view_session.specs.Slots.{seen_in, IsSlotted}
 use Rattle.view_session.specs.declared.slots.Slot.{Slot}
 
--- its slots, of which it sees no more than it may; at most 1,024 asked keys, each once; the tiles that are not
+-- its slots, of which it sees no more than it may; at most `MOST_ASKED` asked keys, each once; the tiles that are not
 -- acknowledged, with numbers that rise and are below the next one
 pub record IsHeld (zoom : Scale) (slots : List Slot) (asked : List Place) (window : List Sent) (next_wid : ℕ) : Type 0 where
   pub slotted : IsSlotted slots asked
   pub seen : is_too_large zoom (length (seen_in slots)) ≡ false
   pub asked_keys : AllByRecursion IsKey asked
   pub asked_once : Pairwise (λ p q. p ≢ q) asked
-  pub asked_few : length asked ≤ 1024
+  pub asked_few : length asked ≤ MOST_ASKED
   pub wids : Pairwise (λ a b. a.wid < b.wid) window
   pub wids_below : AllByRecursion (λ tile. tile.wid < next_wid) window

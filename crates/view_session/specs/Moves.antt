@@ -6,7 +6,7 @@ use Rattle.tile_key.specs.Places.{Place, rect_of_place, same_place}
 use Rattle.tile_key.specs.Visible.{IsBefore}
 use Rattle.document_machine.specs.Message.{asked_with}
 use Rattle.view_session.specs.Slots.{seen_in, screen_in, IsSlotted}
-use Rattle.view_session.specs.declared.slots.Shown.{Shown}
+use Rattle.view_session.specs.declared.slots.OnScreen.{OnScreen}
 use Rattle.view_session.specs.declared.slots.Slot.{Slot}
 
 -- the key's slot is the one at this index
@@ -36,24 +36,24 @@ pub record IsAsked (slots : List Slot) (asked : List Place) (key : Place) (slots
   pub screen : screen_in slots_after ≡ screen_in slots
 
 -- a slot with this on the screen before others, where the view needs it once the asking ended or not
-abbrev pub show_slot : Slot → Shown → (ends : Bool) → List Slot → List Slot
+abbrev pub show_slot : Slot → OnScreen → (ends : Bool) → List Slot → List Slot
 show_slot slot shown ends slots =
     if slot.visible || (slot.asked && not ends) then record slot { asked = slot.asked && not ends; shown = Some shown } ∷ slots
     else slots
 
 -- the slots with this of the key on the screen, where it has a slot
-abbrev pub shown_in : List Slot → Place → Shown → (ends : Bool) → List Slot
+abbrev pub shown_in : List Slot → Place → OnScreen → (ends : Bool) → List Slot
 shown_in [] key shown ends = []
 shown_in (slot ∷ slots) key shown ends =
     if same_place slot.key key then show_slot slot shown ends slots else slot ∷ shown_in slots key shown ends
 
 -- the slots with what was on the screen of the key, where it was and the key has a slot
-abbrev pub shown_again : List Slot → Place → Option Shown → List Slot
+abbrev pub shown_again : List Slot → Place → Option OnScreen → List Slot
 shown_again slots key None = slots
 shown_again slots key (Some shown) = shown_in slots key shown false
 
 -- what is shown of a key once a rectangle of a part was damaged
-abbrev pub hit_shown : (part : ℕ) → Rectangle → Place → Shown → Shown
+abbrev pub hit_shown : (part : ℕ) → Rectangle → Place → OnScreen → OnScreen
 hit_shown part rect key shown = record shown { stale = shown.stale || (nat_eq part key.part && do_meet rect (rect_of_place key)) }
 
 abbrev pub hit_slot : (part : ℕ) → Rectangle → Slot → Slot

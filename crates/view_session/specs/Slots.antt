@@ -6,7 +6,7 @@ use Rattle.tile_key.specs.Places.{Place}
 use Rattle.tile_key.specs.Visible.{IsBefore}
 use Rattle.document_machine.specs.Keys.{is_among, Pairwise}
 use Rattle.view_session.specs.Viewing.{Entry}
-use Rattle.view_session.specs.declared.slots.Shown.{Shown}
+use Rattle.view_session.specs.declared.slots.OnScreen.{OnScreen}
 use Rattle.view_session.specs.declared.slots.Slot.{Slot}
 
 -- the keys of the slots
@@ -19,7 +19,7 @@ seen_in [] = []
 seen_in (slot ∷ slots) = if slot.visible then slot.key ∷ seen_in slots else seen_in slots
 
 -- entries, with one of the key before them where it is shown
-abbrev pub with_shown : Place → Option Shown → List Entry → List Entry
+abbrev pub with_shown : Place → Option OnScreen → List Entry → List Entry
 with_shown key None screen = screen
 with_shown key (Some shown) screen = record { key = key; version = shown.version; stale = shown.stale } ∷ screen
 
@@ -29,7 +29,7 @@ screen_in [] = []
 screen_in (slot ∷ slots) = with_shown slot.key slot.shown (screen_in slots)
 
 -- what a slot lacks: nothing of its key is shown, or what is shown is stale
-abbrev pub lacks : Option Shown → Bool
+abbrev pub lacks : Option OnScreen → Bool
 lacks None = true
 lacks (Some shown) = shown.stale
 

@@ -7,7 +7,8 @@ use Rattle.tile_key.specs.Visible.{visible_keys}
 use Rattle.document_machine.specs.Due.{asked_after}
 use Rattle.document_machine.specs.Keys.{is_among, ordered}
 use Rattle.document_machine.specs.Message.{asked_with_all}
-use Rattle.document_machine.specs.State.{Sent, first_zoom, no_area}
+use Rattle.document_machine.specs.State.{first_zoom, no_area}
+use Rattle.send_window.specs.Tiles.{Sent}
 use Rattle.document_machine.specs.declared.rights.Rights.{Rights}
 
 -- a key on the screen: the version last sent, and whether it is stale: it was sent as one that isn't the

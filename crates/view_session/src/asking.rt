@@ -8,10 +8,8 @@ ghost use Rattle.view_session.specs.Slots.{IsSlotted};
 
 use crate::slots::{Slot, find};
 use arrayvec::ArrayVec;
+use document_machine::MOST_ASKED;
 use tile_key::TileKey;
-
-/// The most keys that a view may ask for.
-pub const MOST_ASKED: usize = 1_024;
 
 /// Whether the view would ask for more keys than it may, if it asked for these too. It takes no memory.
 #[tactic(auto, using(crate::proofs::CountFacts::few_together))]

@@ -11,6 +11,5 @@ mod asking;
 mod slots;
 mod views;
 
-pub use asking::MOST_ASKED;
-pub use document_machine::Rights;
+pub use document_machine::{MOST_ASKED, Rights};
 pub use views::{View, ViewFault};

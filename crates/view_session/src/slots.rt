@@ -16,7 +16,7 @@ use tile_key::{TileKey, rect_of};
 
 /// What of a key is on the screen: the version last sent, and whether it is stale.
 #[derive(Clone, Copy)]
-pub(crate) struct Shown {
+pub(crate) struct OnScreen {
     pub(crate) version: u64,
     pub(crate) stale: bool,
 }
@@ -27,7 +27,7 @@ pub(crate) struct Slot {
     pub(crate) key: TileKey,
     pub(crate) visible: bool,
     pub(crate) asked: bool,
-    pub(crate) shown: Option<Shown>,
+    pub(crate) shown: Option<OnScreen>,
 }
 
 impl Slot {
@@ -69,7 +69,7 @@ impl Slot {
     }
 
     // The slot with this on the screen; where `ends`, the asking for it has ended.
-    fn showing(&self, shown: Shown, ends: bool) -> Slot
+    fn showing(&self, shown: OnScreen, ends: bool) -> Slot
         ensures { result ≡ record self.now { asked = self.now.asked && not ends; shown = Some shown } }
     {
         Slot {
@@ -99,14 +99,14 @@ impl Slot {
         let Some(shown) = self.shown else {
             return self;
         };
-        let hurt = part == self.key.part() && meets(rect, &rect_of(&self.key));
+        let met = part == self.key.part() && meets(rect, &rect_of(&self.key));
         Slot {
             key: self.key,
             visible: self.visible,
             asked: self.asked,
-            shown: Some(Shown {
+            shown: Some(OnScreen {
                 version: shown.version,
-                stale: shown.stale || hurt,
+                stale: shown.stale || met,
             }),
         }
     }
@@ -191,7 +191,7 @@ pub(crate) fn ask_all(
 
 /// What of the key is on the screen from now on; where `ends`, the asking for it ends. A slot that is
 /// needed no longer goes.
-pub(crate) fn show(slots: &mut Vec<Slot>, key: &TileKey, shown: Shown, ends: bool)
+pub(crate) fn show(slots: &mut Vec<Slot>, key: &TileKey, shown: OnScreen, ends: bool)
     requires { Pairwise (λ a b. IsBefore a.key b.key) slots.old.items }
     ensures { slots.new.items ≡ shown_in slots.old.items key.now shown ends }
 {

@@ -7,14 +7,14 @@ ghost use Rattle.document_machine.specs.Message.{asked_with_all};
 ghost use Rattle.view_session.specs.Viewing.{opening, looks, zooms, goes_to, asks, cancels, processed, sent, damaged, wants, version_on, is_due, keys, uncurrent};
 ghost use Rattle.view_session.specs.Keeps.{IsViewing};
 
-use crate::asking::{MOST_ASKED, asks_too_many, is_asked};
+use crate::asking::{asks_too_many, is_asked};
 use crate::slots::{
-    Shown, Slot, ask_all, damage, due_keys, end_asking, find, first_due, keep_seen, keys, see,
+    OnScreen, Slot, ask_all, damage, due_keys, end_asking, find, first_due, keep_seen, keys, see,
     seeing, sees_due, show,
 };
 use cool_base::{Memory, Rect, Size, Wid, Wids};
-use document_machine::Rights;
-use send_window::Window;
+use document_machine::{MOST_ASKED, Rights};
+use send_window::{MOST_SENT, Window};
 use std::alloc::{AllocError, Global};
 use std::marker::Model;
 use thiserror::Error;
@@ -26,7 +26,7 @@ pub enum ViewFault {
     /// It would see more than 4,096 keys, or more than 16,777,216 pixels.
     #[error("too many tiles or pixels are visible")]
     TooLarge,
-    /// It would ask for more than 1,024 keys.
+    /// It would ask for more than `MOST_ASKED` keys.
     #[error("too many tiles are asked for")]
     AskedFull,
     /// No memory was left.
@@ -165,9 +165,9 @@ impl View {
         &self.area
     }
 
-    /// How many more tiles may be sent to it, of 64.
+    /// How many more tiles may be sent to it, of `MOST_SENT`.
     pub fn room(&self) -> u32
-        ensures { result + length self.now.window ≡ 64 }
+        ensures { result + length self.now.window ≡ MOST_SENT }
     {
         self.window.room()
     }
@@ -257,7 +257,7 @@ impl View {
     }
 
     /// It asks for these keys too, in the order given, each once. AskedFull exactly where they would be
-    /// more than 1,024 together, which is counted before any memory is taken.
+    /// more than `MOST_ASKED` together, which is counted before any memory is taken.
     pub fn ask(&mut self, keys: &[TileKey]) -> Result<(), ViewFault>
         ensures ok { OnOk result (self.new ≡ asks keys.now self.old) }
         ensures full { (result ≡ Err ViewFault.AskedFull) ↔ (MOST_ASKED < length (asked_with_all self.old.asked keys.now)) }
@@ -297,14 +297,14 @@ impl View {
     /// A tile of the key in this version is sent to it, as the present one or not: the number that the
     /// tile gets. It takes no memory.
     pub fn sent(&mut self, key: &TileKey, ver: u64, current: bool) -> Wid
-        requires room { length self.old.window < 64 }
+        requires room { length self.old.window < MOST_SENT }
         requires wanted { wants self.old key.now ≡ true }
         requires numbers { self.old.next_wid + 1 < 2 ^ 64 }
         ensures wid { result.0 ≡ self.old.next_wid }
         ensures sent { self.new ≡ sent key.now ver current self.old }
     {
         let wid = self.next_wid;
-        let shown = Shown {
+        let shown = OnScreen {
             version: ver,
             stale: !current,
         };

@@ -1,6 +1,6 @@
 use Rattle.std.proofs.Common.{not, filter, nat_eq, rules, ap, ◌∙◌}
 use Rattle.arrayvec.proofs.ArrayVecLemmas.{filter-from_retain}
-use Rattle.document_machine.specs.State.{Sent}
+use Rattle.send_window.specs.Tiles.{Sent}
 use Rattle.send_window.proofs.Closing.{closed_says, unchanged_by}
 use Rattle.send_window.proofs.windows.Window.close.Goals as goal
 
