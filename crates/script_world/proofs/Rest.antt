@@ -54,23 +54,23 @@ window_read {C} {B} {S} rules d id (Some view) wid wids kept is has small =
     let few : length view.window ≤ 64 = (found_view (IsViewKept rules d) d.views id view kept is).window_few in
     subst (λ (w : List ℕ). reading (written (TileProcessed w)) ≡ Ok (TileProcessed w)) has (written_read rules d view (some_window view wid wids has) few small)
 
-seat_acks : {C B S : Type 0} (rules : Rules C B) (document : Option (Document S)) (seats : Seats) (link id : ℕ) (wids : List ℕ) → IsHousedBy rules cut seats document → window_in document id ≡ wids
+seat_acks : {C B S : Type 0} (rules : Rules C B) (cut : C → Place → S) (document : Option (Document S)) (seats : Seats) (link id : ℕ) (wids : List ℕ) → IsHousedBy rules cut seats document → window_in document id ≡ wids
     → AllByRecursion (λ (n : ℕ). n < 2 ^ 64) (window_in document id) → AllAcknowledge (says_processed link wids)
-seat_acks rules document seats link id [] housed is small = tt
-seat_acks rules None seats link id (wid ∷ wids) housed is small = absurd (cc)
-seat_acks rules (Some d) seats link id (wid ∷ wids) housed is small =
-    ((wid ∷ wids, window_read rules d id (find_view d.views id) wid wids housed.whole.kept.each refl is small), tt)
+seat_acks rules cut document seats link id [] housed is small = tt
+seat_acks rules cut None seats link id (wid ∷ wids) housed is small = absurd (cc)
+seat_acks rules cut (Some d) seats link id (wid ∷ wids) housed is small =
+    ((wid ∷ wids, window_read rules d id (find_view d.views id) wid wids housed.kept.each refl is small), tt)
 
 acks_append : (a b : List Waiting) → AllAcknowledge a → AllAcknowledge b → AllAcknowledge (a ++ b)
 acks_append [] b one other = other
 acks_append (x ∷ a) b one other = (one.0, acks_append a b one.1 other)
 
 -- all of them are acknowledgements
-pub all_acks : {C B S : Type 0} (rules : Rules C B) (document : Option (Document S)) (seats : Seats) (views : List (ℕ × ℕ)) → IsHousedBy rules cut seats document → AreSmall document views → AllAcknowledge (acknowledgements_by document views)
-all_acks rules document seats [] housed small = tt
-all_acks rules document seats (seat ∷ views) housed small =
+pub all_acks : {C B S : Type 0} (rules : Rules C B) (cut : C → Place → S) (document : Option (Document S)) (seats : Seats) (views : List (ℕ × ℕ)) → IsHousedBy rules cut seats document → AreSmall document views → AllAcknowledge (acknowledgements_by document views)
+all_acks rules cut document seats [] housed small = tt
+all_acks rules cut document seats (seat ∷ views) housed small =
     acks_append (says_processed seat.0 (window_in document seat.1)) (acknowledgements_by document views)
-    (seat_acks rules document seats seat.0 seat.1 (window_in document seat.1) housed refl small.0) (all_acks rules document seats views housed small.1)
+    (seat_acks rules cut document seats seat.0 seat.1 (window_in document seat.1) housed refl small.0) (all_acks rules cut document seats views housed small.1)
 
 -- the first of them: its link is a view with an unacknowledged tile
 pub record IsFirst {S : Type 0} (document : Option (Document S)) (views : List (ℕ × ℕ)) (event : Waiting) : Type 1 where
@@ -168,7 +168,7 @@ first_less {C} {B} {S} rules cut old (Some d) event out new is housed first take
     let said : SaysAs rules cut old first.link text (Some (d, first.id)) out new = subst (λ (f : Option (Document S × ℕ)). SaysAs rules cut old first.link text f out new) found says in
     let some : tiles.view.window ≢ [] = some_window tiles.view first.wid first.wids tiles.window in
     let read : reading text ≡ Ok (TileProcessed (numbers tiles.view)) =
-    window_read rules d first.id (find_view d.views first.id) first.wid first.wids housed.whole.kept.each refl first.window first.small
+    window_read rules d first.id (find_view d.views first.id) first.wid first.wids housed.kept.each refl first.window first.small
     ∙ ap (λ (w : List ℕ). Ok (TileProcessed w)) (sym tiles.window) in
     let gone : IsAcknowledged rules d first.id tiles.view said.1 said.0 = said_lowers rules d first.id tiles.view text said.1 said.0 tiles.live some read said.2 in
     let less : left_to_do rules said.0 < left_to_do rules d = gone.less in
@@ -186,7 +186,7 @@ first_turn {C} {B} {S} rules cut keeps (event ∷ events) old worked rest new b 
     let first : IsFirst old.document old.seats.views event = first_of_all old.document old.seats.views event events small sorted (sym are) in
     let less : left_of rules turn.mid.document < left_of rules old.document = first_less rules cut old old.document event turn.here turn.mid refl housed first turn.takes.1 in
     let later = document_left rules cut turn.mid.seats turn.mid.document turn.later turn.turned new.document mid turn.turns in
-    let acks : AllAcknowledge (event ∷ events) = subst AllAcknowledge (sym are) (all_acks rules old.document old.seats old.seats.views housed small) in
+    let acks : AllAcknowledge (event ∷ events) = subst AllAcknowledge (sym are) (all_acks rules cut old.document old.seats old.seats.views housed small) in
     (subst AllAcknowledge (sym turn.takes.0) acks.1, omega (arith, less, later))
 
 -- without acknowledgements every window is empty
@@ -238,11 +238,11 @@ empty_each {S} d seats (v ∷ vs) none linked found =
     (no_tiles v.window (subst (λ (o : Option View). wids_of o ≡ []) found.0 empty), empty_each d seats vs none linked.1 found.1)
 
 -- a house that rests without acknowledgements is at rest
-pub at_rest : {C B S : Type 0} (rules : Rules C B) (seats : Seats) (document : Option (Document S)) → ((d : Document S) → IsQuiet rules d → IsSeated rules cut seats d → AllRight rules d) → IsHousedBy rules cut seats document → RestsNow rules document
+pub at_rest : {C B S : Type 0} (rules : Rules C B) (cut : C → Place → S) (seats : Seats) (document : Option (Document S)) → ((d : Document S) → IsQuiet rules d → IsSeated rules cut seats d → AllRight rules d) → IsHousedBy rules cut seats document → RestsNow rules document
     → acknowledgements_by document seats.views ≡ [] → IsAtRest rules document
-at_rest rules seats None right housed rests none = tt
-at_rest rules seats (Some d) right housed rests none =
-    let quiet : IsQuiet rules d = record { rests = rests; no_job = housed.none_out; empty = empty_each d seats.views d.views none housed.linked (found_each d.views housed.whole.kept.ids) } in
+at_rest rules cut seats None right housed rests none = tt
+at_rest rules cut seats (Some d) right housed rests none =
+    let quiet : IsQuiet rules d = record { rests = rests; no_job = housed.none_out; empty = empty_each d seats.views d.views none housed.linked (found_each d.views housed.kept.ids) } in
     (quiet, right d quiet housed)
 
 -- the pass that found acknowledgements: turns up to the last that works, then they wait

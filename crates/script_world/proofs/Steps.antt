@@ -7,7 +7,7 @@ use Rattle.cool_message.specs.Reading.{reading}
 use Rattle.cool_message.specs.declared.message.ClientMessage.TheVariants.{TileProcessed}
 use Rattle.document_laws.proofs.Acknowledged.{said_acknowledges, acknowledging_adds_nothing}
 use Rattle.document_laws.proofs.Lower.{at_once_lowers}
-use Rattle.document_machine.specs.Message.{Acknowledges, took}
+use Rattle.document_laws.specs.AtOnce.{acknowledges}
 use Rattle.document_machine.specs.Rank.{left_to_do}
 use Rattle.document_machine.specs.State.{Document}
 use Rattle.kit_trait.specs.Rules.{Rules}
@@ -24,7 +24,7 @@ use Rattle.script_world.specs.World.{Seen, Move, Turn, Moves, Chain, RestsNow, t
 use Rattle.script_world.specs.declared.event.Waiting.{Waiting}
 use Rattle.script_world.specs.declared.event.Waiting.TheVariants.{Opened, Loads, Says, Gone}
 use Rattle.script_world.proofs.Chains.{came_one, came_joined, chain_one, chain_joined, stopped_later, stopped_writing}
-use Rattle.script_world.proofs.Housed.{Keeps, first_housed, found_document}
+use Rattle.script_world.proofs.Housed.{Keeps, first_housed, found_document, works_of}
 
 some_wait : (event : Waiting) (rest : List Waiting) → nat_lt 0 (length (event ∷ rest)) ≡ true
 some_wait event rest = grind arith
@@ -207,7 +207,7 @@ document_left rules cut seats None out worked new housed goes =
 document_left {C} {B} {S} rules cut seats (Some d) out true new housed goes =
     let now : Document S = goes.0 in
     let works : WorksAtOnce rules cut d goes.1 now = goes.2 in
-    let less : left_to_do rules now < left_to_do rules d = (at_once_lowers rules cut d works.mid now works.first works.later works.works housed.none_out housed.whole.kept works.answered).1 in
+    let less : left_to_do rules now < left_to_do rules d = (at_once_lowers rules cut d works.mid now works.first works.later (works_of rules cut d now goes.1 works) housed.none_out housed.kept works.answered).1 in
     let same : left_of rules new ≡ left_to_do rules now = ap (left_of rules) goes.4 in
     omega (arith, less, same)
 document_left rules cut seats (Some d) out false new housed goes = let same : left_of rules new ≡ left_to_do rules d = ap (left_of rules) goes.2 in omega (arith, same)
@@ -232,8 +232,8 @@ said_left {C} {B} {S} rules cut old link text None out new wids is read says =
 said_left {C} {B} {S} rules cut old link text (Some seat) out new wids is read says =
     let d : Document S = seat.0 in
     let acknowledged = said_acknowledges rules d seat.1 wids text says.1 says.0 read says.2 in
-    let less : left_to_do rules (took rules d seat.1 (Acknowledges wids)) ≤ left_to_do rules d = acknowledging_adds_nothing rules d seat.1 wids in
-    let now : left_to_do rules says.0 ≡ left_to_do rules (took rules d seat.1 (Acknowledges wids)) = ap (left_to_do rules) acknowledged.1 in
+    let less : left_to_do rules (acknowledges d seat.1 wids) ≤ left_to_do rules d = acknowledging_adds_nothing rules d seat.1 wids in
+    let now : left_to_do rules says.0 ≡ left_to_do rules (acknowledges d seat.1 wids) = ap (left_to_do rules) acknowledged.1 in
     let new_is : left_of rules new.document ≡ left_to_do rules says.0 = ap (λ (h : House S). left_of rules h.document) says.3 in
     let was : left_of rules old.document ≡ left_to_do rules d = ap (left_of rules) (found_document old.document _ seat is).0 in
     omega (arith, less, now, new_is, was)
