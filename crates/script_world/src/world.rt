@@ -101,7 +101,12 @@ impl<K: Kit> World<K> {
     /// Makes so many poll turns, or fewer up to one that would do nothing, and writes the records of their
     /// frames. Where it is stopped, whole turns were written and a front of one more; what stands in the
     /// world after that is open.
-    pub fn make_turns<T: Sink>(&mut self, alloc: Global, sink: &mut T, count: u32) -> Result<(), Stop>
+    pub fn make_turns<T: Sink>(
+        &mut self,
+        alloc: Global,
+        sink: &mut T,
+        count: u32,
+    ) -> Result<(), Stop>
         ensures ok { OnOk result ((out : List ℕ) × Turned K.rules K.cut count self.old out self.new × Adds (T.written sink.old) out (T.written sink.new)) }
         ensures stop { IfErr result (λ stop. Stopped stop (Begun K.rules K.cut self.old) (T.written sink.old) (T.written sink.new)) }
         ensures cause { HasCause (T.faults sink.old) (T.faults sink.new) (result ≡ Err Stop.Sink) }
