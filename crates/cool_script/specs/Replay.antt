@@ -36,7 +36,7 @@ code_of NoEnd = 7
 -- A script was played on a document of a kit from its first line on, over this source and this sink, and ended
 -- with this status.
 abbrev pub Plays : {C B S : Type 0} → Rules C B → (C → Place → S) → SourceUse → SinkUse → Status → Type 0
-Plays rules cut source sink status = Outcome (λ s. s.place) (Acting rules cut) (UnderWay rules cut) first source sink status
+Plays rules cut source sink status = Outcome (λ s. s.position) (Acting rules cut) (UnderWay rules cut) first source sink status
 
 -- A script was played on a document of a kit, and ended with the status of this code.
 abbrev pub PlaysTo : {C B S : Type 0} → Rules C B → (C → Place → S) → SourceUse → SinkUse → (code : ℕ) → Type 0

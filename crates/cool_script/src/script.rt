@@ -1,13 +1,13 @@
-//! `Script`: the world with the place in the grammar, played line by line.
+//! `Script`: the world with the position in the grammar, played line by line.
 ghost use Rattle.std.specs.Prelude.{◌≡◌, ℕ, List, Some, Err, OnOk, IfErr};
 ghost use Rattle.outside.specs.Causes.{HasCause};
 ghost use Rattle.outside.specs.Streams.{Adds};
 ghost use Rattle.script_run.specs.Determined.{StepsOnce, StaysGood};
-ghost use Rattle.cool_script.specs.Script.{Acting, Does, Doing, Halted, IsGood, Obeys};
+ghost use Rattle.cool_script.specs.Script.{Acting, Does, Doing, Halted, IsGood, CarriesOut};
 
 use kit_trait::{Kit, PatchKit};
 use outside::Sink;
-use script_lines::{Judged, Place, ScriptLine, Stop};
+use script_lines::{LineRole, Position, ScriptLine, Stop};
 use script_run::{Play, Status, refuse};
 use script_world::{World, settling_has_one_record, turns_have_one_record};
 use sheet_kit::SheetKit;
@@ -17,7 +17,7 @@ use std::marker::Model;
 /// Where the script stands, and the world of its document.
 #[derive(Drop)]
 pub struct Script<K: Kit> {
-    place: Place,
+    position: Position,
     world: World<K>,
 }
 
@@ -26,7 +26,7 @@ impl<K: Kit> Model for Script<K> {
 
     ghost Value = { Standing K.Scene };
 
-    ghost view = { λ s. record { place = s.place; world = s.world } };
+    ghost view = { λ s. record { position = s.position; world = s.world } };
 }
 
 impl<K: Kit> Script<K> {
@@ -39,7 +39,7 @@ impl<K: Kit> Script<K> {
         ensures { result ≡ first }
     {
         Script {
-            place: Place::start(alloc),
+            position: Position::start(alloc),
             world: World::new(alloc),
         }
     }
@@ -53,28 +53,28 @@ impl<K: Kit> Script<K> {
         line: &[u8],
         number: u64,
     ) -> Option<Status>
-        ensures answers { Answers (λ s. s.place) (Acting K.rules K.cut) (UnderWay K.rules K.cut) result self.old line.now number self.new (T.written sink.old) (T.written sink.new) }
+        ensures answers { Answers (λ s. s.position) (Acting K.rules K.cut) (UnderWay K.rules K.cut) result self.old line.now number self.new (T.written sink.old) (T.written sink.new) }
         ensures cause { HasCause (T.faults sink.old) (T.faults sink.new) (result ≡ Some Status.WriteFault) }
     {
-        let Ok(judged) = self.place.judge(alloc, line) else {
+        let Ok(role) = self.position.advance(alloc, line) else {
             return Some(Status::Memory);
         };
-        match judged {
-            Judged::Acts(said) => obey(&mut self.world, alloc, sink, said),
-            Judged::Ends => Some(Status::Done),
-            Judged::Refused => Some(refuse(alloc, sink, number)),
+        match role {
+            LineRole::Acts(said) => carry_out(&mut self.world, alloc, sink, said),
+            LineRole::Ends => Some(Status::Done),
+            LineRole::Refused => Some(refuse(alloc, sink, number)),
         }
     }
 }
 
 // Lets the world do what the line says: None where it is done, else the status that it decides.
-fn obey<K: Kit, T: Sink>(
+fn carry_out<K: Kit, T: Sink>(
     world: &mut World<K>,
     alloc: Global,
     sink: &mut T,
     said: ScriptLine,
 ) -> Option<Status>
-    ensures obeys { Obeys K.rules K.cut said result world.old world.new (T.written sink.old) (T.written sink.new) }
+    ensures carries_out { CarriesOut K.rules K.cut said result world.old world.new (T.written sink.old) (T.written sink.new) }
     ensures cause { HasCause (T.faults sink.old) (T.faults sink.new) (result ≡ Some Status.WriteFault) }
 {
     match act(world, alloc, sink, said) {
@@ -100,7 +100,7 @@ fn act<K: Kit, T: Sink>(
         ScriptLine::Say(link, message) => Ok(world.say(link, message)?),
         ScriptLine::Keys(link, typed) => Ok(world.type_all(alloc, link, typed.get())?),
         ScriptLine::Leave(link) => Ok(world.leave(link)?),
-        ScriptLine::Turn(count) => world.turn(alloc, sink, count),
+        ScriptLine::Turn(count) => world.make_turns(alloc, sink, count),
         ScriptLine::Settle => world.settle(alloc, sink),
         ScriptLine::Blank => Ok(()),
         ScriptLine::End => Ok(()),
@@ -109,8 +109,8 @@ fn act<K: Kit, T: Sink>(
 
 // A law: what a line that acts writes, and where it leads, is no choice.
 fn steps_once<K: Kit>()
-    ensures once { StepsOnce (Acting K.rules K.cut) (IsGood K.rules) }
-    ensures stays { StaysGood (Acting K.rules K.cut) (IsGood K.rules) }
+    ensures once { StepsOnce (Acting K.rules K.cut) (IsGood K.rules K.cut) }
+    ensures stays { StaysGood (Acting K.rules K.cut) (IsGood K.rules K.cut) }
 {
     turns_have_one_record::<K>();
     settling_has_one_record::<K>();
@@ -127,13 +127,13 @@ impl Play for Script<PatchKit> {
 
     ghost state = { λ s. s };
 
-    ghost place = { λ s. s.place };
+    ghost position = { λ s. s.position };
 
     ghost step = { Acting patch_rules patch_cut };
 
     ghost under = { UnderWay patch_rules patch_cut };
 
-    ghost is_good = { IsGood patch_rules };
+    ghost is_good = { IsGood patch_rules patch_cut };
 
     fn steps_once() {
         steps_once::<PatchKit>();
@@ -163,13 +163,13 @@ impl Play for Script<SheetKit> {
 
     ghost state = { λ s. s };
 
-    ghost place = { λ s. s.place };
+    ghost position = { λ s. s.position };
 
     ghost step = { Acting sheet_kind sheet_cut };
 
     ghost under = { UnderWay sheet_kind sheet_cut };
 
-    ghost is_good = { IsGood sheet_kind };
+    ghost is_good = { IsGood sheet_kind sheet_cut };
 
     fn steps_once() {
         steps_once::<SheetKit>();

@@ -3,7 +3,7 @@ use Rattle.std.proofs.Common.{◌≡◌, ◌∙◌, ℕ, true, List, [], ◌∷�
 use Rattle.document_machine.specs.State.{Document}
 use Rattle.kit_trait.specs.Rules.{Rules}
 use Rattle.tile_key.specs.Places.{Place}
-use Rattle.script_lines.specs.Grammar.{Verdict, Acts, Ends, Refused, verdict}
+use Rattle.script_lines.specs.Grammar.{Role, Acts, Ends, Refused, role}
 use Rattle.script_lines.specs.declared.saying.ScriptLine.{ScriptLine}
 use Rattle.script_lines.specs.declared.saying.ScriptLine.TheVariants.{Open, Say, Keys, Leave, Turn as TurnLine, Settle, Blank, End}
 use Rattle.script_run.specs.Transcript.{Runs}
@@ -25,7 +25,7 @@ last_of step s (other ∷ lines) line out t runs = last_of step runs.0 lines lin
 module _ {C B S : Type 0} (rules : Rules C B) (cut : C → Place → S) (keeps : Keeps rules cut) where
   -- the transcript so far, to a world whose document's views have links
   pub record IsSound (before : List ℕ) (s : Seen S) : Type 0 where
-    pub housed : IsHoused rules s.house
+    pub housed : IsHoused rules cut s.house
     pub held : Holds rules cut before s.house
 
   -- another world, and what was written to come to it
@@ -66,14 +66,14 @@ module _ {C B S : Type 0} (rules : Rules C B) (cut : C → Place → S) (keeps :
   does_sound before Blank s out t sound does = moved before out [] s t does.0 does.1 (waits before s s.waiting sound)
   does_sound before End s out t sound does = moved before out [] s t does.0 does.1 (waits before s s.waiting sound)
 
-  by_verdict : (before : List ℕ) (v : Verdict) (s : Seen S) (out : List ℕ) (t : Standing S) → IsSound before s → DoesBy rules cut v s out t → IsSound (before ++ out) t.world
-  by_verdict before (Acts line place) s out t sound does = does_sound before line s out t.world sound does.0
+  by_verdict : (before : List ℕ) (v : Role) (s : Seen S) (out : List ℕ) (t : Standing S) → IsSound before s → DoesBy rules cut v s out t → IsSound (before ++ out) t.world
+  by_verdict before (Acts line position) s out t sound does = does_sound before line s out t.world sound does.0
   by_verdict before Ends s out t sound does = absurd does
   by_verdict before Refused s out t sound does = absurd does
 
   acting_sound : (before : List ℕ) (s : Standing S) (line out : List ℕ) (t : Standing S) → IsSound before s.world → Acting rules cut s line out t → IsSound (before ++ out) t.world
   unfolding Acting
-  acting_sound before s line out t sound acts = by_verdict before (verdict s.place line) s.world out t sound acts
+  acting_sound before s line out t sound acts = by_verdict before (role s.position line) s.world out t sound acts
 
   runs_sound : (before : List ℕ) (lines : List (List ℕ)) (s : Standing S) (out : List ℕ) (t : Standing S) → IsSound before s.world → Runs (Acting rules cut) s lines out t → IsSound (before ++ out) t.world
   runs_sound before [] s out t sound runs =
@@ -112,14 +112,14 @@ module _ {C B S : Type 0} (rules : Rules C B) (cut : C → Place → S) (keeps :
   doing_played before Blank s out sound doing = silent_at before out s sound doing
   doing_played before End s out sound doing = silent_at before out s sound doing
 
-  doing_by : (before : List ℕ) (v : Verdict) (s : Seen S) (out : List ℕ) → IsSound before s → DoingBy rules cut v s out → Played (before ++ out)
-  doing_by before (Acts line place) s out sound doing = doing_played before line s out sound doing
+  doing_by : (before : List ℕ) (v : Role) (s : Seen S) (out : List ℕ) → IsSound before s → DoingBy rules cut v s out → Played (before ++ out)
+  doing_by before (Acts line position) s out sound doing = doing_played before line s out sound doing
   doing_by before Ends s out sound doing = absurd doing
   doing_by before Refused s out sound doing = absurd doing
 
   under_way : (before : List ℕ) (s : Standing S) (line out : List ℕ) → IsSound before s.world → UnderWay rules cut s line out → Played (before ++ out)
   unfolding UnderWay
-  under_way before s line out sound doing = doing_by before (verdict s.place line) s.world out sound doing
+  under_way before s line out sound doing = doing_by before (role s.position line) s.world out sound doing
 
   -- a script, and a line behind it that is under way
   pub script_under_way : (lines : List (List ℕ)) (line out more : List ℕ) (t : Standing S) → Runs (Acting rules cut) first lines out t → UnderWay rules cut t line more → Played (out ++ more)

@@ -35,11 +35,11 @@ module _ {C B S : Type 0} (rules : Rules C B) (cut : C → Place → S) (keeps :
         on_by written tail [] (s.world.house.seats, s.world.house.document, subst (λ (x : List ℕ). IsPlayed rules cut x s.world.house.seats s.world.house.document) (sym (append-nil written)) (script_played rules cut keeps lines written s runs))
         (record { behind = []; is = sym (append-nil tail ∙ is) })
 
-    half_way : (at_end : Type 0) (number : ℕ) (rest tail out : List ℕ) → IsFront tail out → Writes (λ (x : Standing S). x.place) (UnderWay rules cut) at_end s number rest out → IsTail rules cut written tail
+    half_way : (at_end : Type 0) (number : ℕ) (rest tail out : List ℕ) → IsFront tail out → Writes (λ (x : Standing S). x.position) (UnderWay rules cut) at_end s number rest out → IsTail rules cut written tail
     half_way at_end number rest tail out front (inl line) = on_by written tail out (script_under_way rules cut keeps lines line.0 written out s runs line.2) front
     half_way at_end number rest tail out front (inr refused) = inr (number, subst (IsFront tail) refused.1 front)
 
-    caused : (status : Status) (at_end full : Type 0) (number : ℕ) (rest tail : List ℕ) → Cause (λ (x : Standing S). x.place) (Acting rules cut) (UnderWay rules cut) status at_end full s number rest tail → IsTail rules cut written tail
+    caused : (status : Status) (at_end full : Type 0) (number : ℕ) (rest tail : List ℕ) → Cause (λ (x : Standing S). x.position) (Acting rules cut) (UnderWay rules cut) status at_end full s number rest tail → IsTail rules cut written tail
     caused Done at_end full number rest tail cause = nothing_more tail cause.3
     caused WrongWords at_end full number rest tail cause = absurd cause
     caused FaultLine at_end full number rest tail cause = inr (number, subst (IsFront tail) cause.1 (all_of tail))
@@ -51,14 +51,14 @@ module _ {C B S : Type 0} (rules : Rules C B) (cut : C → Place → S) (keeps :
     caused NoEnd at_end full number rest tail (inr (inl spent)) = nothing_more tail spent.1
     caused NoEnd at_end full number rest tail (inr (inr last)) = on_by written tail tail (script_acting rules cut keeps lines rest written tail s last.0 runs last.3) (all_of tail)
 
-  pub replayed : (source : SourceUse) (sink : SinkUse) (status : Status) (e : Ended (λ (x : Standing S). x.place) (Acting rules cut) (UnderWay rules cut) first source sink status)
+  pub replayed : (source : SourceUse) (sink : SinkUse) (status : Status) (e : Ended (λ (x : Standing S). x.position) (Acting rules cut) (UnderWay rules cut) first source sink status)
       → IsReplayed rules cut e.written e.tail e.state.world.house
   replayed source sink status e =
       (right e.written e.state.world.house.seats e.state.world.house.document (script_played rules cut keeps e.lines e.written e.state e.runs), caused e.lines e.written e.state e.runs status _ _ _ e.rest e.tail e.cause)
 
 -- a script that is done
 pub done_by : {C B S : Type 0} (rules : Rules C B) (cut : C → Place → S) (status : Status) (source : SourceUse) (sink : SinkUse) → 0 ≡ code_of status
-    → (e : Ended (λ (x : Standing S). x.place) (Acting rules cut) (UnderWay rules cut) first source sink status) → e.tail ≡ []
+    → (e : Ended (λ (x : Standing S). x.position) (Acting rules cut) (UnderWay rules cut) first source sink status) → e.tail ≡ []
 done_by rules cut Done source sink is e = e.cause.3
 done_by rules cut WrongWords source sink is e = absurd (cc)
 done_by rules cut FaultLine source sink is e = absurd (cc)

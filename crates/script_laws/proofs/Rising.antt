@@ -3,9 +3,9 @@ use Rattle.std.proofs.Common.{◌≡◌, ◌∙◌, ℕ, ◌<◌, List, [], ◌�
 use Rattle.std.specs.List.{flat_map}
 use Rattle.cool_base.specs.declared.ids.ViewId.{ViewId}
 use Rattle.cool_frame.specs.declared.frame.Frame.{Frame}
-use Rattle.document_laws.specs.Whole.{IsWhole}
+use Rattle.document_machine.specs.Kept.{IsKept}
 use Rattle.document_laws.proofs.Screens.{frames_rise}
-use Rattle.document_laws.proofs.Whole.{opening_is_whole, runs_keep}
+use Rattle.document_laws.proofs.Kept.{opening_keeps, runs_keep}
 use Rattle.document_machine.specs.Due.{parts_of}
 use Rattle.document_machine.specs.Event.{Event}
 use Rattle.document_machine.specs.Outputs.{nothing, joined}
@@ -63,8 +63,8 @@ module _ {C B S : Type 0} (rules : Rules C B) (cut : C → Place → S) where
       let at = a.ends in
       let b = cut_at between (last ∷ after) at.0 d at.2 at.4 in
       let two = b.ends in
-      let begins : IsWhole rules (opening {S = S} run.file []) = opening_is_whole S rules run.file [] run.accepted in
-      let whole : IsWhole rules a.mid = runs_keep rules cut some before (opening run.file []) a.mid a.here a.begins begins in
+      let begins : IsKept rules cut (opening {S = S} run.file []) = opening_keeps rules cut run.file [] run.accepted in
+      let whole : IsKept rules cut a.mid = runs_keep rules cut some before (opening run.file []) a.mid a.here a.begins begins in
       let behind : at.2.frames ≡ b.here.frames ++ (two.1.frames ++ two.2.frames) =
       b.frames_are ∙ ap (λ (fs : List (ViewId × Frame)). b.here.frames ++ fs) (frames_of two.1 two.2 b.later two.5) in
       let all : a.later.frames ≡ at.1.frames ++ (b.here.frames ++ (two.1.frames ++ two.2.frames)) =

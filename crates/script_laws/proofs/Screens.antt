@@ -1,30 +1,48 @@
 -- What a view's screen has of a key is the version of the last tile of it that the view was sent.
 use Rattle.std.proofs.Common.{◌≡◌, ◌≢◌, ◌⊎◌, ℕ, ◌<◌, Bool, true, false, not, ◌&&◌, ◌||◌, cond, nat_eq, List, [], ◌∷◌, ◌++◌, length, map, filter, Option, None, Some, refl, ap, sym, subst, ◌∙◌, arith, inl, inr}
-use Rattle.std.specs.Prelude.{nat_lt}
+use Rattle.std.specs.Prelude.{nat_lt, nat_le, Result, Ok, Err}
 use Rattle.std.specs.List.{flat_map, AllByRecursion}
 use Rattle.std.proofs.lemmas.Bool.{cases_Bool, eqb-true}
 use Rattle.std.proofs.lemmas.Bool.Decides.{nat_tests}
 use Rattle.cool_base.specs.declared.ids.ViewId.{ViewId}
 use Rattle.cool_frame.specs.declared.frame.Frame.{Frame}
-use Rattle.cool_frame.specs.declared.frame.Frame.TheVariants.{Invalidate}
-use Rattle.document_laws.specs.Whole.{IsWhole}
+use Rattle.cool_frame.specs.declared.frame.Frame.TheVariants.{Server, Status as StatusFrame, Invalidate, SaveDone, Error, Tile}
+use Rattle.cool_frame.specs.declared.kind.ErrorKind.TheVariants.{InputsFull, ReadOnly, AskedFull, BadTile, TooLarge}
+use Rattle.cool_message.specs.Asked.{keys_of}
+use Rattle.cool_message.specs.Reading.{reading}
+use Rattle.cool_message.specs.declared.fault.MessageFault.{MessageFault}
+use Rattle.cool_message.specs.declared.message.ClientMessage.{ClientMessage}
+use Rattle.cool_message.specs.declared.message.ClientMessage.TheVariants.{CoolClient, Load, Key, Mouse, Tile as AskTile, TileCombine, CancelTiles, VisibleArea, Zoom, SetPart, TileProcessed, Save, UnoSave}
+use Rattle.cool_message.specs.declared.message.KeyKind.{KeyKind}
+use Rattle.cool_message.specs.declared.message.KeyKind.TheVariants.{Input as Down, Up}
+use Rattle.cool_message.specs.declared.message.MouseKind.{MouseKind}
+use Rattle.cool_message.specs.declared.message.MouseKind.TheVariants.{ButtonDown, ButtonUp, Move}
+use Rattle.document_machine.specs.Kept.{IsKept, IsViewKept}
 use Rattle.document_laws.proofs.Acknowledged.{found_with, found_other}
+use Rattle.document_laws.proofs.Heard.{IsPlain, effect_good, heard_is, keeps}
 use Rattle.document_laws.proofs.KeptViews.{map_ids}
 use Rattle.document_laws.proofs.KeyOrder.{same_is}
+use Rattle.document_laws.proofs.Lower.{found_view}
 use Rattle.document_laws.proofs.Rising.{find_map, find_push, find_without, offered_id}
 use Rattle.document_laws.proofs.Sending.{with_same, screen_other}
-use Rattle.document_machine.specs.Due.{takes, tile_frame, sent, version_of, without_version, screen_after, sees_or_asks, visible, is_current, asked_after}
+use Rattle.document_machine.specs.Due.{takes, tile_frame, sent, version_of, without_version, screen_after, seen_keys, wants, visible, is_current, asked_after}
 use Rattle.document_machine.specs.Event.{Event, Joined, Left, Said, Turned, Painted}
 use Rattle.document_machine.specs.Keys.{Pairwise, is_among}
-use Rattle.document_machine.specs.Message.{Effect, Refuses, Greets, Inputs, Asks, Cancels, Looks, Zooms, GoesTo, Acknowledges, Passes, effect, frames_of, took, asks, cancels, looks, zooms, goes_to, acknowledged}
-use Rattle.document_machine.specs.Outputs.{named}
+use Rattle.document_machine.specs.Message.{Limits, Effect, limits_of, becomes, answers, enters, asked_with_all, input_effect, key_effect, mouse_effect, asking_effect, forgets, seeing_effect, zooming_effect, going_effect, message_effect, reading_effect, effect, heard}
+use Rattle.document_machine.specs.Outputs.{named, outs_of}
 use Rattle.document_machine.specs.State.{Shown, View, Job, Document, opening_view, find_view, with_view, without_view, find_job}
-use Rattle.document_machine.specs.Step.{JoinsWhere, Works, Paints, Step, status, told, offered, views_offered, tile_for, tiles_for}
+use Rattle.document_machine.specs.Step.{JoinsWhere, Works, TurnsTo, Paints, Step, status, told, offered, views_offered, tile_for, tiles_for}
+use Rattle.document_machine.specs.declared.limits.TheConstants.{MOST_ASKED, MOST_INPUTS, MOST_VIEWS}
 use Rattle.document_machine.specs.declared.outs.Outs.{Outs}
+use Rattle.document_machine.specs.declared.outs.Turned.{Turned as TurnAnswer}
+use Rattle.document_machine.specs.declared.outs.Turned.TheVariants.{Worked, Idle}
 use Rattle.document_machine.specs.declared.rights.Rights.{Rights}
 use Rattle.kit_trait.specs.Rules.{Rules, doc, shown}
 use Rattle.kit_trait.specs.declared.values.Damage.{Damage}
-use Rattle.tile_key.specs.Places.{Place, same_place}
+use Rattle.kit_trait.specs.declared.values.Input.{Input}
+use Rattle.kit_trait.specs.declared.values.What.{What}
+use Rattle.tile_key.specs.Places.{Place, Scale, same_place, zoom_of}
+use Rattle.tile_key.specs.Visible.{is_too_large}
 use Rattle.script_laws.specs.LastTiles.{tile_in, later_one, last_tile}
 
 -- the last tile of two lists of frames
@@ -80,17 +98,18 @@ all_told : (id : ℕ) (key : Place) (views : List View) (damage : List Damage) �
 all_told id key [] damage = refl
 all_told id key (view ∷ views) damage = none_of id key (map (λ d. (named view.id, Invalidate d.part d.rect)) damage) (told views damage) (one_told id key view damage) (all_told id key views damage)
 
-replied : (id to : ℕ) (is : Effect) → NoTile id (frames_of to is)
-replied id to (Refuses command kind) key = refl
-replied id to Greets key = refl
-replied id to (Inputs input) key = refl
-replied id to (Asks asked) key = refl
-replied id to Cancels key = refl
-replied id to (Looks area) key = refl
-replied id to (Zooms zoom) key = refl
-replied id to (GoesTo part) key = refl
-replied id to (Acknowledges wids) key = refl
-replied id to Passes key = refl
+plain_one : (id : ℕ) (key : Place) (to : ViewId) (frame : Frame) → IsPlain frame → tile_in id key (to, frame) ≡ None
+plain_one id key to (Tile shown version wid rgba) plain = absurd plain
+plain_one id key to Server plain = refl
+plain_one id key to (StatusFrame kit parts size view readonly) plain = refl
+plain_one id key to (Invalidate part rect) plain = refl
+plain_one id key to (SaveDone inputs put) plain = refl
+plain_one id key to (Error command kind code) plain = refl
+
+replied : (id to : ℕ) (frames : List Frame) → AllByRecursion IsPlain frames → NoTile id (map (λ frame. (named to, frame)) frames)
+replied id to [] plain key = refl
+replied id to (frame ∷ frames) plain key =
+    none_of id key ((named to, frame) ∷ []) (map (λ frame. (named to, frame)) frames) (plain_one id key (named to) frame plain.0) (replied id to frames plain.1 key)
 
 -- a screen that has forgotten some keys
 gone : (f : Place → Bool) (screen : List Shown) (key : Place) → f key ≡ false → version_of (filter (λ shown. f shown.key) screen) key ≡ None
@@ -220,24 +239,78 @@ module _ {C B S : Type 0} (rules : Rules C B) (d : Document S) (n : ℕ) where
       (key_tiles key views id v order live)
       (all_tiles keys (map (offered rules d n key) views) id (offered rules d n key v) w (map_ids views (offered rules d n key) (offered_id rules d n key) order) (find_map rules d n key views id v live) later)
 
--- a view that has changed
-with_stays : (views : List View) (i : ℕ) (change : View → View) → ((v : View) → (change v).id ≡ v.id) → ((v : View) → Stays v.screen (change v).screen)
-    → (id : ℕ) (v w : View) → find_view views id ≡ Some v → find_view (with_view views i change) id ≡ Some w → Stays v.screen w.screen
-with_stays views i change same stays id v w live later =
-    elim (cases_Bool (nat_eq id i)) [
-      | inl here ↦
-          let is : id ≡ i = eqb-true id i here in
-          let at : find_view views i ≡ Some v = ap (find_view views) (sym is) ∙ live in
-          let found : find_view (with_view views i change) i ≡ Some (change v) = found_with views i change v same at in
-          let e : Some (change v) ≡ Some w = sym found ∙ ap (find_view (with_view views i change)) (sym is) ∙ later in
-          let eq : change v ≡ w = cc in
-          subst (λ (x : View). Stays v.screen x.screen) eq (stays v)
-      | inr away ↦
-          let apart : id ≢ i = λ is. absurd (let yes : nat_eq id i ≡ true = grind (arith, nat_tests) in cc) in
-          let e : Some v ≡ Some w = sym live ∙ sym (found_other views i id change same apart) ∙ later in
-          let eq : v ≡ w = cc in
-          subst (λ (x : View). Stays v.screen x.screen) eq (same_stays v.screen)
-    ]
+-- what a message does to its view's screen: it has nothing after it that it hadn't before
+module _ (limits : Limits) (view : View) where
+  abbrev IsStaying : Effect → Type 0
+  IsStaying e = Stays view.screen e.view.screen
+
+  same_view : (frames : List Frame) (inputs : List Input) → IsStaying (record { frames = frames; inputs = inputs; view = view })
+  same_view frames inputs = same_stays view.screen
+
+  input_stays : (command : List ℕ) (what : What) → IsStaying (input_effect limits view command what)
+  input_stays command what =
+      let input : Input = record { view = record { 0 = view.id }; part = view.part; what = what } in
+      let full : (b : Bool) → IsStaying (cond b (answers view (Error command InputsFull None)) (enters view input)) = elim [ true ↦ same_stays view.screen | false ↦ same_stays view.screen ] in
+      elim view.rights.can_write as (λ b. IsStaying (cond b (cond (nat_le MOST_INPUTS limits.inputs) (answers view (Error command InputsFull None)) (enters view input)) (answers view (Error command ReadOnly None)))) [
+        | true ↦ full (nat_le MOST_INPUTS limits.inputs)
+        | false ↦ same_stays view.screen
+      ]
+
+  key_stays : (kind : KeyKind) (what : What) → IsStaying (key_effect limits view kind what)
+  key_stays Down what = input_stays _ what
+  key_stays Up what = same_stays view.screen
+
+  mouse_stays : (kind : MouseKind) (what : What) → IsStaying (mouse_effect limits view kind what)
+  mouse_stays ButtonDown what = input_stays _ what
+  mouse_stays ButtonUp what = same_stays view.screen
+  mouse_stays Move what = same_stays view.screen
+
+  asking_stays : (command : List ℕ) (keys : Option (List Place)) → IsStaying (asking_effect view command keys)
+  asking_stays command None = same_stays view.screen
+  asking_stays command (Some keys) =
+      let asked : List Place = asked_with_all view.asked keys in
+      elim (nat_lt MOST_ASKED (length asked)) as (λ b. IsStaying (cond b (answers view (Error command AskedFull None)) (becomes (record view { asked = asked })))) [
+        | true ↦ same_stays view.screen
+        | false ↦ same_stays view.screen
+      ]
+
+  seeing_stays : (command : List ℕ) (changed : View) → changed.screen ≡ view.screen → IsStaying (seeing_effect limits.sizes view command changed)
+  seeing_stays command changed same =
+      elim (is_too_large changed.zoom (length (seen_keys limits.sizes changed))) as (λ b. IsStaying (cond b (answers view (Error command TooLarge None)) (becomes (forgets limits.sizes changed)))) [
+        | true ↦ same_stays view.screen
+        | false ↦ subst (λ (screen : List Shown). Stays view.screen (filter (λ shown. wants limits.sizes changed shown.key) screen)) (sym same) (forgotten (wants limits.sizes changed) view.screen)
+      ]
+
+  zooming_stays : (zoom : Option Scale) → IsStaying (zooming_effect limits.sizes view zoom)
+  zooming_stays None = same_stays view.screen
+  zooming_stays (Some zoom) = seeing_stays _ (record view { zoom = zoom }) refl
+
+  going_stays : (part : ℕ) → IsStaying (going_effect limits view part)
+  going_stays part =
+      let go : (command : List ℕ) (b : Bool) → IsStaying (cond b (seeing_effect limits.sizes view command (record view { part = part })) (answers view (Error command BadTile None))) = λ command. elim [
+        | true ↦ seeing_stays command (record view { part = part }) refl
+        | false ↦ same_stays view.screen
+      ] in
+      go _ (nat_lt part limits.parts)
+
+  message_stays : (message : ClientMessage) → IsStaying (message_effect limits view message)
+  message_stays CoolClient = same_stays view.screen
+  message_stays (Load url) = same_stays view.screen
+  message_stays (Key kind chr code) = key_stays kind _
+  message_stays (Mouse kind x y clicks buttons modifier) = mouse_stays kind _
+  message_stays (AskTile words) = asking_stays _ (keys_of limits.parts (AskTile words))
+  message_stays (TileCombine words) = asking_stays _ (keys_of limits.parts (TileCombine words))
+  message_stays CancelTiles = forgotten (wants limits.sizes (record view { asked = filter (is_among (seen_keys limits.sizes view)) view.asked })) view.screen
+  message_stays (VisibleArea area) = seeing_stays _ (record view { area = area }) refl
+  message_stays (Zoom pixel_w pixel_h twip_w twip_h nviewid) = zooming_stays (zoom_of (record { pixel_w = pixel_w; pixel_h = pixel_h; twip_w = twip_w; twip_h = twip_h; nviewid = nviewid }))
+  message_stays (SetPart part) = going_stays part
+  message_stays (TileProcessed wids) = same_stays view.screen
+  message_stays (Save keep skip) = same_stays view.screen
+  message_stays UnoSave = same_stays view.screen
+
+  reading_stays : (text : List ℕ) (read : Result ClientMessage MessageFault) → IsStaying (reading_effect limits view text read)
+  reading_stays text (Err why) = same_stays view.screen
+  reading_stays text (Ok message) = message_stays message
 
 unchanged : (views : List View) (id : ℕ) (v w : View) → find_view views id ≡ Some v → find_view views id ≡ Some w → Stays v.screen w.screen
 unchanged views id v w live later =
@@ -261,17 +334,25 @@ module _ {C B S : Type 0} (rules : Rules C B) (cut : C → Place → S) where
   no_tile views now frames outs new frames_are views_are none stays =
       gives views now frames outs new frames_are views_are (λ id v w live later. none_tells id v.screen w.screen frames (none id) (stays id v w live later))
 
-  took_stays : (old : Document S) (to : ℕ) (is : Effect) → (id : ℕ) (v w : View) → find_view old.views id ≡ Some v → find_view (took rules old to is).views id ≡ Some w → Stays v.screen w.screen
-  took_stays old to (Refuses command kind) = unchanged old.views
-  took_stays old to Greets = unchanged old.views
-  took_stays old to (Inputs input) = unchanged old.views
-  took_stays old to (Asks asked) = with_stays old.views to (asks asked) (λ v. refl) (λ v. same_stays v.screen)
-  took_stays old to Cancels = with_stays old.views to (cancels rules old) (λ v. refl) (λ v. forgotten (sees_or_asks rules old (record v { asked = filter (is_among (visible rules old v)) v.asked })) v.screen)
-  took_stays old to (Looks area) = with_stays old.views to (looks rules old area) (λ v. refl) (λ v. forgotten (sees_or_asks rules old (record v { area = area })) v.screen)
-  took_stays old to (Zooms zoom) = with_stays old.views to (zooms rules old zoom) (λ v. refl) (λ v. forgotten (sees_or_asks rules old (record v { zoom = zoom })) v.screen)
-  took_stays old to (GoesTo part) = with_stays old.views to (goes_to rules old part) (λ v. refl) (λ v. forgotten (sees_or_asks rules old (record v { part = part })) v.screen)
-  took_stays old to (Acknowledges wids) = with_stays old.views to (acknowledged wids) (λ v. refl) (λ v. same_stays v.screen)
-  took_stays old to Passes = unchanged old.views
+  heard_stays : (old : Document S) (to : ℕ) (view : View) (e : Effect) → find_view old.views to ≡ Some view → e.view.id ≡ view.id → Stays view.screen e.view.screen
+      → (id : ℕ) (v w : View) → find_view old.views id ≡ Some v → find_view (heard old to e).views id ≡ Some w → Stays v.screen w.screen
+  heard_stays old to view e there same stays id v w live later =
+      let now : find_view (with_view old.views to (keeps e.view)) id ≡ Some w = ap (λ (d : Document S). find_view d.views id) (sym (heard_is old to view e there same)) ∙ later in
+      elim (cases_Bool (nat_eq id to)) [
+        | inl here ↦
+            let is : id ≡ to = eqb-true id to here in
+            let found : find_view (with_view old.views to (keeps e.view)) to ≡ Some (keeps e.view view) = found_with old.views to (keeps e.view) view (λ v. refl) there in
+            let a : Some view ≡ Some v = sym there ∙ ap (find_view old.views) (sym is) ∙ live in
+            let b : Some (keeps e.view view) ≡ Some w = sym found ∙ ap (find_view (with_view old.views to (keeps e.view))) (sym is) ∙ now in
+            let first : view ≡ v = cc in
+            let last : keeps e.view view ≡ w = cc in
+            subst (λ (x : View). Stays x.screen w.screen) first (subst (λ (x : View). Stays view.screen x.screen) last stays)
+        | inr away ↦
+            let apart : id ≢ to = λ is. absurd (let yes : nat_eq id to ≡ true = grind (arith, nat_tests) in cc) in
+            let e : Some v ≡ Some w = sym live ∙ sym (found_other old.views to id (keeps e.view) (λ v. refl) apart) ∙ now in
+            let eq : v ≡ w = cc in
+            subst (λ (x : View). Stays v.screen x.screen) eq (same_stays v.screen)
+      ]
 
   send_tells : (old : Document S) (view : View) (key : Place) (version : ℕ) → find_view old.views view.id ≡ Some view
       → (id : ℕ) (v w : View) → find_view old.views id ≡ Some v → find_view (with_view old.views view.id (sent rules old version key)) id ≡ Some w → Tells id v.screen w.screen (tile_frame rules old version key view ∷ [])
@@ -312,26 +393,28 @@ module _ {C B S : Type 0} (rules : Rules C B) (cut : C → Place → S) where
       (λ id v w live later. unchanged (old.views ++ opening_view old.next_view rights ∷ []) id v w (find_push old.views (opening_view old.next_view rights ∷ []) id v live) later)
   join_tells old new rights outs false joins = no_tile old.views old.views [] outs new (ap (λ o. o.frames) joins.0) (ap (λ e. e.views) joins.1) (λ id key. refl) (unchanged old.views)
 
-  paints_tell : (old new : Document S) (ticket : ℕ) (scene : S) (outs : Outs S) (job : Option (Job S)) → IsWhole rules old → Paints rules old ticket scene outs new job → AllTell old.views outs new
-  paints_tell old new ticket scene outs None whole paint = no_tile old.views old.views [] outs new (ap (λ o. o.frames) paint.0) (ap (λ e. e.views) paint.1) (λ id key. refl) (unchanged old.views)
-  paints_tell old new ticket scene outs (Some job) whole paint =
+  paints_tell : (old new : Document S) (ticket : ℕ) (scene : S) (outs : Outs S) (job : Option (Job S)) → IsKept rules cut old → Paints rules old ticket scene outs new job → AllTell old.views outs new
+  paints_tell old new ticket scene outs None kept paint = no_tile old.views old.views [] outs new (ap (λ o. o.frames) paint.0) (ap (λ e. e.views) paint.1) (λ id key. refl) (unchanged old.views)
+  paints_tell old new ticket scene outs (Some job) kept paint =
       elim paint [
         | inl other ↦ no_tile old.views old.views [] outs new (ap (λ o. o.frames) other.1) (ap (λ e. e.views) other.2) (λ id key. refl) (unchanged old.views)
         | inr taken ↦ gives old.views (views_offered rules old job.number job.keys old.views) (tiles_for rules old job.number job.keys old.views) outs new (ap (λ o. o.frames) taken.1) (ap (λ e. e.views) taken.2)
-            (λ id v w live later. all_tiles rules old job.number job.keys old.views id v w whole.kept.ids live later)
+            (λ id v w live later. all_tiles rules old job.number job.keys old.views id v w kept.ids live later)
       ]
 
-  pub steps_tell : (old new : Document S) (event : Event S) (outs : Outs S) → IsWhole rules old → Step rules cut old event outs new → AllTell old.views outs new
-  steps_tell old new (Joined rights) outs whole step = join_tells old new rights outs (nat_lt (length old.views) 64) step
-  steps_tell old new (Left view) outs whole step =
+  turn_tells : (old new : Document S) (outs : Outs S) (turned : TurnAnswer S) → TurnsTo rules cut old turned new → outs ≡ outs_of turned → AllTell old.views outs new
+  turn_tells old new outs (Worked given) works are = subst (λ (o : Outs S). AllTell old.views o new) (sym are) (works_tell old new given works)
+  turn_tells old new outs Idle idle are = no_tile old.views old.views [] outs new (ap (λ o. o.frames) are) (ap (λ e. e.views) idle.1) (λ id key. refl) (unchanged old.views)
+
+  pub steps_tell : (old new : Document S) (event : Event S) (outs : Outs S) → IsKept rules cut old → Step rules cut old event outs new → AllTell old.views outs new
+  steps_tell old new (Joined rights) outs kept step = join_tells old new rights outs (nat_lt (length old.views) MOST_VIEWS) step
+  steps_tell old new (Left view) outs kept step =
       no_tile old.views (without_view old.views view) [] outs new (ap (λ o. o.frames) step.0) (ap (λ e. e.views) step.1) (λ id key. refl)
-      (λ id v w live later. unchanged old.views id v w live (find_without old.views view id w whole.kept.ids later))
-  steps_tell old new (Said to text) outs whole step =
-      no_tile old.views (took rules old to (effect rules old step.view text)).views (frames_of to (effect rules old step.view text)) outs new (ap (λ o. o.frames) step.outs_are) (ap (λ e. e.views) step.new_is)
-      (λ id. replied id to (effect rules old step.view text)) (took_stays old to (effect rules old step.view text))
-  steps_tell old new Turned outs whole step =
-      elim step [
-        | inl works ↦ works_tell old new outs works
-        | inr idle ↦ no_tile old.views old.views [] outs new (ap (λ o. o.frames) idle.1) (ap (λ e. e.views) idle.2) (λ id key. refl) (unchanged old.views)
-      ]
-  steps_tell old new (Painted ticket scene) outs whole step = paints_tell old new ticket scene outs (find_job old.jobs ticket) whole step
+      (λ id v w live later. unchanged old.views id v w live (find_without old.views view id w kept.ids later))
+  steps_tell old new (Said to text) outs kept step =
+      let e : Effect = effect rules old step.view text in
+      let good = effect_good rules old step.view (found_view (IsViewKept rules old) old.views to step.view kept.each step.live) text in
+      no_tile old.views (heard old to e).views (map (λ frame. (named to, frame)) e.frames) outs new (ap (λ o. o.frames) step.outs_are) (ap (λ d. d.views) step.new_is)
+      (λ id. replied id to e.frames good.frames) (heard_stays old to step.view e step.live good.id (reading_stays (limits_of rules old) step.view text (reading text)))
+  steps_tell old new Turned outs kept step = turn_tells old new outs step.0 step.1 step.2
+  steps_tell old new (Painted ticket scene) outs kept step = paints_tell old new ticket scene outs (find_job old.jobs ticket) kept step

@@ -9,18 +9,23 @@ use Rattle.cool_base.specs.declared.ids.ViewId.{ViewId}
 use Rattle.cool_frame.specs.declared.frame.Frame.{Frame}
 use Rattle.cool_frame.specs.declared.frame.Frame.TheVariants.{Status, Invalidate, Server, Error, SaveDone, Tile}
 use Rattle.document_laws.specs.Tiles.{IsShown}
-use Rattle.document_laws.specs.Whole.{IsWhole}
+use Rattle.document_machine.specs.Kept.{IsKept, IsViewKept}
+use Rattle.document_laws.proofs.Heard.{effect_good, heard_is, keeps}
 use Rattle.document_laws.proofs.KeyOrder.{same_is}
+use Rattle.document_laws.proofs.Lower.{found_view}
 use Rattle.document_laws.proofs.Rising.{find_without, offered_id}
 use Rattle.document_machine.specs.Due.{version_of, sent, keys}
 use Rattle.document_machine.specs.Event.{Event, Joined, Left, Said, Turned, Painted}
 use Rattle.document_machine.specs.Keys.{Pairwise}
-use Rattle.document_machine.specs.Message.{Effect, Refuses, Greets, Inputs, Asks, Cancels, Looks, Zooms, GoesTo, Acknowledges, Passes, effect, took, asks, cancels, looks, zooms, goes_to, acknowledged}
+use Rattle.document_machine.specs.Message.{Effect, effect, heard}
 use Rattle.document_machine.specs.Quiet.{IsRight, AllRight}
 use Rattle.document_machine.specs.Run.{Segment}
 use Rattle.document_machine.specs.State.{Shown, View, Job, Document, opening, opening_view, find_view, with_view, find_job}
-use Rattle.document_machine.specs.Step.{JoinsWhere, Works, Paints, Step, offered, views_offered}
+use Rattle.document_machine.specs.Step.{JoinsWhere, Works, TurnsTo, Paints, Step, offered, views_offered}
+use Rattle.document_machine.specs.declared.limits.TheConstants.{MOST_VIEWS}
 use Rattle.document_machine.specs.declared.outs.Outs.{Outs}
+use Rattle.document_machine.specs.declared.outs.Turned.{Turned as TurnAnswer}
+use Rattle.document_machine.specs.declared.outs.Turned.TheVariants.{Worked, Idle}
 use Rattle.document_machine.specs.declared.rights.Rights.{Rights}
 use Rattle.kit_trait.specs.Rules.{Rules, doc, shown}
 use Rattle.kit_trait.specs.declared.values.Input.{Input}
@@ -77,17 +82,9 @@ module _ {C B S : Type 0} (rules : Rules C B) (cut : C → Place → S) where
   none_new : (old new : Document S) (now : List View) → new.views ≡ now → ((id : ℕ) → find_view old.views id ≡ None → find_view now id ≡ None) → Newcomers old new
   none_new old new now is none id lacks = new_none (find_view new.views id) (ap (λ (vs : List View). find_view vs id) is ∙ none id lacks)
 
-  took_new : (old : Document S) (to : ℕ) (is : Effect) (id : ℕ) → find_view old.views id ≡ None → find_view (took rules old to is).views id ≡ None
-  took_new old to (Refuses command kind) id none = none
-  took_new old to Greets id none = none
-  took_new old to (Inputs input) id none = none
-  took_new old to (Asks asked) id none = no_with old.views to (asks asked) (λ v. refl) id none
-  took_new old to Cancels id none = no_with old.views to (cancels rules old) (λ v. refl) id none
-  took_new old to (Looks area) id none = no_with old.views to (looks rules old area) (λ v. refl) id none
-  took_new old to (Zooms zoom) id none = no_with old.views to (zooms rules old zoom) (λ v. refl) id none
-  took_new old to (GoesTo part) id none = no_with old.views to (goes_to rules old part) (λ v. refl) id none
-  took_new old to (Acknowledges wids) id none = no_with old.views to (acknowledged wids) (λ v. refl) id none
-  took_new old to Passes id none = none
+  heard_new : (old : Document S) (to : ℕ) (view : View) (e : Effect) → find_view old.views to ≡ Some view → e.view.id ≡ view.id → (id : ℕ) → find_view old.views id ≡ None → find_view (heard old to e).views id ≡ None
+  heard_new old to view e live same id none =
+      ap (λ (d : Document S). find_view d.views id) (heard_is old to view e live same) ∙ no_with old.views to (keeps e.view) (λ v. refl) id none
 
   works_new : (old new : Document S) (outs : Outs S) → Works rules cut old outs new → Newcomers old new
   works_new old new outs works =
@@ -117,36 +114,37 @@ module _ {C B S : Type 0} (rules : Rules C B) (cut : C → Place → S) where
         | inr taken ↦ none_new old new (views_offered rules old job.number job.keys old.views) (ap (λ e. e.views) taken.2) (λ id none. no_offered rules old job.number job.keys old.views id none)
       ]
 
-  steps_new : (old new : Document S) (event : Event S) (outs : Outs S) → IsWhole rules old → Step rules cut old event outs new → Newcomers old new
-  steps_new old new (Joined rights) outs whole step id none = join_new old new rights outs (nat_lt (length old.views) 64) step id none
-  steps_new old new (Left view) outs whole step id none =
+  turn_new : (old new : Document S) (turned : TurnAnswer S) → TurnsTo rules cut old turned new → Newcomers old new
+  turn_new old new (Worked outs) works = works_new old new outs works
+  turn_new old new Idle idle = none_new old new old.views (ap (λ e. e.views) idle.1) (λ id none. none)
+
+  steps_new : (old new : Document S) (event : Event S) (outs : Outs S) → IsKept rules cut old → Step rules cut old event outs new → Newcomers old new
+  steps_new old new (Joined rights) outs kept step id none = join_new old new rights outs (nat_lt (length old.views) MOST_VIEWS) step id none
+  steps_new old new (Left view) outs kept step id none =
       let go : (o : Option View) → find_view new.views id ≡ o → IsNew o = elim [
         | None ↦ λ is. tt
-        | Some w ↦ λ is. absurd (let there : find_view old.views id ≡ Some w = find_without old.views view id w whole.kept.ids (ap (λ (e : Document S). find_view e.views id) (sym step.1) ∙ is) in cc)
+        | Some w ↦ λ is. absurd (let there : find_view old.views id ≡ Some w = find_without old.views view id w kept.ids (ap (λ (e : Document S). find_view e.views id) (sym step.1) ∙ is) in cc)
       ] in
       go (find_view new.views id) refl
-  steps_new old new (Said to text) outs whole step id none =
-      none_new old new (took rules old to (effect rules old step.view text)).views (ap (λ e. e.views) step.new_is) (λ id none. took_new old to (effect rules old step.view text) id none) id none
-  steps_new old new Turned outs whole step id none =
-      elim step [
-        | inl works ↦ works_new old new outs works id none
-        | inr idle ↦ none_new old new old.views (ap (λ e. e.views) idle.2) (λ id none. none) id none
-      ]
-  steps_new old new (Painted ticket scene) outs whole step id none = paints_new old new ticket scene outs (find_job old.jobs ticket) step id none
+  steps_new old new (Said to text) outs kept step id none =
+      let good = effect_good rules old step.view (found_view (IsViewKept rules old) old.views to step.view kept.each step.live) text in
+      none_new old new (heard old to (effect rules old step.view text)).views (ap (λ e. e.views) step.new_is) (λ id none. heard_new old to step.view (effect rules old step.view text) step.live good.id id none) id none
+  steps_new old new Turned outs kept step id none = turn_new old new step.0 step.1 id none
+  steps_new old new (Painted ticket scene) outs kept step id none = paints_new old new ticket scene outs (find_job old.jobs ticket) step id none
 
   -- each version on a screen is that of the last tile of its key among the frames
   abbrev pub AreTold : List (ViewId × Frame) → Document S → Type 0
   AreTold frames d = (id : ℕ) (w : View) (key : Place) (version : ℕ) → find_view d.views id ≡ Some w → version_of w.screen key ≡ Some version → (rgba : List ℕ) × (last_tile id key frames ≡ Some (version, rgba))
 
-  step_told : (frames : List (ViewId × Frame)) (old new : Document S) (event : Event S) (outs : Outs S) → IsWhole rules old → AreTold frames old → Step rules cut old event outs new → AreTold (frames ++ outs.frames) new
-  step_told frames old new event outs whole told step id w key version live on =
+  step_told : (frames : List (ViewId × Frame)) (old new : Document S) (event : Event S) (outs : Outs S) → IsKept rules cut old → AreTold frames old → Step rules cut old event outs new → AreTold (frames ++ outs.frames) new
+  step_told frames old new event outs kept told step id w key version live on =
       let both : last_tile id key (frames ++ outs.frames) ≡ later_one (last_tile id key outs.frames) (last_tile id key frames) = last_append id key frames outs.frames in
       let go : (o : Option View) → find_view old.views id ≡ o → (rgba : List ℕ) × (last_tile id key (frames ++ outs.frames) ≡ Some (version, rgba)) = elim [
         | None ↦ λ none.
-            let empty : w.screen ≡ [] = subst IsNew live (steps_new old new event outs whole step id none) in
+            let empty : w.screen ≡ [] = subst IsNew live (steps_new old new event outs kept step id none) in
             absurd (let odd : None ≡ Some version = ap (λ (s : List Shown). version_of s key) (sym empty) ∙ on in cc)
         | Some v ↦ λ there.
-            elim (steps_tell rules cut old new event outs whole step id v w there live key version on) [
+            elim (steps_tell rules cut old new event outs kept step id v w there live key version on) [
               | inl last ↦ (last.0, both ∙ ap (λ (o : Option (ℕ × List ℕ)). later_one o (last_tile id key frames)) last.1)
               | inr before ↦
                   let had = told id v key version there before.1 in
@@ -155,14 +153,14 @@ module _ {C B S : Type 0} (rules : Rules C B) (cut : C → Place → S) where
       ] in
       go (find_view old.views id) refl
 
-  run_told : (keeps : (old new : Document S) (event : Event S) (outs : Outs S) → Step rules cut old event outs new → IsWhole rules old → IsWhole rules new)
-      → (events : List (Event S)) (frames : List (ViewId × Frame)) (old new : Document S) (outs : Outs S) → IsWhole rules old → AreTold frames old → Segment rules cut old events outs new → AreTold (frames ++ outs.frames) new
-  run_told keeps [] frames old new outs whole told run =
+  run_told : (keeps : (old new : Document S) (event : Event S) (outs : Outs S) → Step rules cut old event outs new → IsKept rules cut old → IsKept rules cut new)
+      → (events : List (Event S)) (frames : List (ViewId × Frame)) (old new : Document S) (outs : Outs S) → IsKept rules cut old → AreTold frames old → Segment rules cut old events outs new → AreTold (frames ++ outs.frames) new
+  run_told keeps [] frames old new outs kept told run =
       subst (λ (o : Outs S). AreTold (frames ++ o.frames) new) (sym run.0)
       (subst (AreTold (frames ++ [])) (sym run.1) (subst (λ (x : List (ViewId × Frame)). AreTold x old) (sym (append-nil frames)) told))
-  run_told keeps (event ∷ events) frames old new outs whole told run =
-      let first : AreTold (frames ++ run.1.frames) run.0 = step_told frames old run.0 event run.1 whole told run.3 in
-      let all : AreTold ((frames ++ run.1.frames) ++ run.2.frames) new = run_told keeps events (frames ++ run.1.frames) run.0 new run.2 (keeps old run.0 event run.1 run.3 whole) first run.4 in
+  run_told keeps (event ∷ events) frames old new outs kept told run =
+      let first : AreTold (frames ++ run.1.frames) run.0 = step_told frames old run.0 event run.1 kept told run.3 in
+      let all : AreTold ((frames ++ run.1.frames) ++ run.2.frames) new = run_told keeps events (frames ++ run.1.frames) run.0 new run.2 (keeps old run.0 event run.1 run.3 kept) first run.4 in
       subst (λ (o : Outs S). AreTold (frames ++ o.frames) new) (sym run.5) (subst (λ (x : List (ViewId × Frame)). AreTold x new) (append_assoc frames run.1.frames run.2.frames) all)
 
 -- what a tile shows that is among the frames
@@ -230,10 +228,10 @@ all_found [] order = tt
 all_found (view ∷ views) order = (found_self view views, all_behind view views views order.0 (all_found views order.1))
 
 -- a run's frames, in a quiet document
-pub run_painted : {C B S : Type 0} (rules : Rules C B) (cut : C → Place → S) (keeps : (old new : Document S) (event : Event S) (outs : Outs S) → Step rules cut old event outs new → IsWhole rules old → IsWhole rules new)
-    → (events : List (Event S)) (file : List ℕ) (d : Document S) (outs : Outs S) → IsWhole rules (opening {S = S} file []) → Segment rules cut (opening file []) events outs d → IsWhole rules d
+pub run_painted : {C B S : Type 0} (rules : Rules C B) (cut : C → Place → S) (keeps : (old new : Document S) (event : Event S) (outs : Outs S) → Step rules cut old event outs new → IsKept rules cut old → IsKept rules cut new)
+    → (events : List (Event S)) (file : List ℕ) (d : Document S) (outs : Outs S) → IsKept rules cut (opening {S = S} file []) → Segment rules cut (opening file []) events outs d → IsKept rules cut d
     → AllByRecursion (IsShown rules d.base d.journal (length d.journal)) outs.frames → AllRight rules d
     → AllByRecursion (λ (view : View). AllByRecursion (IsPainted rules d outs.frames view) (keys rules d view)) d.views
-run_painted {C} {B} {S} rules cut keeps events file d outs begins run whole shows right =
+run_painted {C} {B} {S} rules cut keeps events file d outs begins run kept shows right =
     let told : AreTold rules cut outs.frames d = run_told rules cut keeps events [] (opening file []) d outs begins (λ id w key version live on. absurd (cc)) run in
-    views_painted rules cut d outs.frames told shows d.views (all_found d.views whole.kept.ids) right
+    views_painted rules cut d outs.frames told shows d.views (all_found d.views kept.ids) right

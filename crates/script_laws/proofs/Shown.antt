@@ -8,17 +8,17 @@ use Rattle.cool_message.specs.Reading.{reading}
 use Rattle.cool_message.specs.declared.fault.MessageFault.{MessageFault}
 use Rattle.cool_message.specs.declared.message.ClientMessage.{ClientMessage}
 use Rattle.cool_message.specs.declared.message.ClientMessage.TheVariants.{CoolClient, Load}
-use Rattle.document_laws.specs.Whole.{IsWhole}
+use Rattle.document_machine.specs.Kept.{IsKept}
 use Rattle.document_laws.proofs.Tiles.{run_shows}
-use Rattle.document_laws.proofs.Whole.{opening_is_whole, runs_keep, steps_keep}
+use Rattle.document_laws.proofs.Kept.{opening_keeps, runs_keep, steps_keep}
 use Rattle.document_machine.specs.Due.{parts_of}
 use Rattle.document_machine.specs.Kept.{IsKept}
 use Rattle.document_machine.specs.Quiet.{IsQuiet, AllRight}
 use Rattle.document_machine.specs.State.{Document, opening}
 use Rattle.kit_trait.specs.Rules.{Rules}
-use Rattle.tile_key.specs.Places.{Place as TilePlace}
-use Rattle.script_lines.specs.Grammar.{line_of, verdict}
-use Rattle.script_lines.specs.Places.{Place}
+use Rattle.tile_key.specs.Places.{Place}
+use Rattle.script_lines.specs.Grammar.{line_of, role}
+use Rattle.script_lines.specs.Positions.{Position}
 use Rattle.script_run.specs.Transcript.{Runs}
 use Rattle.script_world.specs.Seats.{Seats, lobby_answer}
 use Rattle.script_world.specs.World.{Seen, Settled, IsAtRest}
@@ -41,34 +41,34 @@ no_tile answer (inl said) = subst IsNoTile (sym said.1) (no_tile_of said.0 (read
 no_tile answer (inr (inl bad)) = subst IsNoTile (sym bad) tt
 no_tile answer (inr (inr full)) = subst IsNoTile (sym full) tt
 
-module _ {C B S : Type 0} (rules : Rules C B) (cut : C → TilePlace → S) where
+module _ {C B S : Type 0} (rules : Rules C B) (cut : C → Place → S) where
   -- from frames to records
   all_show : (links : List ℕ) (document : Option (Document S)) (pieces : List Piece) → AllByRecursion (IsSent links) pieces → AllByRecursion (ShowsPrefix rules document) (flat_map given_of pieces) → AllByRecursion (Shows rules document) pieces
   all_show links document [] sent shown = tt
   all_show links document (Lobby link answer ∷ pieces) sent shown = (no_tile answer sent.0, all_show links document pieces sent.1 shown)
   all_show links document (Given link view frame ∷ pieces) sent shown = (shown.0, all_show links document pieces sent.1 shown.1)
 
-  -- the document of a run is whole
-  pub run_whole : ((base : List ℕ) → 0 < parts_of rules base) → (frames : List (ViewId × Frame)) (d : Document S) → IsRun rules cut frames d → IsWhole rules d
-  run_whole some frames d run = runs_keep rules cut some run.events (opening run.file []) d run.outs run.follows (opening_is_whole S rules run.file [] run.accepted)
+  -- the document of a run is as a broker keeps it
+  pub run_kept : ((base : List ℕ) → 0 < parts_of rules base) → (frames : List (ViewId × Frame)) (d : Document S) → IsRun rules cut frames d → IsKept rules cut d
+  run_kept some frames d run = runs_keep rules cut some run.events (opening run.file []) d run.outs run.follows (opening_keeps rules cut run.file [] run.accepted)
 
   frames_show : ((base : List ℕ) → 0 < parts_of rules base) → (frames : List (ViewId × Frame)) (document : Option (Document S)) → IsRunTo rules cut frames document → AllByRecursion (ShowsPrefix rules document) frames
   frames_show some frames None run = subst (AllByRecursion (ShowsPrefix {S = S} rules None)) (sym run) tt
   frames_show some frames (Some d) run =
       subst (AllByRecursion (ShowsPrefix rules (Some d))) (sym run.frames_are)
-      (run_shows rules cut some run.events (opening run.file []) d run.outs (opening_is_whole S rules run.file [] run.accepted) run.follows)
+      (run_shows rules cut some run.events (opening run.file []) d run.outs (opening_keeps rules cut run.file [] run.accepted) run.follows)
 
   pub transcript_shows : ((base : List ℕ) → 0 < parts_of rules base) → (out : List ℕ) (seats : Seats) (document : Option (Document S)) (played : IsPlayed rules cut out seats document) → AllByRecursion (Shows rules document) played.pieces
   transcript_shows some out seats document played = all_show played.links document played.pieces played.each (frames_show some (flat_map given_of played.pieces) document played.run)
 
   -- the line `settle` acts anywhere, and settles the world
-  settled_by : (place : Place) (world : Seen S) (out : List ℕ) (t : Standing S) → DoesBy rules cut (verdict place (codes "settle")) world out t → Settled rules cut world out t.world
+  settled_by : (position : Position) (world : Seen S) (out : List ℕ) (t : Standing S) → DoesBy rules cut (role position (codes "settle")) world out t → Settled rules cut world out t.world
   unfolding line_of
-  settled_by place world out t does = does.0
+  settled_by position world out t does = does.0
 
   acting_settles : (s : Standing S) (out : List ℕ) (t : Standing S) → Acting rules cut s (codes "settle") out t → Settled rules cut s.world out t.world
   unfolding Acting
-  acting_settles s out t acts = settled_by s.place s.world out t acts
+  acting_settles s out t acts = settled_by s.position s.world out t acts
 
   pub settled_rests : (lines : List (List ℕ)) (out : List ℕ) (t : Standing S) → Runs (Acting rules cut) first (lines ++ codes "settle" ∷ []) out t → (t.world.waiting ≡ []) × IsAtRest rules t.world.house.document
   settled_rests lines out t runs =
@@ -80,9 +80,9 @@ module _ {C B S : Type 0} (rules : Rules C B) (cut : C → TilePlace → S) wher
   pub painted : (some : (base : List ℕ) → 0 < parts_of rules base) (out : List ℕ) (seats : Seats) (d : Document S) (played : IsPlayed rules cut out seats (Some d)) → AllRight rules d → ArePainted rules (Some d) (flat_map given_of played.pieces)
   painted some out seats d played right =
       let run : IsRun rules cut (flat_map given_of played.pieces) d = played.run in
-      let begins : IsWhole rules (opening {S = S} run.file []) = opening_is_whole S rules run.file [] run.accepted in
+      let begins : IsKept rules cut (opening {S = S} run.file []) = opening_keeps rules cut run.file [] run.accepted in
       subst (ArePainted rules (Some d)) (sym run.frames_are)
-      (run_painted rules cut (steps_keep rules cut some) run.events run.file d run.outs begins run.follows (run_whole some (flat_map given_of played.pieces) d run)
+      (run_painted rules cut (steps_keep rules cut some) run.events run.file d run.outs begins run.follows (run_kept some (flat_map given_of played.pieces) d run)
       (run_shows rules cut some run.events (opening run.file []) d run.outs begins run.follows) right)
 
   painted_at : (some : (base : List ℕ) → 0 < parts_of rules base) (out : List ℕ) (seats : Seats) (document : Option (Document S)) → IsAtRest rules document → (played : IsPlayed rules cut out seats document) → ArePainted rules document (flat_map given_of played.pieces)
@@ -94,12 +94,12 @@ module _ {C B S : Type 0} (rules : Rules C B) (cut : C → TilePlace → S) wher
   settled_painted some lines out t runs played = painted_at some out t.world.house.seats t.world.house.document (settled_rests lines out t runs).1 played
 
   -- a transcript is right
-  painted_now : (some : (base : List ℕ) → 0 < parts_of rules base) (quiet : (d : Document S) → IsKept rules d → IsQuiet rules d → AllRight rules d) (out : List ℕ) (seats : Seats) (document : Option (Document S)) (played : IsPlayed rules cut out seats document)
+  painted_now : (some : (base : List ℕ) → 0 < parts_of rules base) (quiet : (d : Document S) → IsKept rules cut d → IsQuiet rules d → AllRight rules d) (out : List ℕ) (seats : Seats) (document : Option (Document S)) (played : IsPlayed rules cut out seats document)
       → IsQuietNow rules document → ArePainted rules document (flat_map given_of played.pieces)
   painted_now some quiet out seats None played still = tt
-  painted_now some quiet out seats (Some d) played still = painted some out seats d played (quiet d (run_whole some (flat_map given_of played.pieces) d played.run).kept still)
+  painted_now some quiet out seats (Some d) played still = painted some out seats d played (quiet d (run_kept some (flat_map given_of played.pieces) d played.run) still)
 
-  pub transcript_right : (some : (base : List ℕ) → 0 < parts_of rules base) (quiet : (d : Document S) → IsKept rules d → IsQuiet rules d → AllRight rules d) (out : List ℕ) (seats : Seats) (document : Option (Document S)) → IsPlayed rules cut out seats document → IsTranscript rules cut out seats document
+  pub transcript_right : (some : (base : List ℕ) → 0 < parts_of rules base) (quiet : (d : Document S) → IsKept rules cut d → IsQuiet rules d → AllRight rules d) (out : List ℕ) (seats : Seats) (document : Option (Document S)) → IsPlayed rules cut out seats document → IsTranscript rules cut out seats document
   transcript_right some quiet out seats document played = record {
     played = played;
     tiles = transcript_shows some out seats document played;

@@ -5,43 +5,33 @@ use Rattle.std.specs.BTreeMap.{is_at}
 use Rattle.std.specs.Ordering.{nat_cmp}
 use Rattle.cool_base.specs.declared.ids.ViewId.{ViewId}
 use Rattle.cool_frame.specs.declared.frame.Frame.{Frame}
+use Rattle.document_laws.specs.AtOnce.{answered, all_answered}
 use Rattle.document_machine.specs.Event.{Event, Joined, Left, Said, Turned}
-use Rattle.document_machine.specs.Message.{Effect, Refuses, Greets, Inputs, Asks, Cancels, Looks, Zooms, GoesTo, Acknowledges, Passes, effect, took}
 use Rattle.document_machine.specs.Outputs.{nothing, joined}
 use Rattle.document_machine.specs.Run.{Segment}
 use Rattle.document_machine.specs.State.{Document, Job, opening, find_job}
 use Rattle.document_machine.specs.Step.{Step, Works, Paints, JoinsWhere as MachineJoins}
+use Rattle.document_machine.specs.declared.limits.TheConstants.{MOST_VIEWS}
 use Rattle.document_machine.specs.declared.outs.Outs.{Outs}
+use Rattle.document_machine.specs.declared.outs.Turned.TheVariants.{Worked}
 use Rattle.document_machine.specs.declared.rights.Rights.{Rights}
 use Rattle.document_machine.proofs.Runs.{nothing_last}
 use Rattle.kit_trait.specs.Rules.{Rules}
 use Rattle.kit_trait.specs.declared.jobs.PaintJob.{PaintJob}
 use Rattle.tile_key.specs.Places.{Place}
-use Rattle.script_world.specs.House.{House, rights, JoinsWhere, BeginsWhere, LoadsOne, LoadsWhere, seated, lobby_tells, SaysAs, LeavesAs, TakesOne, TakesFirst, painted_all, WorksAtOnce, TurnsDocument, PollTurn, ids_of, IsSeated, IsHousedBy, IsHoused}
+use Rattle.script_world.specs.House.{House, rights, JoinsWhere, BeginsWhere, LoadsOne, LoadsWhere, seated, lobby_tells, SaysAs, LeavesAs, TakesOne, TakesFirst, WorksAtOnce, TurnsDocument, PollTurn, ids_of, IsSeated, IsHousedBy, IsHoused}
 use Rattle.script_world.specs.Seats.{Seats, view_of, is_waiting, enters, sits, without, tells, records, lobby_frame, bad_file, views_full}
 use Rattle.script_world.specs.declared.event.Waiting.{Waiting}
 use Rattle.script_world.specs.declared.event.Waiting.TheVariants.{Opened, Loads, Says, Gone}
-use Rattle.script_world.proofs.Housed.{Keeps, found_document, housed_at, first_housed}
+use Rattle.script_world.proofs.Housed.{Keeps, found_document, housed_at, first_housed, works_of}
 use Rattle.script_world.proofs.Ids.{HasLink, ids-works, sits_new}
 use Rattle.script_laws.specs.Played.{AreSeated}
 use Rattle.script_laws.proofs.Views.{all_join, To, AllTo, says_to, works_to, answers_to}
 use Rattle.script_laws.proofs.Links.{slice_next, more_seated, sits_seated, gone_seated, no_view}
 use Rattle.script_laws.proofs.Held.{IsHeld, Holds, silent, reseated, told, loaded, gave, gave_on}
 
--- no step but a joining changes how many views ever joined
-next-took : {C B S : Type 0} (rules : Rules C B) (d : Document S) (id : ℕ) (e : Effect) → (took rules d id e).next_view ≡ d.next_view
-next-took rules d id (Refuses command kind) = refl
-next-took rules d id Greets = refl
-next-took rules d id (Inputs input) = refl
-next-took rules d id (Asks asked) = refl
-next-took rules d id Cancels = refl
-next-took rules d id (Looks area) = refl
-next-took rules d id (Zooms zoom) = refl
-next-took rules d id (GoesTo part) = refl
-next-took rules d id (Acknowledges wids) = refl
-next-took rules d id Passes = refl
-
 module _ {C B S : Type 0} (rules : Rules C B) (cut : C → Place → S) where
+  -- no step but a joining changes how many views ever joined
   abbrev Next : Document S → ℕ
   Next d = d.next_view
 
@@ -63,7 +53,7 @@ module _ {C B S : Type 0} (rules : Rules C B) (cut : C → Place → S) where
         | inr taken ↦ ap Next taken.2
       ]
 
-  next-answers : (jobs : List (PaintJob S)) (old new : Document S) (outs : Outs S) → Segment rules cut old (painted_all jobs) outs new → new.next_view ≡ old.next_view
+  next-answers : (jobs : List (PaintJob S)) (old new : Document S) (outs : Outs S) → Segment rules cut old (map answered jobs) outs new → new.next_view ≡ old.next_view
   next-answers [] old new outs run = ap Next run.1
   next-answers (job ∷ jobs) old new outs run = next-answers jobs run.0 new run.2 run.4 ∙ next-paints old run.0 job.ticket.0 job.scene run.1 (find_job old.jobs job.ticket.0) run.3
 
@@ -81,7 +71,7 @@ module _ {C B S : Type 0} (rules : Rules C B) (cut : C → Place → S) where
 
   -- a view joins
   join_goes : (before : List ℕ) (seats : Seats) (link : ℕ) (given : Rights) (d e : Document S) (outs : Outs S) (b : Bool)
-      → nat_lt (length d.views) 64 ≡ b → b ≡ true → view_of seats link ≡ None → Step rules cut d (Joined given) outs e
+      → nat_lt (length d.views) MOST_VIEWS ≡ b → b ≡ true → view_of seats link ≡ None → Step rules cut d (Joined given) outs e
       → IsHeld rules cut before seats (Some d) → IsHeld rules cut (before ++ records (sits seats link d.next_view) outs.frames) (sits seats link d.next_view) (Some e)
   join_goes before seats link given d e outs b room is none step held =
       let joins : MachineJoins true rules d given outs e = subst (λ (x : Bool). MachineJoins x rules d given outs e) (room ∙ is) step in
@@ -97,7 +87,7 @@ module _ {C B S : Type 0} (rules : Rules C B) (cut : C → Place → S) where
 
   -- a load
   joins_held : (before : List ℕ) (seats : Seats) (link : ℕ) (given : Rights) (d : Document S) (out : List ℕ) (new : House S) (b : Bool)
-      → nat_lt (length d.views) 64 ≡ b → view_of seats link ≡ None → IsHeld rules cut before seats (Some d) → JoinsWhere b rules cut seats link given d out new → Kept (before ++ out) new
+      → nat_lt (length d.views) MOST_VIEWS ≡ b → view_of seats link ≡ None → IsHeld rules cut before seats (Some d) → JoinsWhere b rules cut seats link given d out new → Kept (before ++ out) new
   joins_held before seats link given d out new true room none held joins =
       let now : Seats = sits seats link d.next_view in
       wrote before out (records now joins.1.frames) (record { seats = now; document = Some joins.0 }) new joins.4 joins.3
@@ -117,7 +107,7 @@ module _ {C B S : Type 0} (rules : Rules C B) (cut : C → Place → S) where
   loads_held : (before : List ℕ) (seats : Seats) (document : Option (Document S)) (link : ℕ) (file : List ℕ) (given : Rights) (out : List ℕ) (new : House S)
       → view_of seats link ≡ None → IsHeld rules cut before seats document → LoadsOne rules cut seats document link file given out new → Kept (before ++ out) new
   loads_held before seats None link file given out new none held loads = begins_held before seats link file given out new (rules.accepts []) refl none held loads
-  loads_held before seats (Some d) link file given out new none held loads = joins_held before seats link given d out new (nat_lt (length d.views) 64) refl none held loads
+  loads_held before seats (Some d) link file given out new none held loads = joins_held before seats link given d out new (nat_lt (length d.views) MOST_VIEWS) refl none held loads
 
   load_held : (before : List ℕ) (old : House S) (link : ℕ) (file : List ℕ) (given : Rights) (out : List ℕ) (new : House S) (b : Bool)
       → is_waiting old.seats link ≡ b → Kept before old → LoadsWhere b rules cut old link file given out new → Kept (before ++ out) new
@@ -131,14 +121,14 @@ module _ {C B S : Type 0} (rules : Rules C B) (cut : C → Place → S) where
   lobby_held before old link text out false is held = wrote before out [] old old is refl (silent rules cut before old.seats old.document held)
 
   says_held : (before : List ℕ) (old : House S) (link : ℕ) (text : List ℕ) (found : Option (Document S × ℕ)) (out : List ℕ) (new : House S)
-      → seated old link ≡ found → IsHoused rules old → Kept before old → SaysAs rules cut old link text found out new → Kept (before ++ out) new
+      → seated old link ≡ found → IsHoused rules cut old → Kept before old → SaysAs rules cut old link text found out new → Kept (before ++ out) new
   says_held before old link text None out new is housed held says =
       subst (Kept (before ++ out)) (sym says.1) (lobby_held before old link text out (is_waiting old.seats link) says.0 held)
   says_held before old link text (Some seat) out new is housed held says =
       let there : old.document ≡ Some seat.0 = (found_document old.document (view_of old.seats link) seat is).0 in
-      let home : IsSeated rules old.seats seat.0 = housed_at rules old.seats old.document seat.0 there housed in
+      let home : IsSeated rules cut old.seats seat.0 = housed_at rules cut old.seats old.document seat.0 there housed in
       let step : Step rules cut seat.0 (Said seat.1 text) says.1 says.0 = says.2 in
-      let same : says.0.next_view ≡ seat.0.next_view = ap Next step.new_is ∙ next-took rules seat.0 seat.1 (effect rules seat.0 step.view text) in
+      let same : says.0.next_view ≡ seat.0.next_view = ap Next step.new_is in
       let to : AllTo (HasLink old.seats.views) says.1.frames = says_to rules cut (HasLink old.seats.views) seat.0 says.0 seat.1 text says.1 step home.linked in
       wrote before out (records old.seats says.1.frames) (record old { document = Some says.0 }) new says.4 says.3
       (gave_on rules cut before old.seats seat.0 says.0 (Said seat.1 text ∷ []) says.1 (subst (IsHeld rules cut before old.seats) there held) (one_step seat.0 says.0 (Said seat.1 text) says.1 step) to same)
@@ -158,7 +148,7 @@ module _ {C B S : Type 0} (rules : Rules C B) (cut : C → Place → S) where
       (reseated rules cut (before ++ []) old.seats (without old.seats link) (Some leaves.0) gone (gone_seated gone.links (is_at (nat_cmp link)) old.seats.views gone.seated))
 
   -- an event
-  takes_held : (before : List ℕ) (event : Waiting) (old : House S) (out : List ℕ) (new : House S) → IsHoused rules old → Kept before old → TakesOne rules cut event old out new → Kept (before ++ out) new
+  takes_held : (before : List ℕ) (event : Waiting) (old : House S) (out : List ℕ) (new : House S) → IsHoused rules cut old → Kept before old → TakesOne rules cut event old out new → Kept (before ++ out) new
   takes_held before (Opened link) old out new housed held takes =
       wrote before out [] (record old { seats = enters old.seats link }) new takes.0 takes.1
       (silent rules cut before (enters old.seats link) old.document (reseated rules cut before old.seats (enters old.seats link) old.document held held.seated))
@@ -166,26 +156,27 @@ module _ {C B S : Type 0} (rules : Rules C B) (cut : C → Place → S) where
   takes_held before (Says link text) old out new housed held takes = says_held before old link text (seated old link) out new refl housed held takes
   takes_held before (Gone link) old out new housed held takes = leaves_held before old link (seated old link) out new refl held takes
 
-  pub first_held : (before : List ℕ) (waiting : List Waiting) (old : House S) (out : List ℕ) (rest : List Waiting) (new : House S) → IsHoused rules old → Kept before old → TakesFirst rules cut waiting old out rest new → Kept (before ++ out) new
+  pub first_held : (before : List ℕ) (waiting : List Waiting) (old : House S) (out : List ℕ) (rest : List Waiting) (new : House S) → IsHoused rules cut old → Kept before old → TakesFirst rules cut waiting old out rest new → Kept (before ++ out) new
   first_held before [] old out rest new housed held takes = wrote before out [] old new takes.1 takes.2 (silent rules cut before old.seats old.document held)
   first_held before (event ∷ events) old out rest new housed held takes = takes_held before event old out new housed held takes.1
 
   -- a turn that did a work, its jobs answered
-  works_held : (before : List ℕ) (seats : Seats) (d e : Document S) (frames : List (ViewId × Frame)) → IsSeated rules seats d → IsHeld rules cut before seats (Some d) → WorksAtOnce rules cut d frames e → IsHeld rules cut (before ++ records seats frames) seats (Some e)
+  works_held : (before : List ℕ) (seats : Seats) (d e : Document S) (frames : List (ViewId × Frame)) → IsSeated rules cut seats d → IsHeld rules cut before seats (Some d) → WorksAtOnce rules cut d frames e → IsHeld rules cut (before ++ records seats frames) seats (Some e)
   works_held before seats d e frames home held works =
       let outs : Outs S = joined works.first works.later in
-      let run : Segment rules cut d (Turned ∷ painted_all works.first.jobs) outs e = (works.mid, works.first, works.later, inl works.works, works.answered, refl) in
-      let ids : ids_of works.mid.views ≡ ids_of d.views = ids-works rules cut d works.mid works.first works.works in
-      let here : AllTo (HasLink seats.views) works.first.frames = works_to rules cut (HasLink seats.views) d works.mid works.first works.works home.linked in
+      let done : Works rules cut d works.first works.mid = works_of rules cut d e frames works in
+      let run : Segment rules cut d (Turned ∷ all_answered works.first) outs e = (works.mid, works.first, works.later, (Worked works.first, done, refl), works.answered, refl) in
+      let ids : ids_of works.mid.views ≡ ids_of d.views = ids-works rules cut d works.mid works.first done in
+      let here : AllTo (HasLink seats.views) works.first.frames = works_to rules cut (HasLink seats.views) d works.mid works.first done home.linked in
       let rest : AllTo (HasLink seats.views) works.later.frames =
       answers_to rules cut (HasLink seats.views) works.first.jobs works.mid e works.later works.answered (subst (AllByRecursion (HasLink seats.views)) (sym ids) home.linked) in
       let to : AllTo (HasLink seats.views) outs.frames = all_join (To (HasLink seats.views)) works.first.frames works.later.frames here rest in
-      let same : e.next_view ≡ d.next_view = next-answers works.first.jobs works.mid e works.later works.answered ∙ next-works d works.mid works.first works.works in
+      let same : e.next_view ≡ d.next_view = next-answers works.first.jobs works.mid e works.later works.answered ∙ next-works d works.mid works.first done in
       subst (λ (x : List (ViewId × Frame)). IsHeld rules cut (before ++ records seats x) seats (Some e)) (sym works.frames_are)
-      (gave_on rules cut before seats d e (Turned ∷ painted_all works.first.jobs) outs held run to same)
+      (gave_on rules cut before seats d e (Turned ∷ all_answered works.first) outs held run to same)
 
   -- a turn of the document
-  pub turns_held : (before : List ℕ) (seats : Seats) (old : Option (Document S)) (out : List ℕ) (worked : Bool) (new : Option (Document S)) → IsHousedBy rules seats old → IsHeld rules cut before seats old → TurnsDocument rules cut seats old out worked new → IsHeld rules cut (before ++ out) seats new
+  pub turns_held : (before : List ℕ) (seats : Seats) (old : Option (Document S)) (out : List ℕ) (worked : Bool) (new : Option (Document S)) → IsHousedBy rules cut seats old → IsHeld rules cut before seats old → TurnsDocument rules cut seats old out worked new → IsHeld rules cut (before ++ out) seats new
   turns_held before seats None out worked new housed held turns =
       wrote before out [] (record { seats = seats; document = None }) (record { seats = seats; document = new }) turns.0 (ap (λ (d : Option (Document S)). record { seats = seats; document = d }) turns.2)
       (silent rules cut before seats None held)
@@ -198,9 +189,9 @@ module _ {C B S : Type 0} (rules : Rules C B) (cut : C → Place → S) where
 
   -- a poll turn
   pub poll_held : (keeps : Keeps rules cut) (before : List ℕ) (waiting : List Waiting) (old : House S) (out : List ℕ) (worked : Bool) (rest : List Waiting) (new : House S)
-      → IsHoused rules old → Kept before old → PollTurn rules cut waiting old out worked rest new → Kept (before ++ out) new
+      → IsHoused rules cut old → Kept before old → PollTurn rules cut waiting old out worked rest new → Kept (before ++ out) new
   poll_held keeps before waiting old out worked rest new housed held turn =
-      let home : IsHoused rules turn.mid = first_housed rules cut keeps waiting old turn.here rest turn.mid housed turn.takes in
+      let home : IsHoused rules cut turn.mid = first_housed rules cut keeps waiting old turn.here rest turn.mid housed turn.takes in
       let mid : Kept (before ++ turn.here) turn.mid = first_held before waiting old turn.here rest turn.mid housed held turn.takes in
       let end : IsHeld rules cut ((before ++ turn.here) ++ turn.later) turn.mid.seats new.document = turns_held (before ++ turn.here) turn.mid.seats turn.mid.document turn.later turn.turned new.document home mid turn.turns in
       let bytes : (before ++ turn.here) ++ turn.later ≡ before ++ out = append_assoc before turn.here turn.later ∙ ap (λ (x : List ℕ). before ++ x) (sym turn.is) in

@@ -5,7 +5,8 @@ use Rattle.cool_base.specs.declared.ids.ViewId.{ViewId}
 use Rattle.cool_frame.specs.declared.frame.Frame.{Frame}
 use Rattle.cool_frame.specs.declared.frame.Frame.TheVariants.{Invalidate}
 use Rattle.document_machine.specs.Due.{sent, takes, tile_frame}
-use Rattle.document_machine.specs.Message.{Effect, Refuses, Greets, Inputs, Asks, Cancels, Looks, Zooms, GoesTo, Acknowledges, Passes, effect, frames_of}
+use Rattle.document_laws.specs.AtOnce.{answered}
+use Rattle.document_machine.specs.Message.{effect}
 use Rattle.document_machine.specs.Outputs.{named, nothing}
 use Rattle.document_machine.specs.Run.{Segment}
 use Rattle.document_machine.specs.State.{View, Job, Document, find_view, find_job}
@@ -15,7 +16,7 @@ use Rattle.document_machine.proofs.Runs.{nothing_last}
 use Rattle.kit_trait.specs.Rules.{Rules}
 use Rattle.kit_trait.specs.declared.jobs.PaintJob.{PaintJob}
 use Rattle.kit_trait.specs.declared.values.Damage.{Damage}
-use Rattle.script_world.specs.House.{ids_of, painted_all}
+use Rattle.script_world.specs.House.{ids_of}
 use Rattle.script_world.proofs.Ids.{ids-answers}
 use Rattle.tile_key.specs.Places.{Place}
 
@@ -41,17 +42,9 @@ module _ (P : ℕ → Type 0) where
   all_told (view ∷ views) damage all =
       all_join (To P) (map (λ d. (named view.id, Invalidate d.part d.rect)) damage) (told views damage) (one_told view damage all.0) (all_told views damage all.1)
 
-  all_replied : (id : ℕ) (is : Effect) → P id → AllTo P (frames_of id is)
-  all_replied id (Refuses command kind) holds = (holds, tt)
-  all_replied id Greets holds = (holds, tt)
-  all_replied id (Inputs input) holds = tt
-  all_replied id (Asks asked) holds = tt
-  all_replied id Cancels holds = tt
-  all_replied id (Looks area) holds = tt
-  all_replied id (Zooms zoom) holds = tt
-  all_replied id (GoesTo part) holds = tt
-  all_replied id (Acknowledges wids) holds = tt
-  all_replied id Passes holds = tt
+  all_replied : (id : ℕ) (frames : List Frame) → P id → AllTo P (map (λ frame. (named id, frame)) frames)
+  all_replied id [] holds = tt
+  all_replied id (frame ∷ frames) holds = (holds, all_replied id frames holds)
 
   -- what holds of all views' ids holds of the id of one that is found
   found_by : (views : List View) (id : ℕ) (view : View) → AllByRecursion P (ids_of views) → find_view views id ≡ Some view → P id
@@ -102,7 +95,7 @@ module _ {C B S : Type 0} (rules : Rules C B) (cut : C → Place → S) (P : ℕ
   -- a message
   pub says_to : (old new : Document S) (id : ℕ) (text : List ℕ) (outs : Outs S) → Says rules old id text outs new → AllByRecursion P (ids_of old.views) → AllTo P outs.frames
   says_to old new id text outs says all =
-      subst Frames (sym says.outs_are) (all_replied P id (effect rules old says.view text) (found_by P old.views id says.view all says.live))
+      subst Frames (sym says.outs_are) (all_replied P id (effect rules old says.view text).frames (found_by P old.views id says.view all says.live))
 
   -- a work of a turn
   pub works_to : (old new : Document S) (outs : Outs S) → Works rules cut old outs new → AllByRecursion P (ids_of old.views) → AllTo P outs.frames
@@ -125,10 +118,10 @@ module _ {C B S : Type 0} (rules : Rules C B) (cut : C → Place → S) (P : ℕ
       ]
 
   -- painted jobs, one after the other
-  pub answers_to : (jobs : List (PaintJob S)) (old new : Document S) (outs : Outs S) → Segment rules cut old (painted_all jobs) outs new → AllByRecursion P (ids_of old.views) → AllTo P outs.frames
+  pub answers_to : (jobs : List (PaintJob S)) (old new : Document S) (outs : Outs S) → Segment rules cut old (map answered jobs) outs new → AllByRecursion P (ids_of old.views) → AllTo P outs.frames
   answers_to [] old new outs run all = subst Frames (sym run.0) tt
   answers_to (job ∷ jobs) old new outs run all =
-      let one : Segment rules cut old (painted_all (job ∷ [])) run.1 run.0 = (run.0, run.1, nothing, run.3, (refl, refl), sym (nothing_last run.1)) in
+      let one : Segment rules cut old (map answered (job ∷ [])) run.1 run.0 = (run.0, run.1, nothing, run.3, (refl, refl), sym (nothing_last run.1)) in
       let ids : ids_of run.0.views ≡ ids_of old.views = ids-answers rules cut old run.0 (job ∷ []) run.1 one in
       let here : AllTo P run.1.frames = paints_to old run.0 job.ticket.0 job.scene run.1 (find_job old.jobs job.ticket.0) run.3 all in
       let rest : AllTo P run.2.frames = answers_to jobs run.0 new run.2 run.4 (subst (AllByRecursion P) (sym ids) all) in

@@ -8,7 +8,7 @@ use Rattle.std.specs.Str.{bytes_eq, is_utf8, chars}
 use Rattle.cool_base.specs.Numbers.{number}
 use Rattle.cool_base.specs.Words.{is_file_id}
 use Rattle.cool_words.specs.Words.{cut_at}
-use Rattle.script_lines.specs.Places.{Place}
+use Rattle.script_lines.specs.Positions.{Position}
 use Rattle.script_lines.specs.declared.saying.ScriptLine.{ScriptLine}
 use Rattle.script_lines.specs.declared.saying.ScriptLine.TheVariants.{Open, Say, Keys, Leave, Turn, Settle, Blank, End}
 
@@ -121,8 +121,8 @@ abbrev pub with_link : List ℕ → ℕ → List ℕ
 with_link links link = insert_key nat_cmp links link
 
 -- a link is live from the line that opens it up to the line that drops it
-abbrev pub is_live : Place → ℕ → Bool
-is_live place link = has_link place.used link && not (has_link place.dropped link)
+abbrev pub is_live : Position → ℕ → Bool
+is_live position link = has_link position.used link && not (has_link position.dropped link)
 
 -- whether the file is the script's one, or its first
 abbrev pub is_one_file : Option (List ℕ) → List ℕ → Bool
@@ -130,48 +130,48 @@ is_one_file None file = true
 is_one_file (Some first) file = bytes_eq first file
 
 -- whether a link may be opened on the file: it was never used before, and the script has no other file
-abbrev pub may_open : Place → ℕ → List ℕ → Bool
-may_open place link file = not (has_link place.used link) && is_one_file place.file file
+abbrev pub may_open : Position → ℕ → List ℕ → Bool
+may_open position link file = not (has_link position.used link) && is_one_file position.file file
 
 -- what a line of a script does: it acts and the script then stands there, it ends the script, or no script
 -- has it there
-pub data Verdict : Type 0 where
-  Acts : (line : ScriptLine) (next : Place) → Verdict
-  Ends : Verdict
-  Refused : Verdict
+pub data Role : Type 0 where
+  Acts : (line : ScriptLine) (next : Position) → Role
+  Ends : Role
+  Refused : Role
 
 -- a line of a live link
-abbrev pub if_live : Place → ℕ → ScriptLine → Place → Verdict
-if_live place link line next = if is_live place link then Acts line next else Refused
+abbrev pub if_live : Position → ℕ → ScriptLine → Position → Role
+if_live position link line next = if is_live position link then Acts line next else Refused
 
 -- what a script's line does behind the lines before it
-abbrev pub judged : Place → Option ScriptLine → Verdict
-judged place None = Refused
-judged place (Some Blank) = Acts Blank place
-judged place (Some End) = Ends
-judged place (Some Settle) = Acts Settle place
-judged place (Some (Turn count)) = Acts (Turn count) place
-judged place (Some (Say link message)) = if_live place link (Say link message) place
-judged place (Some (Keys link typed)) = if_live place link (Keys link typed) place
-judged place (Some (Leave link)) = if_live place link (Leave link) (record place { dropped = with_link place.dropped link })
-judged place (Some (Open link file writes)) =
-    if may_open place link file then Acts (Open link file writes) (record place { file = Some file; used = with_link place.used link })
+abbrev pub role_of : Position → Option ScriptLine → Role
+role_of position None = Refused
+role_of position (Some Blank) = Acts Blank position
+role_of position (Some End) = Ends
+role_of position (Some Settle) = Acts Settle position
+role_of position (Some (Turn count)) = Acts (Turn count) position
+role_of position (Some (Say link message)) = if_live position link (Say link message) position
+role_of position (Some (Keys link typed)) = if_live position link (Keys link typed) position
+role_of position (Some (Leave link)) = if_live position link (Leave link) (record position { dropped = with_link position.dropped link })
+role_of position (Some (Open link file writes)) =
+    if may_open position link file then Acts (Open link file writes) (record position { file = Some file; used = with_link position.used link })
     else Refused
 
-abbrev pub verdict : Place → List ℕ → Verdict
-verdict place text = judged place (line_of text)
+abbrev pub role : Position → List ℕ → Role
+role position text = role_of position (line_of text)
 
 -- a script before its first line
-abbrev pub start : Place
+abbrev pub start : Position
 start = record { file = None; used = []; dropped = [] }
 
 -- what comes behind a line that acts, and None where it ends the script or is refused
-abbrev pub followed : Verdict → (Place → Option Place) → Option Place
-followed (Acts line place) later = later place
+abbrev pub followed : Role → (Position → Option Position) → Option Position
+followed (Acts line position) later = later position
 followed Ends later = None
 followed Refused later = None
 
 -- where a script stands behind these lines, if each of them acts
-abbrev pub place_after : Place → List (List ℕ) → Option Place
-place_after place [] = Some place
-place_after place (line ∷ lines) = followed (verdict place line) (λ next. place_after next lines)
+abbrev pub position_after : Position → List (List ℕ) → Option Position
+position_after position [] = Some position
+position_after position (line ∷ lines) = followed (role position line) (λ next. position_after next lines)

@@ -1,5 +1,5 @@
 pub mod Lines
-pub mod Places
+pub mod Positions
 pub mod Grammar
-pub mod Judged
+pub mod Advances
 pub mod Records

@@ -1,5 +1,5 @@
 //! Reads cases line by line, and prints what scripts make of them. `line`, a blank and a text: what the line says.
-//! `place` and lines parted by `;`: what the last of them does behind the others. `source` and bytes: the lines
+//! `position` and lines parted by `;`: what the last of them does behind the others. `source` and bytes: the lines
 //! that are taken off them. `record`, a link and a frame: its record. `fault` and a number: the text of a
 //! refusal. In a text `%` and two digits are a byte. Other lines are printed as they are.
 #![tactic(auto)]
@@ -8,7 +8,7 @@ use cool_base::Memory;
 use cool_words::percent_decoded;
 use outside::MemorySource;
 use script_lines::{
-    Judged, LineStep, Place, ScriptLine, fault_text, next_line, read_line, record_of,
+    LineRole, LineStep, Position, ScriptLine, fault_text, next_line, read_line, record_of,
 };
 use std::alloc::Global;
 use std::io::{self, Write};
@@ -47,22 +47,22 @@ fn characters(alloc: Global, link: u32, typed: &[char]) -> Result<String, Memory
 }
 
 /// What the last of these lines does behind the others.
-fn judged(alloc: Global, lines: &str) -> Result<Option<Judged>, Memory> {
-    let mut place = Place::start(alloc);
+fn role_of(alloc: Global, lines: &str) -> Result<Option<LineRole>, Memory> {
+    let mut position = Position::start(alloc);
     let mut last = None;
     for line in lines.split(';') {
-        last = Some(place.judge(alloc, line.as_bytes())?);
+        last = Some(position.advance(alloc, line.as_bytes())?);
     }
     Ok(last)
 }
 
 /// The word for what a line does.
-fn judgement(judged: &Option<Judged>) -> &'static str {
-    match judged {
+fn role_word(role: &Option<LineRole>) -> &'static str {
+    match role {
         None => "none",
-        Some(Judged::Acts(_)) => "acts",
-        Some(Judged::Ends) => "ends",
-        Some(Judged::Refused) => "refused",
+        Some(LineRole::Acts(_)) => "acts",
+        Some(LineRole::Ends) => "ends",
+        Some(LineRole::Refused) => "refused",
     }
 }
 
@@ -105,9 +105,9 @@ fn reading(alloc: Global, line: &str) -> Result<Vec<u8>, Memory> {
             let said = saying(alloc, &read_line(alloc, &text)?)?;
             Ok(said.into_bytes())
         }
-        "place" => {
-            let judged = judged(alloc, rest)?;
-            Ok(Vec::from_slice(alloc, judgement(&judged).as_bytes())?)
+        "position" => {
+            let role = role_of(alloc, rest)?;
+            Ok(Vec::from_slice(alloc, role_word(&role).as_bytes())?)
         }
         "source" => {
             let bytes = percent_decoded(alloc, rest.as_bytes())?;

@@ -3,24 +3,24 @@ use Rattle.std.proofs.Common.{◌≡◌, ◌≢◌, ◌∙◌, ◌⊎◌, ℕ, �
 use Rattle.std.specs.List.{AllByRecursion}
 use Rattle.std.specs.Option.{option_map}
 use Rattle.outside.specs.Streams.{Takes, IsAtEnd}
-use Rattle.script_lines.specs.Grammar.{verdict, followed, place_after}
+use Rattle.script_lines.specs.Grammar.{role, followed, position_after}
 use Rattle.script_lines.specs.Lines.{IsUnbroken, IsLine, joined}
-use Rattle.script_lines.specs.Places.{Place}
+use Rattle.script_lines.specs.Positions.{Position}
 use Rattle.script_run.specs.Determined.{StepsOnce, StaysGood}
 use Rattle.script_run.specs.Transcript.{budget, Runs, Cause, Ended}
 use Rattle.script_run.specs.Uses.{SourceUse, SinkUse, IsTold}
 use Rattle.script_run.specs.declared.status.Status.{Status}
 use Rattle.script_run.specs.declared.status.Status.TheVariants.{Done, WrongWords, FaultLine, ReadFault, WriteFault, Memory, NoEnd}
-use Rattle.script_run.proofs.OneStatus.{Follows, run_place, ends_stop, refused_stop, same_bytes}
+use Rattle.script_run.proofs.OneStatus.{Follows, run_position, ends_stop, refused_stop, same_bytes}
 use Rattle.script_run.proofs.Splits.{same_open, same_whole, whole_and_open}
 
 -- where what was read stops: behind the newline of a line that doesn't act, or within a line
-abbrev Shape : Place → List ℕ → Type 0
-Shape q rest = ((line : List ℕ) × IsLine line × (rest ≡ line ++ 10 ∷ []) × ((f : Place → Option Place) → followed (verdict q line) f ≡ None)) ⊎ IsUnbroken rest
+abbrev Shape : Position → List ℕ → Type 0
+Shape q rest = ((line : List ℕ) × IsLine line × (rest ≡ line ++ 10 ∷ []) × ((f : Position → Option Position) → followed (role q line) f ≡ None)) ⊎ IsUnbroken rest
 
 -- bytes fall into lines that act and a rest in one way
-same_rest : (p : Place) (ls ms : List (List ℕ)) (x y : List ℕ) (q r : Place) → AllByRecursion IsLine ls → AllByRecursion IsLine ms
-    → place_after p ls ≡ Some q → place_after p ms ≡ Some r → Shape q x → Shape r y → joined ls ++ x ≡ joined ms ++ y → (ls ≡ ms) × (x ≡ y)
+same_rest : (p : Position) (ls ms : List (List ℕ)) (x y : List ℕ) (q r : Position) → AllByRecursion IsLine ls → AllByRecursion IsLine ms
+    → position_after p ls ≡ Some q → position_after p ms ≡ Some r → Shape q x → Shape r y → joined ls ++ x ≡ joined ms ++ y → (ls ≡ ms) × (x ≡ y)
 same_rest p ls ms x y q r each others stands there (inl a) (inl b) is =
     let h : (ls ≡ ms) × (a.0 ≡ b.0) = same_whole ls ms a.0 b.0 each others a.1 b.1 (sym (ap (λ (z : List ℕ). joined ls ++ z) a.2) ∙ is ∙ ap (λ (z : List ℕ). joined ms ++ z) b.2) in
     (h.0, a.2 ∙ ap (λ (l : List ℕ). l ++ 10 ∷ []) h.1 ∙ sym b.2)
@@ -30,7 +30,7 @@ same_rest p ls ms x y q r each others stands there (inr a) (inl b) is =
     absurd (whole_and_open p ms ls b.0 x r q others each b.1 a there stands b.3 (sym (ap (λ (z : List ℕ). joined ms ++ z) b.2) ∙ sym is))
 same_rest p ls ms x y q r each others stands there (inr a) (inr b) is = same_open ls ms x y each others a b is
 
-module _ {X : Type 0} (place : X → Place) (step : X → List ℕ → List ℕ → X → Type 0) (under : X → List ℕ → List ℕ → Type 0) (Good : X → Type 0) where
+module _ {X : Type 0} (position : X → Position) (step : X → List ℕ → List ℕ → X → Type 0) (under : X → List ℕ → List ℕ → Type 0) (Good : X → Type 0) where
   -- from a good state a line that acts writes one thing
   abbrev Once : Type 0
   Once = StepsOnce step Good
@@ -52,17 +52,17 @@ module _ {X : Type 0} (place : X → Place) (step : X → List ℕ → List ℕ 
   runs_good stays s (line ∷ lines) a t good run = runs_good stays run.0 lines run.2 t (stays s run.0 line run.1 good run.3) run.4
 
   -- where the bytes stop, by the status
-  shape_of : (status : Status) (at_end full : Type 0) (s : X) (number : ℕ) (rest tail : List ℕ) → status ≢ Memory → status ≢ WriteFault → Cause place step under status at_end full s number rest tail → Shape (place s) rest
+  shape_of : (status : Status) (at_end full : Type 0) (s : X) (number : ℕ) (rest tail : List ℕ) → status ≢ Memory → status ≢ WriteFault → Cause position step under status at_end full s number rest tail → Shape (position s) rest
   shape_of Done at_end full s number rest tail ample taken cause =
       elim (cause.1.1) [
-        | inl whole ↦ inl (cause.0, cause.1.0, whole, ends_stop (verdict (place s) cause.0) cause.2)
+        | inl whole ↦ inl (cause.0, cause.1.0, whole, ends_stop (role (position s) cause.0) cause.2)
         | inr last ↦ inr (subst IsUnbroken (sym last.0) cause.1.0.unbroken)
       ]
   shape_of WrongWords at_end full s number rest tail ample taken cause = absurd cause
   shape_of FaultLine at_end full s number rest tail ample taken cause =
       elim (cause.0) [
         | inl line ↦ elim (line.1.1) [
-          | inl whole ↦ inl (line.0, line.1.0, whole, refused_stop (verdict (place s) line.0) line.2)
+          | inl whole ↦ inl (line.0, line.1.0, whole, refused_stop (role (position s) line.0) line.2)
           | inr last ↦ inr (subst IsUnbroken (sym last.0) line.1.0.unbroken)
         ]
         | inr long ↦ inr long.0
@@ -99,7 +99,7 @@ module _ {X : Type 0} (place : X → Place) (step : X → List ℕ → List ℕ 
   unended_once once s size at_end end_too rest tail other good small small_too (inr (inr a)) (inr (inr b)) = (once s a.0 b.0 rest tail other good a.3 b.3).0
 
   tail_once : Once → (status : Status) (at_end end_too : Type 0) (size number : ℕ) (s : X) (rest tail other : List ℕ) → Good s → status ≢ Memory → status ≢ WriteFault → (at_end → size < budget) → (end_too → size < budget)
-      → Cause place step under status at_end (size ≡ budget) s number rest tail → Cause place step under status end_too (size ≡ budget) s number rest other → tail ≡ other
+      → Cause position step under status at_end (size ≡ budget) s number rest tail → Cause position step under status end_too (size ≡ budget) s number rest other → tail ≡ other
   tail_once once Done at_end end_too size number s rest tail other good ample taken small small_too a b = a.3 ∙ sym b.3
   tail_once once WrongWords at_end end_too size number s rest tail other good ample taken small small_too a b = absurd a
   tail_once once FaultLine at_end end_too size number s rest tail other good ample taken small small_too a b = a.1 ∙ sym b.1
@@ -112,25 +112,25 @@ module _ {X : Type 0} (place : X → Place) (step : X → List ℕ → List ℕ 
   tail_by : Once → (status : Status) (at_end end_too : Type 0) (bytes more : List ℕ) (lines ms : List (List ℕ)) (s t : X) (rest y tail other : List ℕ) → Good s → status ≢ Memory → status ≢ WriteFault
       → (at_end → length bytes < budget) → (end_too → length more < budget)
       → bytes ≡ more → lines ≡ ms → s ≡ t → rest ≡ y
-      → Cause place step under status at_end (length bytes ≡ budget) s (length lines + 1) rest tail → Cause place step under status end_too (length more ≡ budget) t (length ms + 1) y other → tail ≡ other
+      → Cause position step under status at_end (length bytes ≡ budget) s (length lines + 1) rest tail → Cause position step under status end_too (length more ≡ budget) t (length ms + 1) y other → tail ≡ other
   tail_by once status at_end end_too bytes more lines ms s t rest y tail other good ample taken small small_too same lines_are state_is rest_is a b =
-      let one : Cause place step under status end_too (length bytes ≡ budget) t (length ms + 1) y other = subst (λ (z : List ℕ). Cause place step under status end_too (length z ≡ budget) t (length ms + 1) y other) (sym same) b in
-      let two : Cause place step under status end_too (length bytes ≡ budget) t (length lines + 1) y other = subst (λ (z : List (List ℕ)). Cause place step under status end_too (length bytes ≡ budget) t (length z + 1) y other) (sym lines_are) one in
-      let three : Cause place step under status end_too (length bytes ≡ budget) s (length lines + 1) y other = subst (λ (z : X). Cause place step under status end_too (length bytes ≡ budget) z (length lines + 1) y other) (sym state_is) two in
-      let four : Cause place step under status end_too (length bytes ≡ budget) s (length lines + 1) rest other = subst (λ (z : List ℕ). Cause place step under status end_too (length bytes ≡ budget) s (length lines + 1) z other) (sym rest_is) three in
+      let one : Cause position step under status end_too (length bytes ≡ budget) t (length ms + 1) y other = subst (λ (z : List ℕ). Cause position step under status end_too (length z ≡ budget) t (length ms + 1) y other) (sym same) b in
+      let two : Cause position step under status end_too (length bytes ≡ budget) t (length lines + 1) y other = subst (λ (z : List (List ℕ)). Cause position step under status end_too (length bytes ≡ budget) t (length z + 1) y other) (sym lines_are) one in
+      let three : Cause position step under status end_too (length bytes ≡ budget) s (length lines + 1) y other = subst (λ (z : X). Cause position step under status end_too (length bytes ≡ budget) z (length lines + 1) y other) (sym state_is) two in
+      let four : Cause position step under status end_too (length bytes ≡ budget) s (length lines + 1) rest other = subst (λ (z : List ℕ). Cause position step under status end_too (length bytes ≡ budget) s (length lines + 1) z other) (sym rest_is) three in
       tail_once once status at_end end_too (length bytes) (length lines + 1) s rest tail other good ample taken small (λ e. subst (λ (z : List ℕ). length z < budget) (sym same) (small_too e)) a four
 
   -- two readings of one told source that end alike write the same
-  pub ends_once : Follows place step → Once → Stays → (start : X) → Good start → (source also : SourceUse) (sink other : SinkUse) (status : Status)
+  pub ends_once : Follows position step → Once → Stays → (start : X) → Good start → (source also : SourceUse) (sink other : SinkUse) (status : Status)
       → IsTold source → also.left ≡ source.left → also.left_now ≡ source.left_now → other.written ≡ sink.written
       → status ≢ Memory → status ≢ WriteFault
-      → Ended place step under start source sink status → Ended place step under start also other status → sink.written_now ≡ other.written_now
+      → Ended position step under start source sink status → Ended position step under start also other status → sink.written_now ≡ other.written_now
   ends_once follows once stays start good source also sink other status told left left_now held ample taken a b =
       let took : Takes source.left (joined b.lines ++ b.rest) source.left_now =
       subst (λ (x : Option (List ℕ)). Takes x (joined b.lines ++ b.rest) source.left_now) left (subst (λ (x : Option (List ℕ)). Takes also.left (joined b.lines ++ b.rest) x) left_now b.taken) in
       let bytes : joined a.lines ++ a.rest ≡ joined b.lines ++ b.rest = same_bytes source.left source.left_now told.0 (joined a.lines ++ a.rest) (joined b.lines ++ b.rest) told.1 a.taken took in
-      let split = same_rest (place start) a.lines b.lines a.rest b.rest (place a.state) (place b.state) a.each b.each
-      (run_place place step follows start a.lines a.written a.state a.runs) (run_place place step follows start b.lines b.written b.state b.runs)
+      let split = same_rest (position start) a.lines b.lines a.rest b.rest (position a.state) (position b.state) a.each b.each
+      (run_position position step follows start a.lines a.written a.state a.runs) (run_position position step follows start b.lines b.written b.state b.runs)
       (shape_of status _ _ a.state (length a.lines + 1) a.rest a.tail ample taken a.cause) (shape_of status _ _ b.state (length b.lines + 1) b.rest b.tail ample taken b.cause) bytes in
       let runs : Runs step start a.lines b.written b.state = subst (λ (ls : List (List ℕ)). Runs step start ls b.written b.state) (sym split.0) b.runs in
       let wrote = runs_once once stays start a.lines a.written b.written a.state b.state good a.runs runs in

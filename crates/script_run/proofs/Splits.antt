@@ -2,10 +2,10 @@
 use Rattle.std.proofs.Common.{◌≡◌, ◌∙◌, ℕ, List, [], ◌∷◌, ◌++◌, length, length-append, refl, ap, sym, subst, append_assoc, arith, Option, None, Some}
 use Rattle.std.specs.List.{AllByRecursion}
 use Rattle.std.proofs.lemmas.List.{append-nil}
-use Rattle.script_lines.specs.Places.{Place}
-use Rattle.script_lines.specs.Grammar.{Verdict}
+use Rattle.script_lines.specs.Positions.{Position}
+use Rattle.script_lines.specs.Grammar.{Role}
 use Rattle.script_lines.specs.Grammar.{Acts, Ends, Refused}
-use Rattle.script_lines.specs.Grammar.{verdict, followed, place_after}
+use Rattle.script_lines.specs.Grammar.{role, followed, position_after}
 use Rattle.script_lines.specs.Lines.{IsUnbroken, IsLine, joined}
 
 -- bytes without a newline have none
@@ -43,16 +43,16 @@ compared (l ∷ ls) (m ∷ ms) x y some others is =
     ]
 
 -- where a script stands behind these lines and then those
-on_line : (v : Verdict) (lines more : List (List ℕ)) (q : Place)
-    → ((p : Place) → place_after p lines ≡ Some q → place_after p (lines ++ more) ≡ place_after q more)
-    → followed v (λ next. place_after next lines) ≡ Some q → followed v (λ next. place_after next (lines ++ more)) ≡ place_after q more
-on_line (Acts line place) lines more q later is = later place is
+on_line : (v : Role) (lines more : List (List ℕ)) (q : Position)
+    → ((p : Position) → position_after p lines ≡ Some q → position_after p (lines ++ more) ≡ position_after q more)
+    → followed v (λ next. position_after next lines) ≡ Some q → followed v (λ next. position_after next (lines ++ more)) ≡ position_after q more
+on_line (Acts line position) lines more q later is = later position is
 on_line Ends lines more q later is = (cc)
 on_line Refused lines more q later is = (cc)
 
-pub place_on : (p : Place) (lines more : List (List ℕ)) (q : Place) → place_after p lines ≡ Some q → place_after p (lines ++ more) ≡ place_after q more
-place_on p [] more q is = let h : p ≡ q = (cc) in ap (λ (r : Place). place_after r more) h
-place_on p (line ∷ lines) more q is = on_line (verdict p line) lines more q (λ r h. place_on r lines more q h) is
+pub place_on : (p : Position) (lines more : List (List ℕ)) (q : Position) → position_after p lines ≡ Some q → position_after p (lines ++ more) ≡ position_after q more
+place_on p [] more q is = let h : p ≡ q = (cc) in ap (λ (r : Position). position_after r more) h
+place_on p (line ∷ lines) more q is = on_line (role p line) lines more q (λ r h. place_on r lines more q h) is
 
 pub no_room : (a m : List ℕ) → [] ≡ a ++ (m ++ 10 ∷ []) → ⊥
 no_room a m is =
@@ -91,22 +91,22 @@ pub same_whole : (ls ms : List (List ℕ)) (l m : List ℕ) → AllByRecursion I
 same_whole ls ms l m some others one other is = same_whole_by ls ms l m some others one other (compared ls ms (l ++ 10 ∷ []) (m ++ 10 ∷ []) some others is)
 
 -- one way ends with a newline behind a line that doesn't act, the other within a line behind lines that do
-whole_and_open_by : (p : Place) (ls ms : List (List ℕ)) (l u : List ℕ) (q r : Place) → AllByRecursion IsLine ms → IsLine l → IsUnbroken u
-    → place_after p ls ≡ Some q → place_after p ms ≡ Some r → ((f : Place → Option Place) → followed (verdict q l) f ≡ None)
+whole_and_open_by : (p : Position) (ls ms : List (List ℕ)) (l u : List ℕ) (q r : Position) → AllByRecursion IsLine ms → IsLine l → IsUnbroken u
+    → position_after p ls ≡ Some q → position_after p ms ≡ Some r → ((f : Position → Option Position) → followed (role q l) f ≡ None)
     → Compared ls ms (l ++ 10 ∷ []) u → ⊥
 whole_and_open_by p ls ms l u q r others one bare here there stops (On [] lines behind) = no_break u l [] bare (sym behind)
 whole_and_open_by p ls ms l u q r others one bare here there stops (On (m ∷ more) lines behind) =
     let k = (each_behind ls (m ∷ more) ms lines others).0 in
     let h : (l ≡ m) × ([] ≡ joined more ++ u) = first_break l m [] (joined more ++ u) one.unbroken k.unbroken (behind ∙ append_assoc m (10 ∷ joined more) u) in
-    let a : place_after p ms ≡ place_after q (m ∷ more) = ap (λ (xs : List (List ℕ)). place_after p xs) lines ∙ place_on p ls (m ∷ more) q here in
-    let b : place_after q (m ∷ more) ≡ None = subst (λ (x : List ℕ). followed (verdict q x) (λ next. place_after next more) ≡ None) h.0 (stops (λ next. place_after next more)) in
+    let a : position_after p ms ≡ position_after q (m ∷ more) = ap (λ (xs : List (List ℕ)). position_after p xs) lines ∙ place_on p ls (m ∷ more) q here in
+    let b : position_after q (m ∷ more) ≡ None = subst (λ (x : List ℕ). followed (role q x) (λ next. position_after next more) ≡ None) h.0 (stops (λ next. position_after next more)) in
     let c : Some r ≡ None = sym there ∙ a ∙ b in
     (cc)
 whole_and_open_by p ls ms l u q r others one bare here there stops (Back [] lines behind) = no_break u l [] bare behind
 whole_and_open_by p ls ms l u q r others one bare here there stops (Back (m ∷ more) lines behind) = no_break u m (joined more ++ (l ++ 10 ∷ [])) bare (behind ∙ append_assoc m (10 ∷ joined more) (l ++ 10 ∷ []))
 
-pub whole_and_open : (p : Place) (ls ms : List (List ℕ)) (l u : List ℕ) (q r : Place) → AllByRecursion IsLine ls → AllByRecursion IsLine ms → IsLine l → IsUnbroken u
-    → place_after p ls ≡ Some q → place_after p ms ≡ Some r → ((f : Place → Option Place) → followed (verdict q l) f ≡ None)
+pub whole_and_open : (p : Position) (ls ms : List (List ℕ)) (l u : List ℕ) (q r : Position) → AllByRecursion IsLine ls → AllByRecursion IsLine ms → IsLine l → IsUnbroken u
+    → position_after p ls ≡ Some q → position_after p ms ≡ Some r → ((f : Position → Option Position) → followed (role q l) f ≡ None)
     → joined ls ++ (l ++ 10 ∷ []) ≡ joined ms ++ u → ⊥
 whole_and_open p ls ms l u q r some others one bare here there stops is =
     whole_and_open_by p ls ms l u q r others one bare here there stops (compared ls ms (l ++ 10 ∷ []) u some others is)

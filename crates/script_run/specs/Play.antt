@@ -1,11 +1,11 @@
 -- What a player of a script answers to one line.
 use Rattle.std.specs.Prelude.{ℕ, ◌≡◌, ◌<◌, List, ◌++◌, length, Option, None, Some, ◌⊎◌}
 use Rattle.outside.specs.Streams.{Adds}
-use Rattle.script_lines.specs.Places.{Place}
+use Rattle.script_lines.specs.Positions.{Position}
 use Rattle.script_lines.specs.Grammar.{Ends, Refused}
 use Rattle.script_lines.specs.declared.output.Stop.{Stop}
 use Rattle.script_lines.specs.declared.output.Stop.TheVariants.{Sink, Memory as NoMemory}
-use Rattle.script_lines.specs.Grammar.{verdict}
+use Rattle.script_lines.specs.Grammar.{role}
 use Rattle.script_lines.specs.Records.{IsFront, fault_text}
 use Rattle.script_run.specs.declared.status.Status.{Status}
 use Rattle.script_run.specs.declared.status.Status.TheVariants.{Done, WrongWords, FaultLine, ReadFault, WriteFault, Memory, NoEnd}
@@ -31,20 +31,20 @@ pub record Stopped (stop : Stop) (Made : List ℕ → Type 0) (old new : Option 
 
 -- What is made at a line: the records of an acting line, as far as it is under way, or the text that names
 -- a refused one.
-abbrev pub Makes : {X : Type 0} → (X → Place) → (X → List ℕ → List ℕ → Type 0) → X → List ℕ → ℕ → List ℕ → Type 0
-Makes place under s line number out = under s line out ⊎ ((verdict (place s) line ≡ Refused) × (out ≡ fault_text number))
+abbrev pub Makes : {X : Type 0} → (X → Position) → (X → List ℕ → List ℕ → Type 0) → X → List ℕ → ℕ → List ℕ → Type 0
+Makes position under s line number out = under s line out ⊎ ((role (position s) line ≡ Refused) × (out ≡ fault_text number))
 
 -- What a line is answered: nothing where it acts, else the status that it decides.
-abbrev pub Answers : {X : Type 0} → (X → Place) → (X → List ℕ → List ℕ → X → Type 0) → (X → List ℕ → List ℕ → Type 0)
+abbrev pub Answers : {X : Type 0} → (X → Position) → (X → List ℕ → List ℕ → X → Type 0) → (X → List ℕ → List ℕ → Type 0)
     → Option Status → X → List ℕ → ℕ → X → Option (List ℕ) → Option (List ℕ) → Type 0
-Answers place step under None old line number new before now = (out : List ℕ) × step old line out new × Adds before out now
-Answers place step under (Some Done) old line number new before now = (verdict (place old) line ≡ Ends) × (now ≡ before)
-Answers place step under (Some WrongWords) old line number new before now = ⊥
-Answers place step under (Some FaultLine) old line number new before now = (verdict (place old) line ≡ Refused) × Adds before (fault_text number) now
-Answers place step under (Some ReadFault) old line number new before now = ⊥
-Answers place step under (Some WriteFault) old line number new before now = Stopped Sink (Makes place under old line number) before now
-Answers place step under (Some Memory) old line number new before now = (now ≡ before) ⊎ Stopped NoMemory (Makes place under old line number) before now
-Answers place step under (Some NoEnd) old line number new before now = ⊥
+Answers position step under None old line number new before now = (out : List ℕ) × step old line out new × Adds before out now
+Answers position step under (Some Done) old line number new before now = (role (position old) line ≡ Ends) × (now ≡ before)
+Answers position step under (Some WrongWords) old line number new before now = ⊥
+Answers position step under (Some FaultLine) old line number new before now = (role (position old) line ≡ Refused) × Adds before (fault_text number) now
+Answers position step under (Some ReadFault) old line number new before now = ⊥
+Answers position step under (Some WriteFault) old line number new before now = Stopped Sink (Makes position under old line number) before now
+Answers position step under (Some Memory) old line number new before now = (now ≡ before) ⊎ Stopped NoMemory (Makes position under old line number) before now
+Answers position step under (Some NoEnd) old line number new before now = ⊥
 
 -- what the last line of a source is answered, by the status: the script has no end where the line acted
 abbrev pub answer_of : Status → Option Status

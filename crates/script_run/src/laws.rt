@@ -15,7 +15,7 @@ use crate::status::Status;
 pub fn one_status<P: Play>()
     ensures { (first : P.State) (source : SourceUse) (sink other : SinkUse) (a b : Status)
         → IsTold source → CountAlike sink other → source.faults < 18446744073709551615 → sink.faults < 18446744073709551615
-        → Outcome P.place P.step P.under first source sink a → Outcome P.place P.step P.under first source other b
+        → Outcome P.position P.step P.under first source sink a → Outcome P.position P.step P.under first source other b
         → a ≢ Status.Memory → b ≢ Status.Memory → a ≡ b }
 {}
 
@@ -25,7 +25,7 @@ pub fn one_status<P: Play>()
 pub fn one_transcript<P: Play>()
     ensures { (first : P.State) (source also : SourceUse) (sink other : SinkUse) (status : Status)
         → P.is_good first → IsTold source → also.left ≡ source.left → also.left_now ≡ source.left_now → other.written ≡ sink.written
-        → Outcome P.place P.step P.under first source sink status → Outcome P.place P.step P.under first also other status
+        → Outcome P.position P.step P.under first source sink status → Outcome P.position P.step P.under first also other status
         → status ≢ Status.Memory → status ≢ Status.WriteFault → sink.written_now ≡ other.written_now }
 {
     P::steps_once();
@@ -35,8 +35,8 @@ pub fn one_transcript<P: Play>()
 /// don't rise, is done, or there was no memory.
 pub fn comes_to_its_end<P: Play>()
     ensures { (first : P.State) (source : SourceUse) (sink : SinkUse) (left : List ℕ) (status : Status)
-        → source.left ≡ Some left → HasEnd (P.place first) left
+        → source.left ≡ Some left → HasEnd (P.position first) left
         → (Rose source.faults source.faults_now → ⊥) → (Rose sink.faults sink.faults_now → ⊥)
-        → Outcome P.place P.step P.under first source sink status
+        → Outcome P.position P.step P.under first source sink status
         → (status ≡ Status.Done) ⊎ (status ≡ Status.Memory) }
 {}

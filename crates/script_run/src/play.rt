@@ -1,8 +1,8 @@
 //! What plays the lines of a script.
 ghost use Rattle.std.specs.Prelude.{◌≡◌, ℕ, List, Some};
 ghost use Rattle.outside.specs.Causes.{HasCause};
-ghost use Rattle.script_lines.specs.Places.{Place};
-ghost use Rattle.script_lines.specs.Grammar.{verdict, followed};
+ghost use Rattle.script_lines.specs.Positions.{Position};
+ghost use Rattle.script_lines.specs.Grammar.{role, followed};
 ghost use Rattle.script_run.specs.Determined.{StepsOnce, StaysGood};
 ghost use Rattle.script_run.specs.Play.{Answers, Refuses};
 
@@ -19,7 +19,7 @@ pub trait Play {
     ghost state: { Self → State };
 
     /// Where the script's grammar stands.
-    ghost place: { State → Place };
+    ghost position: { State → Position };
 
     /// A line that acts: from one state to another, with the bytes that it writes.
     ghost step: { State → List ℕ → List ℕ → State → Type 0 };
@@ -36,7 +36,7 @@ pub trait Play {
         line: &[u8],
         number: u64,
     ) -> Option<Status>
-        ensures answers { Answers place step under result (state self.old) line.now number (state self.new) (T.written sink.old) (T.written sink.new) }
+        ensures answers { Answers position step under result (state self.old) line.now number (state self.new) (T.written sink.old) (T.written sink.new) }
         ensures cause { HasCause (T.faults sink.old) (T.faults sink.new) (result ≡ Some Status.WriteFault) };
 
     /// The states from which what a line writes is no choice.
@@ -48,7 +48,7 @@ pub trait Play {
         ensures stays { StaysGood step is_good };
 
     /// A line acts only where the grammar lets it, and the script then stands where the grammar says.
-    ghost follows: { (s : State) (line out : List ℕ) (t : State) → step s line out t → followed (verdict (place s) line) (λ next. Some next) ≡ Some (place t) };
+    ghost follows: { (s : State) (line out : List ℕ) (t : State) → step s line out t → followed (role (position s) line) (λ next. Some next) ≡ Some (position t) };
 }
 
 /// Writes the text that names a refused line.

@@ -25,7 +25,7 @@ pub fn run<P: Play, S: Source, T: Sink>(
 ) -> Status
     ensures ended { let of_source = source_use S.left S.faults source.old source.new in
         let of_sink = sink_use T.written T.faults sink.old sink.new in
-        Ended P.place P.step P.under (P.state player.old) of_source of_sink result }
+        Ended P.position P.step P.under (P.state player.old) of_source of_sink result }
     ensures read { HasCause (S.faults source.old) (S.faults source.new) (result ≡ Status.ReadFault) }
     ensures write { HasCause (T.faults sink.old) (T.faults sink.new) (result ≡ Status.WriteFault) }
 {
@@ -59,7 +59,7 @@ fn last_answer<P: Play, T: Sink>(
     line: &[u8],
     number: u64,
 ) -> Status
-    ensures answers { Answers P.place P.step P.under (answer_of result) (P.state player.old) line.now number (P.state player.new) (T.written sink.old) (T.written sink.new) }
+    ensures answers { Answers P.position P.step P.under (answer_of result) (P.state player.old) line.now number (P.state player.new) (T.written sink.old) (T.written sink.new) }
     ensures cause { HasCause (T.faults sink.old) (T.faults sink.new) (result ≡ Status.WriteFault) }
 {
     match player.answer(alloc, sink, line, number) {

@@ -2,14 +2,13 @@
 use Rattle.std.proofs.Common.{◌≡◌, ◌∙◌, ℕ, true, false, List, [], ◌∷◌, ◌++◌, length, Option, None, Some, IsSome, refl, sym, ap, subst, append_assoc, arith}
 use Rattle.std.specs.Option.{ForSome}
 use Rattle.std.proofs.lemmas.List.{append-nil}
-use Rattle.broker_core.specs.Serving.{GoesTo}
 use Rattle.cool_base.specs.declared.ids.ViewId.{ViewId}
 use Rattle.cool_frame.specs.declared.frame.Frame.{Frame}
 use Rattle.document_machine.specs.Event.{Event, Painted}
-use Rattle.document_machine.specs.Next.{none_kept, IsFirst}
+use Rattle.document_machine.specs.Next.{Work, Apply, Send, Cut, Rest, none_kept, pick}
 use Rattle.document_machine.specs.Outputs.{nothing, joined}
 use Rattle.document_machine.specs.State.{Document}
-use Rattle.document_machine.specs.Step.{Step, Goes}
+use Rattle.document_machine.specs.Step.{Step, Rests, Does, Did, Goes}
 use Rattle.document_machine.specs.declared.outs.Outs.{Outs}
 use Rattle.document_machine.specs.declared.outs.Turned.{Turned}
 use Rattle.document_machine.specs.declared.outs.Turned.TheVariants.{Worked, Idle}
@@ -81,28 +80,33 @@ goes_there rules cut None new event outs goes = absurd goes
 goes_there rules cut (Some d) None event outs goes = absurd goes
 goes_there rules cut (Some d) (Some e) event outs goes = refl
 
-pub turn_there : {C B S : Type 0} (rules : Rules C B) (cut : C → Place → S) (old new : Option (Document S)) (turned : Turned S) → GoesTo rules cut old turned new → IsSome new
-turn_there rules cut None new turned goes = absurd goes
-turn_there rules cut (Some d) None turned goes = absurd goes
-turn_there rules cut (Some d) (Some e) turned goes = refl
+pub turn_there : {C B S : Type 0} (rules : Rules C B) (cut : C → Place → S) (old new : Option (Document S)) (turned : Turned S) → Did rules cut old turned new → IsSome new
+turn_there rules cut None new turned did = absurd did
+turn_there rules cut (Some d) None turned did = absurd did
+turn_there rules cut (Some d) (Some e) turned did = refl
 
 -- a turn that worked, with the answers to its jobs
 pub worked_by : {C B S : Type 0} (rules : Rules C B) (cut : C → Place → S) (seats : Seats) (old mid new : Option (Document S)) (outs : Outs S) (here later : List ℕ) (out : List ℕ)
-    → GoesTo rules cut old (Worked outs) mid → ForSome old (λ d. d.applied ≡ length d.journal → IsFirst rules none_kept d (Worked outs))
-    → here ≡ records seats outs.frames → AnswersAll rules cut seats mid outs.jobs later new → out ≡ here ++ later
+    → Did rules cut old (Worked outs) mid → here ≡ records seats outs.frames → AnswersAll rules cut seats mid outs.jobs later new → out ≡ here ++ later
     → TurnsDocument rules cut seats old out true new
-worked_by rules cut seats None mid new outs here later out goes first is answers all = absurd goes
-worked_by rules cut seats (Some d) None new outs here later out goes first is answers all = absurd goes
-worked_by {C} {B} {S} rules cut seats (Some d) (Some e) new outs here later out goes first is answers all = (
+worked_by rules cut seats None mid new outs here later out did is answers all = absurd did
+worked_by rules cut seats (Some d) None new outs here later out did is answers all = absurd did
+worked_by {C} {B} {S} rules cut seats (Some d) (Some e) new outs here later out did is answers all = (
   answers.0,
   outs.frames ++ answers.1.frames,
-  record { mid = e; first = outs; later = answers.1; works = goes; in_order = first d refl; answered = answers.2; frames_are = refl },
+  record { mid = e; first = outs; later = answers.1; does = did; answered = answers.2; frames_are = refl },
   all ∙ ap (λ (o : List ℕ). o ++ later) is ∙ ap (λ (o : List ℕ). records seats outs.frames ++ o) answers.3 ∙ sym (records-append seats outs.frames answers.1.frames),
   answers.4,
 )
 
 -- a turn that did nothing
-pub rested_by : {C B S : Type 0} (rules : Rules C B) (cut : C → Place → S) (seats : Seats) (old new : Option (Document S)) (out : List ℕ) → GoesTo rules cut old Idle new → out ≡ [] → TurnsDocument rules cut seats old out false new
-rested_by rules cut seats None new out goes is = absurd goes
-rested_by rules cut seats (Some d) None out goes is = absurd goes
-rested_by rules cut seats (Some d) (Some e) out goes is = (is, goes.0, ap Some goes.1)
+rests_of : {C B S : Type 0} (rules : Rules C B) (cut : C → Place → S) (old new : Document S) (work : Work) → Does rules cut old work Idle new → Rests rules old × (new ≡ old)
+rests_of rules cut old new Apply does = absurd does
+rests_of rules cut old new (Send id key version) does = absurd does
+rests_of rules cut old new (Cut id key) does = absurd does
+rests_of rules cut old new Rest does = does
+
+pub rested_by : {C B S : Type 0} (rules : Rules C B) (cut : C → Place → S) (seats : Seats) (old new : Option (Document S)) (out : List ℕ) → Did rules cut old Idle new → out ≡ [] → TurnsDocument rules cut seats old out false new
+rested_by rules cut seats None new out did is = absurd did
+rested_by rules cut seats (Some d) None out did is = absurd did
+rested_by rules cut seats (Some d) (Some e) out did is = let rests = rests_of rules cut d e (pick rules none_kept d) did in (is, rests.0, ap Some rests.1)

@@ -1,37 +1,45 @@
--- What a house keeps: its document is whole, no job of it is out, and each of its views has a link.
+-- What a house keeps: its document is as a broker keeps it, no job of it is out, and each of its views has a link.
 use Rattle.std.proofs.Common.{◌≡◌, ◌≢◌, ◌∙◌, ℕ, Bool, true, false, cond, ◌&&◌, List, [], ◌∷◌, ◌++◌, length, nat_lt, Option, None, Some, inl, refl, sym, ap, subst}
 use Rattle.std.specs.BTreeMap.{is_at}
 use Rattle.std.specs.List.{AllByRecursion, list_any}
 use Rattle.std.specs.Option.{is_some, is_none, ForSome}
 use Rattle.std.specs.Ordering.{nat_cmp}
-use Rattle.document_laws.specs.Whole.{IsWhole}
-use Rattle.document_laws.proofs.Lower.{at_once_lowers}
-use Rattle.document_laws.proofs.Whole.{opening_is_whole}
+use Rattle.document_laws.specs.AtOnce.{all_answered}
+use Rattle.document_laws.proofs.Heard.{effect_good}
+use Rattle.document_laws.proofs.Kept.{opening_keeps}
+use Rattle.document_laws.proofs.Lower.{at_once_lowers, found_view}
+use Rattle.document_machine.proofs.Turns.{does_turn}
+use Rattle.cool_base.specs.declared.ids.ViewId.{ViewId}
+use Rattle.cool_frame.specs.declared.frame.Frame.{Frame}
 use Rattle.document_machine.specs.Event.{Event, Joined, Left, Said, Turned}
+use Rattle.document_machine.specs.Kept.{IsKept, IsViewKept}
 use Rattle.document_machine.specs.Message.{effect}
+use Rattle.document_machine.specs.Next.{none_kept, pick}
 use Rattle.document_machine.specs.Outputs.{nothing}
 use Rattle.document_machine.specs.Run.{Segment}
 use Rattle.document_machine.specs.State.{Document, opening, opening_view, find_view, without_view}
 use Rattle.document_machine.specs.Step.{Step, Works, JoinsWhere as MachineJoins}
+use Rattle.document_machine.specs.declared.limits.TheConstants.{MOST_VIEWS}
 use Rattle.document_machine.specs.declared.outs.Outs.{Outs}
+use Rattle.document_machine.specs.declared.outs.Turned.TheVariants.{Worked}
 use Rattle.document_machine.specs.declared.rights.Rights.{Rights}
 use Rattle.kit_trait.specs.Rules.{Rules}
 use Rattle.tile_key.specs.Places.{Place}
-use Rattle.script_world.specs.House.{House, rights, JoinsWhere, BeginsWhere, LoadsOne, LoadsWhere, seated_at, seated, SaysAs, LeavesAs, TakesOne, TakesFirst, painted_all, WorksAtOnce, TurnsDocument, PollTurn, ids_of, IsSeated, IsHousedBy, IsHoused}
+use Rattle.script_world.specs.House.{House, rights, JoinsWhere, BeginsWhere, LoadsOne, LoadsWhere, seated_at, seated, SaysAs, LeavesAs, TakesOne, TakesFirst, WorksAtOnce, TurnsDocument, PollTurn, ids_of, IsSeated, IsHousedBy, IsHoused}
 use Rattle.script_world.specs.Seats.{Seats, view_of, is_waiting, enters, sits, without}
 use Rattle.script_world.specs.declared.event.Waiting.{Waiting}
 use Rattle.script_world.specs.declared.event.Waiting.TheVariants.{Opened, Loads, Says, Gone}
 use Rattle.script_world.proofs.Saying.{one_if}
-use Rattle.script_world.proofs.Ids.{HasLink, ids-took, jobs-took, ids-works, ids-answers, sits_others, sits_new, gone_others, gone_none, ids_without, ids_stay, ids_lack, all_by, all_more, all_on, ids-append}
+use Rattle.script_world.proofs.Ids.{HasLink, ids-heard, ids-works, ids-answers, sits_others, sits_new, gone_others, gone_none, ids_without, ids_stay, ids_lack, all_by, all_more, all_on, ids-append}
 
--- every step leaves a whole document whole
+-- what is kept of a document is kept by every step
 abbrev pub Keeps : {C B S : Type 0} → Rules C B → (C → Place → S) → Type 0
-Keeps {C} {B} {S} rules cut = (old new : Document S) (event : Event S) (outs : Outs S) → Step rules cut old event outs new → IsWhole rules old → IsWhole rules new
+Keeps {C} {B} {S} rules cut = (old new : Document S) (event : Event S) (outs : Outs S) → Step rules cut old event outs new → IsKept rules cut old → IsKept rules cut new
 
 -- no job is out
-pub none_out_of : {C B S : Type 0} (rules : Rules C B) (seats : Seats) (document : Option (Document S)) → IsHousedBy rules seats document → ForSome document (λ d. d.jobs ≡ [])
-none_out_of rules seats None housed = λ d is. absurd (cc)
-none_out_of {C} {B} {S} rules seats (Some e) housed = λ d is. let same : e ≡ d = cc in subst (λ (x : Document S). x.jobs ≡ []) same housed.none_out
+pub none_out_of : {C B S : Type 0} (rules : Rules C B) (cut : C → Place → S) (seats : Seats) (document : Option (Document S)) → IsHousedBy rules cut seats document → ForSome document (λ d. d.jobs ≡ [])
+none_out_of rules cut seats None housed = λ d is. absurd (cc)
+none_out_of {C} {B} {S} rules cut seats (Some e) housed = λ d is. let same : e ≡ d = cc in subst (λ (x : Document S). x.jobs ≡ []) same housed.none_out
 
 and_right : (a b : Bool) → (a && b) ≡ true → b ≡ true
 and_right true b is = is
@@ -47,42 +55,42 @@ no_view seats link waits = none_is (view_of seats link) (and_right (list_any (is
 
 -- a view that joined
 joined : {C B S : Type 0} (rules : Rules C B) (cut : C → Place → S) (keeps : Keeps rules cut) (seats : Seats) (link : ℕ) (given : Rights) (d e : Document S) (outs : Outs S) (b : Bool)
-    → nat_lt (length d.views) 64 ≡ b → b ≡ true → view_of seats link ≡ None → IsSeated rules seats d → Step rules cut d (Joined given) outs e
-    → IsSeated rules (sits seats link d.next_view) e
+    → nat_lt (length d.views) MOST_VIEWS ≡ b → b ≡ true → view_of seats link ≡ None → IsSeated rules cut seats d → Step rules cut d (Joined given) outs e
+    → IsSeated rules cut (sits seats link d.next_view) e
 joined {C} {B} {S} rules cut keeps seats link given d e outs b room is none housed step =
     let joins : MachineJoins true rules d given outs e = subst (λ (x : Bool). MachineJoins x rules d given outs e) (room ∙ is) step in
     let views : e.views ≡ d.views ++ opening_view d.next_view given ∷ [] = ap (λ (x : Document S). x.views) joins.1 in
     let kept : AllByRecursion (HasLink (sits seats link d.next_view).views) (ids_of d.views) = all_on (HasLink seats.views) (HasLink (sits seats link d.next_view).views) (ids_of d.views) (λ id h. sits_others seats.views link d.next_view id none h) housed.linked in
     let all : AllByRecursion (HasLink (sits seats link d.next_view).views) (ids_of d.views ++ d.next_view ∷ []) = all_more (HasLink (sits seats link d.next_view).views) (ids_of d.views) d.next_view kept (sits_new seats.views link d.next_view) in
     record {
-      whole = keeps d e (Joined given) outs step housed.whole;
+      kept = keeps d e (Joined given) outs step housed.kept;
       none_out = ap (λ (x : Document S). x.jobs) joins.1 ∙ housed.none_out;
       linked = subst (AllByRecursion (HasLink (sits seats link d.next_view).views)) (sym (ap ids_of views ∙ ids-append d.views (opening_view d.next_view given))) all;
     }
 
 joins_by : {C B S : Type 0} (rules : Rules C B) (cut : C → Place → S) (keeps : Keeps rules cut) (seats : Seats) (link : ℕ) (given : Rights) (d : Document S) (out : List ℕ) (new : House S) (b : Bool)
-    → nat_lt (length d.views) 64 ≡ b → view_of seats link ≡ None → IsSeated rules seats d → JoinsWhere b rules cut seats link given d out new → IsHoused rules new
+    → nat_lt (length d.views) MOST_VIEWS ≡ b → view_of seats link ≡ None → IsSeated rules cut seats d → JoinsWhere b rules cut seats link given d out new → IsHoused rules cut new
 joins_by {C} {B} {S} rules cut keeps seats link given d out new true room none housed joins =
-    subst (IsHoused rules) (sym joins.3) (joined rules cut keeps seats link given d joins.0 joins.1 true room refl none housed joins.2)
-joins_by rules cut keeps seats link given d out new false room none housed joins = subst (IsHoused rules) (sym joins.1) housed
+    subst (IsHoused rules cut) (sym joins.3) (joined rules cut keeps seats link given d joins.0 joins.1 true room refl none housed joins.2)
+joins_by rules cut keeps seats link given d out new false room none housed joins = subst (IsHoused rules cut) (sym joins.1) housed
 
 begins_by : {C B S : Type 0} (rules : Rules C B) (cut : C → Place → S) (keeps : Keeps rules cut) (seats : Seats) (link : ℕ) (file : List ℕ) (given : Rights) (out : List ℕ) (new : House S) (b : Bool)
-    → rules.accepts [] ≡ b → view_of seats link ≡ None → BeginsWhere b rules cut seats link file given out new → IsHoused rules new
+    → rules.accepts [] ≡ b → view_of seats link ≡ None → BeginsWhere b rules cut seats link file given out new → IsHoused rules cut new
 begins_by {C} {B} {S} rules cut keeps seats link file given out new true accepted none begins =
     joins_by rules cut keeps seats link given (opening file []) out new true refl none
-    (record { whole = opening_is_whole S rules file [] accepted; none_out = refl; linked = tt }) begins
-begins_by rules cut keeps seats link file given out new false accepted none begins = subst (IsHoused rules) (sym begins.1) tt
+    (record { kept = opening_keeps rules cut file [] accepted; none_out = refl; linked = tt }) begins
+begins_by rules cut keeps seats link file given out new false accepted none begins = subst (IsHoused rules cut) (sym begins.1) tt
 
 loads_by : {C B S : Type 0} (rules : Rules C B) (cut : C → Place → S) (keeps : Keeps rules cut) (seats : Seats) (document : Option (Document S)) (link : ℕ) (file : List ℕ) (given : Rights) (out : List ℕ) (new : House S)
-    → view_of seats link ≡ None → IsHousedBy rules seats document → LoadsOne rules cut seats document link file given out new → IsHoused rules new
+    → view_of seats link ≡ None → IsHousedBy rules cut seats document → LoadsOne rules cut seats document link file given out new → IsHoused rules cut new
 loads_by rules cut keeps seats None link file given out new none housed loads = begins_by rules cut keeps seats link file given out new (rules.accepts []) refl none loads
-loads_by rules cut keeps seats (Some d) link file given out new none housed loads = joins_by rules cut keeps seats link given d out new (nat_lt (length d.views) 64) refl none housed loads
+loads_by rules cut keeps seats (Some d) link file given out new none housed loads = joins_by rules cut keeps seats link given d out new (nat_lt (length d.views) MOST_VIEWS) refl none housed loads
 
 load_by : {C B S : Type 0} (rules : Rules C B) (cut : C → Place → S) (keeps : Keeps rules cut) (old : House S) (link : ℕ) (file : List ℕ) (given : Rights) (out : List ℕ) (new : House S) (b : Bool)
-    → is_waiting old.seats link ≡ b → IsHoused rules old → LoadsWhere b rules cut old link file given out new → IsHoused rules new
+    → is_waiting old.seats link ≡ b → IsHoused rules cut old → LoadsWhere b rules cut old link file given out new → IsHoused rules cut new
 load_by rules cut keeps old link file given out new true waits housed loads =
     loads_by rules cut keeps old.seats old.document link file given out new (no_view old.seats link waits) housed loads
-load_by rules cut keeps old link file given out new false waits housed loads = subst (IsHoused rules) (sym loads.1) housed
+load_by rules cut keeps old link file given out new false waits housed loads = subst (IsHoused rules cut) (sym loads.1) housed
 
 -- a seat that was found is the document's
 pub found_document : {S : Type 0} (document : Option (Document S)) (seat : Option ℕ) (found : Document S × ℕ) → seated_at document seat ≡ Some found → (document ≡ Some found.0) × (seat ≡ Some found.1)
@@ -94,20 +102,21 @@ found_document {S} (Some d) (Some id) found is =
       | false ↦ λ e. absurd (cc)
     ] is
 
-pub housed_at : {C B S : Type 0} (rules : Rules C B) (seats : Seats) (document : Option (Document S)) (d : Document S) → document ≡ Some d → IsHousedBy rules seats document → IsSeated rules seats d
-housed_at {C} {B} {S} rules seats document d is housed = subst (IsHousedBy rules seats) is housed
+pub housed_at : {C B S : Type 0} (rules : Rules C B) (cut : C → Place → S) (seats : Seats) (document : Option (Document S)) (d : Document S) → document ≡ Some d → IsHousedBy rules cut seats document → IsSeated rules cut seats d
+housed_at {C} {B} {S} rules cut seats document d is housed = subst (IsHousedBy rules cut seats) is housed
 
 -- a message
 says_by : {C B S : Type 0} (rules : Rules C B) (cut : C → Place → S) (keeps : Keeps rules cut) (old : House S) (link : ℕ) (text : List ℕ) (found : Option (Document S × ℕ)) (out : List ℕ) (new : House S)
-    → seated old link ≡ found → IsHoused rules old → SaysAs rules cut old link text found out new → IsHoused rules new
-says_by rules cut keeps old link text None out new is housed says = subst (IsHoused rules) (sym says.1) housed
+    → seated old link ≡ found → IsHoused rules cut old → SaysAs rules cut old link text found out new → IsHoused rules cut new
+says_by rules cut keeps old link text None out new is housed says = subst (IsHoused rules cut) (sym says.1) housed
 says_by {C} {B} {S} rules cut keeps old link text (Some seat) out new is housed says =
-    let there : IsSeated rules old.seats seat.0 = housed_at rules old.seats old.document seat.0 (found_document old.document (view_of old.seats link) seat is).0 housed in
+    let there : IsSeated rules cut old.seats seat.0 = housed_at rules cut old.seats old.document seat.0 (found_document old.document (view_of old.seats link) seat is).0 housed in
     let step : Step rules cut seat.0 (Said seat.1 text) says.1 says.0 = says.2 in
-    subst (IsHoused rules) (sym says.3) (record {
-      whole = keeps seat.0 says.0 (Said seat.1 text) says.1 step there.whole;
-      none_out = ap (λ (x : Document S). x.jobs) step.new_is ∙ jobs-took rules seat.0 seat.1 (effect rules seat.0 step.view text) ∙ there.none_out;
-      linked = subst (AllByRecursion (HasLink old.seats.views)) (sym (ap (λ (x : Document S). ids_of x.views) step.new_is ∙ ids-took rules seat.0 seat.1 (effect rules seat.0 step.view text))) there.linked;
+    let good = effect_good rules seat.0 step.view (found_view (IsViewKept rules seat.0) seat.0.views seat.1 step.view there.kept.each step.live) text in
+    subst (IsHoused rules cut) (sym says.3) (record {
+      kept = keeps seat.0 says.0 (Said seat.1 text) says.1 step there.kept;
+      none_out = ap (λ (x : Document S). x.jobs) step.new_is ∙ there.none_out;
+      linked = subst (AllByRecursion (HasLink old.seats.views)) (sym (ap (λ (x : Document S). ids_of x.views) step.new_is ∙ ids-heard seat.0 seat.1 step.view (effect rules seat.0 step.view text) step.live good.id)) there.linked;
     })
 
 lacks_view : {S : Type 0} (d : Document S) (view : ℕ) (b : Bool) → None ≡ one_if b d view → b ≡ false
@@ -125,77 +134,82 @@ gone_by {S} seats d link (Some view) is lacks all =
     all_by (λ (n : ℕ). n ≢ view) (HasLink seats.views) (HasLink (without seats link).views) (ids_of d.views)
     (λ id apart h. gone_others (is_at (nat_cmp link)) seats.views view id is apart h) (ids_lack d.views view not_there) all
 
-leaves_none : {C B S : Type 0} (rules : Rules C B) (seats : Seats) (document : Option (Document S)) (link : ℕ) → None ≡ seated_at document (view_of seats link) → IsHousedBy rules seats document → IsHousedBy rules (without seats link) document
-leaves_none rules seats None link lacks housed = tt
-leaves_none rules seats (Some d) link lacks housed = record {
-  whole = housed.whole;
+leaves_none : {C B S : Type 0} (rules : Rules C B) (cut : C → Place → S) (seats : Seats) (document : Option (Document S)) (link : ℕ) → None ≡ seated_at document (view_of seats link) → IsHousedBy rules cut seats document → IsHousedBy rules cut (without seats link) document
+leaves_none rules cut seats None link lacks housed = tt
+leaves_none rules cut seats (Some d) link lacks housed = record {
+  kept = housed.kept;
   none_out = housed.none_out;
   linked = gone_by seats d link (view_of seats link) refl lacks housed.linked;
 }
 
 leaves_by : {C B S : Type 0} (rules : Rules C B) (cut : C → Place → S) (keeps : Keeps rules cut) (old : House S) (link : ℕ) (found : Option (Document S × ℕ)) (out : List ℕ) (new : House S)
-    → seated old link ≡ found → IsHoused rules old → LeavesAs rules cut old link found out new → IsHoused rules new
-leaves_by rules cut keeps old link None out new is housed leaves = subst (IsHoused rules) (sym leaves.1) (leaves_none rules old.seats old.document link (sym is) housed)
+    → seated old link ≡ found → IsHoused rules cut old → LeavesAs rules cut old link found out new → IsHoused rules cut new
+leaves_by rules cut keeps old link None out new is housed leaves = subst (IsHoused rules cut) (sym leaves.1) (leaves_none rules cut old.seats old.document link (sym is) housed)
 leaves_by {C} {B} {S} rules cut keeps old link (Some seat) out new is housed leaves =
     let at = found_document old.document (view_of old.seats link) seat is in
-    let there : IsSeated rules old.seats seat.0 = housed_at rules old.seats old.document seat.0 at.0 housed in
+    let there : IsSeated rules cut old.seats seat.0 = housed_at rules cut old.seats old.document seat.0 at.0 housed in
     let new_is : leaves.0 ≡ record seat.0 { views = without_view seat.0.views seat.1 } = leaves.1.1 in
-    let apart : AllByRecursion (λ (n : ℕ). n ≢ seat.1) (ids_of (without_view seat.0.views seat.1)) = ids_without seat.0.views seat.1 there.whole.kept.ids in
+    let apart : AllByRecursion (λ (n : ℕ). n ≢ seat.1) (ids_of (without_view seat.0.views seat.1)) = ids_without seat.0.views seat.1 there.kept.ids in
     let stay : AllByRecursion (HasLink old.seats.views) (ids_of (without_view seat.0.views seat.1)) = ids_stay (HasLink old.seats.views) seat.0.views seat.1 there.linked in
     let links : AllByRecursion (HasLink (without old.seats link).views) (ids_of (without_view seat.0.views seat.1)) =
     all_by (λ (n : ℕ). n ≢ seat.1) (HasLink old.seats.views) (HasLink (without old.seats link).views) (ids_of (without_view seat.0.views seat.1))
     (λ id other h. gone_others (is_at (nat_cmp link)) old.seats.views seat.1 id at.1 other h) apart stay
     in
-    subst (IsHoused rules) (sym leaves.3) (record {
-      whole = keeps seat.0 leaves.0 (Left seat.1) nothing leaves.1 there.whole;
+    subst (IsHoused rules cut) (sym leaves.3) (record {
+      kept = keeps seat.0 leaves.0 (Left seat.1) nothing leaves.1 there.kept;
       none_out = ap (λ (x : Document S). x.jobs) new_is ∙ there.none_out;
       linked = subst (AllByRecursion (HasLink (without old.seats link).views)) (sym (ap (λ (x : Document S). ids_of x.views) new_is)) links;
     })
 
 -- a link that comes
-enters_by : {C B S : Type 0} (rules : Rules C B) (seats : Seats) (link : ℕ) (document : Option (Document S)) → IsHousedBy rules seats document → IsHousedBy rules (enters seats link) document
-enters_by rules seats link None housed = tt
-enters_by rules seats link (Some d) housed = record { whole = housed.whole; none_out = housed.none_out; linked = housed.linked }
+enters_by : {C B S : Type 0} (rules : Rules C B) (cut : C → Place → S) (seats : Seats) (link : ℕ) (document : Option (Document S)) → IsHousedBy rules cut seats document → IsHousedBy rules cut (enters seats link) document
+enters_by rules cut seats link None housed = tt
+enters_by rules cut seats link (Some d) housed = record { kept = housed.kept; none_out = housed.none_out; linked = housed.linked }
 
 -- an event
 pub takes_housed : {C B S : Type 0} (rules : Rules C B) (cut : C → Place → S) (keeps : Keeps rules cut) (event : Waiting) (old : House S) (out : List ℕ) (new : House S)
-    → IsHoused rules old → TakesOne rules cut event old out new → IsHoused rules new
-takes_housed rules cut keeps (Opened link) old out new housed takes = subst (IsHoused rules) (sym takes.1) (enters_by rules old.seats link old.document housed)
+    → IsHoused rules cut old → TakesOne rules cut event old out new → IsHoused rules cut new
+takes_housed rules cut keeps (Opened link) old out new housed takes = subst (IsHoused rules cut) (sym takes.1) (enters_by rules cut old.seats link old.document housed)
 takes_housed rules cut keeps (Loads link file writes) old out new housed takes = load_by rules cut keeps old link file (rights writes) out new (is_waiting old.seats link) refl housed takes
 takes_housed rules cut keeps (Says link text) old out new housed takes = says_by rules cut keeps old link text (seated old link) out new refl housed takes
 takes_housed rules cut keeps (Gone link) old out new housed takes = leaves_by rules cut keeps old link (seated old link) out new refl housed takes
 
--- a turn that did a work, its jobs answered
-works_seated : {C B S : Type 0} (rules : Rules C B) (cut : C → Place → S) (keeps : Keeps rules cut) (runs : (events : List (Event S)) (old new : Document S) (outs : Outs S) → Segment rules cut old events outs new → IsWhole rules old → IsWhole rules new)
-    (seats : Seats) (d e : Document S) (mid : Document S) (first later : Outs S) → Works rules cut d first mid → Segment rules cut mid (painted_all first.jobs) later e → IsSeated rules seats d → IsSeated rules seats e
-works_seated {C} {B} {S} rules cut keeps runs seats d e mid first later works answered housed = record {
-  whole = runs (painted_all first.jobs) mid e later answered (keeps d mid Turned first (inl works) housed.whole);
-  none_out = (at_once_lowers rules cut d mid e first later works housed.none_out housed.whole.kept answered).0;
-  linked = subst (AllByRecursion (HasLink seats.views)) (sym (ids-answers rules cut mid e first.jobs later answered ∙ ids-works rules cut d mid first works)) housed.linked;
-}
+-- the runs of kept documents
+pub runs_keep : {C B S : Type 0} (rules : Rules C B) (cut : C → Place → S) (keeps : Keeps rules cut) (events : List (Event S)) (old new : Document S) (outs : Outs S) → Segment rules cut old events outs new → IsKept rules cut old → IsKept rules cut new
+runs_keep rules cut keeps [] old new outs run kept = subst (IsKept rules cut) (sym run.1) kept
+runs_keep rules cut keeps (event ∷ events) old new outs run kept = runs_keep rules cut keeps events run.0 new run.2 run.4 (keeps old run.0 event run.1 run.3 kept)
 
-whole_runs : {C B S : Type 0} (rules : Rules C B) (cut : C → Place → S) (keeps : Keeps rules cut) (events : List (Event S)) (old new : Document S) (outs : Outs S) → Segment rules cut old events outs new → IsWhole rules old → IsWhole rules new
-whole_runs rules cut keeps [] old new outs run whole = subst (IsWhole rules) (sym run.1) whole
-whole_runs rules cut keeps (event ∷ events) old new outs run whole = whole_runs rules cut keeps events run.0 new run.2 run.4 (keeps old run.0 event run.1 run.3 whole)
+-- the work that a turn did
+pub works_of : {C B S : Type 0} (rules : Rules C B) (cut : C → Place → S) (old new : Document S) (frames : List (ViewId × Frame)) (at_once : WorksAtOnce rules cut old frames new) → Works rules cut old at_once.first at_once.mid
+works_of rules cut old new frames at_once = does_turn rules cut old at_once.mid (pick rules none_kept old) (Worked at_once.first) at_once.does
+
+-- a turn that did a work, its jobs answered
+works_seated : {C B S : Type 0} (rules : Rules C B) (cut : C → Place → S) (keeps : Keeps rules cut) (seats : Seats) (d e : Document S) (frames : List (ViewId × Frame)) → WorksAtOnce rules cut d frames e → IsSeated rules cut seats d → IsSeated rules cut seats e
+works_seated {C} {B} {S} rules cut keeps seats d e frames at_once housed =
+    let works : Works rules cut d at_once.first at_once.mid = works_of rules cut d e frames at_once in
+    record {
+      kept = runs_keep rules cut keeps (all_answered at_once.first) at_once.mid e at_once.later at_once.answered (keeps d at_once.mid Turned at_once.first (Worked at_once.first, works, refl) housed.kept);
+      none_out = (at_once_lowers rules cut d at_once.mid e at_once.first at_once.later works housed.none_out housed.kept at_once.answered).0;
+      linked = subst (AllByRecursion (HasLink seats.views)) (sym (ids-answers rules cut at_once.mid e at_once.first.jobs at_once.later at_once.answered ∙ ids-works rules cut d at_once.mid at_once.first works)) housed.linked;
+    }
 
 -- a turn of the document
 pub turns_housed : {C B S : Type 0} (rules : Rules C B) (cut : C → Place → S) (keeps : Keeps rules cut) (seats : Seats) (old : Option (Document S)) (out : List ℕ) (worked : Bool) (new : Option (Document S))
-    → IsHousedBy rules seats old → TurnsDocument rules cut seats old out worked new → IsHousedBy rules seats new
-turns_housed rules cut keeps seats None out worked new housed turns = subst (IsHousedBy rules seats) (sym turns.2) tt
+    → IsHousedBy rules cut seats old → TurnsDocument rules cut seats old out worked new → IsHousedBy rules cut seats new
+turns_housed rules cut keeps seats None out worked new housed turns = subst (IsHousedBy rules cut seats) (sym turns.2) tt
 turns_housed {C} {B} {S} rules cut keeps seats (Some d) out true new housed turns =
-    let works : WorksAtOnce rules cut d turns.1 turns.0 = turns.2 in
-    subst (IsHousedBy rules seats) (sym turns.4) (works_seated rules cut keeps (whole_runs rules cut keeps) seats d turns.0 works.mid works.first works.later works.works works.answered housed)
-turns_housed rules cut keeps seats (Some d) out false new housed turns = subst (IsHousedBy rules seats) (sym turns.2) housed
+    subst (IsHousedBy rules cut seats) (sym turns.4) (works_seated rules cut keeps seats d turns.0 turns.1 turns.2 housed)
+turns_housed rules cut keeps seats (Some d) out false new housed turns = subst (IsHousedBy rules cut seats) (sym turns.2) housed
 
 pub first_housed : {C B S : Type 0} (rules : Rules C B) (cut : C → Place → S) (keeps : Keeps rules cut) (waiting : List Waiting) (old : House S) (out : List ℕ) (rest : List Waiting) (new : House S)
-    → IsHoused rules old → TakesFirst rules cut waiting old out rest new → IsHoused rules new
-first_housed rules cut keeps [] old out rest new housed takes = subst (IsHoused rules) (sym takes.2) housed
+    → IsHoused rules cut old → TakesFirst rules cut waiting old out rest new → IsHoused rules cut new
+first_housed rules cut keeps [] old out rest new housed takes = subst (IsHoused rules cut) (sym takes.2) housed
 first_housed rules cut keeps (event ∷ events) old out rest new housed takes = takes_housed rules cut keeps event old out new housed takes.1
 
 -- a poll turn
 pub poll_housed : {C B S : Type 0} (rules : Rules C B) (cut : C → Place → S) (keeps : Keeps rules cut) (waiting : List Waiting) (old : House S) (out : List ℕ) (worked : Bool) (rest : List Waiting) (new : House S)
-    → IsHoused rules old → PollTurn rules cut waiting old out worked rest new → IsHoused rules new
+    → IsHoused rules cut old → PollTurn rules cut waiting old out worked rest new → IsHoused rules cut new
 poll_housed rules cut keeps waiting old out worked rest new housed turn =
     let mid = first_housed rules cut keeps waiting old turn.here rest turn.mid housed turn.takes in
-    subst (λ (seats : Seats). IsHousedBy rules seats new.document) (sym turn.stays)
+    subst (λ (seats : Seats). IsHousedBy rules cut seats new.document) (sym turn.stays)
     (turns_housed rules cut keeps turn.mid.seats turn.mid.document turn.later turn.turned new.document mid turn.turns)

@@ -7,9 +7,11 @@ use Rattle.std.specs.Option.{is_some}
 use Rattle.std.specs.Ordering.{nat_cmp, is_eq, match_ordering}
 use Rattle.std.specs.declared.cmp.Ordering.{Ordering}
 use Rattle.std.specs.declared.cmp.Ordering.TheVariants.{Less, Equal, Greater}
+use Rattle.document_laws.proofs.Heard.{heard_is, keeps}
+use Rattle.document_laws.specs.AtOnce.{answered}
 use Rattle.document_machine.specs.Due.{sent, takes}
 use Rattle.document_machine.specs.Keys.{Pairwise}
-use Rattle.document_machine.specs.Message.{Effect, Refuses, Greets, Inputs, Asks, Cancels, Looks, Zooms, GoesTo, Acknowledges, Passes, asks, cancels, looks, zooms, goes_to, acknowledged, took}
+use Rattle.document_machine.specs.Message.{Effect, heard}
 use Rattle.document_machine.specs.Run.{Segment}
 use Rattle.document_machine.specs.State.{View, Document, Job, find_view, with_view, without_view, find_job}
 use Rattle.document_machine.specs.Step.{Works, Paints, offered, views_offered}
@@ -17,7 +19,7 @@ use Rattle.document_machine.specs.declared.outs.Outs.{Outs}
 use Rattle.kit_trait.specs.Rules.{Rules}
 use Rattle.kit_trait.specs.declared.jobs.PaintJob.{PaintJob}
 use Rattle.tile_key.specs.Places.{Place}
-use Rattle.script_world.specs.House.{ids_of, painted_all}
+use Rattle.script_world.specs.House.{ids_of}
 use Rattle.script_world.specs.Seats.{link_in}
 
 -- one view changed
@@ -30,29 +32,8 @@ ids-with_view (v ∷ vs) id change same =
     ]
 
 -- a message
-pub ids-took : {C B S : Type 0} (rules : Rules C B) (d : Document S) (id : ℕ) (e : Effect) → ids_of (took rules d id e).views ≡ ids_of d.views
-ids-took rules d id (Refuses command kind) = refl
-ids-took rules d id Greets = refl
-ids-took rules d id (Inputs input) = refl
-ids-took rules d id (Asks asked) = ids-with_view d.views id (asks asked) (λ v. refl)
-ids-took rules d id Cancels = ids-with_view d.views id (cancels rules d) (λ v. refl)
-ids-took rules d id (Looks area) = ids-with_view d.views id (looks rules d area) (λ v. refl)
-ids-took rules d id (Zooms zoom) = ids-with_view d.views id (zooms rules d zoom) (λ v. refl)
-ids-took rules d id (GoesTo part) = ids-with_view d.views id (goes_to rules d part) (λ v. refl)
-ids-took rules d id (Acknowledges wids) = ids-with_view d.views id (acknowledged wids) (λ v. refl)
-ids-took rules d id Passes = refl
-
-pub jobs-took : {C B S : Type 0} (rules : Rules C B) (d : Document S) (id : ℕ) (e : Effect) → (took rules d id e).jobs ≡ d.jobs
-jobs-took rules d id (Refuses command kind) = refl
-jobs-took rules d id Greets = refl
-jobs-took rules d id (Inputs input) = refl
-jobs-took rules d id (Asks asked) = refl
-jobs-took rules d id Cancels = refl
-jobs-took rules d id (Looks area) = refl
-jobs-took rules d id (Zooms zoom) = refl
-jobs-took rules d id (GoesTo part) = refl
-jobs-took rules d id (Acknowledges wids) = refl
-jobs-took rules d id Passes = refl
+pub ids-heard : {S : Type 0} (d : Document S) (id : ℕ) (view : View) (e : Effect) → find_view d.views id ≡ Some view → e.view.id ≡ view.id → ids_of (heard d id e).views ≡ ids_of d.views
+ids-heard {S} d id view e live same = ap (λ (x : Document S). ids_of x.views) (heard_is d id view e live same) ∙ ids-with_view d.views id (keeps e.view) (λ v. refl)
 
 -- a work of a turn
 pub ids-works : {C B S : Type 0} (rules : Rules C B) (cut : C → Place → S) (old new : Document S) (outs : Outs S) → Works rules cut old outs new → ids_of new.views ≡ ids_of old.views
@@ -91,7 +72,7 @@ ids-paints {C} {B} {S} rules old new ticket scene outs (Some job) paints =
       | inr taken ↦ ap (λ (d : Document S). ids_of d.views) taken.2 ∙ ids-offered rules old job.number job.keys old.views
     ]
 
-pub ids-answers : {C B S : Type 0} (rules : Rules C B) (cut : C → Place → S) (old new : Document S) (jobs : List (PaintJob S)) (outs : Outs S) → Segment rules cut old (painted_all jobs) outs new → ids_of new.views ≡ ids_of old.views
+pub ids-answers : {C B S : Type 0} (rules : Rules C B) (cut : C → Place → S) (old new : Document S) (jobs : List (PaintJob S)) (outs : Outs S) → Segment rules cut old (map answered jobs) outs new → ids_of new.views ≡ ids_of old.views
 ids-answers {C} {B} {S} rules cut old new [] outs run = ap (λ (d : Document S). ids_of d.views) run.1
 ids-answers rules cut old new (job ∷ jobs) outs run =
     ids-answers rules cut run.0 new jobs run.2 run.4 ∙ ids-paints rules old run.0 job.ticket.0 job.scene run.1 (find_job old.jobs job.ticket.0) run.3

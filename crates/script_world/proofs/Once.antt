@@ -1,171 +1,148 @@
 -- What follows is one: from a house that keeps to its rules a poll turn, a move, and all that settles it write one
 -- thing and lead to one house.
-use Rattle.std.proofs.Common.{◌≡◌, ◌∙◌, ◌⊎◌, ℕ, zero, suc, ◌+◌, ◌<◌, Bool, true, false, ◌||◌, List, [], ◌∷◌, ◌++◌, length, map, nat_lt, Option, None, Some, inl, inr, refl, ap, sym, subst, arith}
-use Rattle.std.specs.Prelude.{slice_get}
+use Rattle.std.proofs.Common.{◌≡◌, ◌∙◌, ◌⊎◌, ℕ, zero, suc, ◌+◌, ◌<◌, Bool, true, false, cond, ◌||◌, List, [], ◌∷◌, ◌++◌, length, map, nat_lt, Option, None, Some, inl, inr, refl, ap, sym, subst, arith}
 use Rattle.std.specs.List.{AllByRecursion}
-use Rattle.std.proofs.lemmas.List.{append-nil}
 use Rattle.cool_base.specs.declared.ids.ViewId.{ViewId}
 use Rattle.cool_frame.specs.declared.frame.Frame.{Frame}
 use Rattle.document_laws.proofs.Idle.{next_by}
-use Rattle.document_laws.proofs.Lower.{found_view, some_input}
-use Rattle.document_machine.proofs.Lists.{nat_eq_self}
-use Rattle.document_machine.specs.Event.{Painted}
-use Rattle.document_machine.specs.Message.{effect, reply, took}
-use Rattle.document_machine.specs.Next.{none_kept, next_pair}
-use Rattle.document_machine.specs.Outputs.{frames_only}
+use Rattle.document_laws.proofs.Lower.{found_view}
+use Rattle.document_laws.specs.AtOnce.{answered, all_answered}
+use Rattle.document_machine.specs.Due.{sent, tile_frame}
+use Rattle.document_machine.specs.Message.{effect, reply, heard}
+use Rattle.document_machine.specs.Next.{Work, Apply, Send, Cut, Rest, none_kept, next_pair, serving_next, pick}
+use Rattle.document_machine.specs.Outputs.{frames_only, joined}
 use Rattle.document_machine.specs.Run.{Segment}
-use Rattle.document_machine.specs.State.{View, Job, Document, opening, find_view, find_job, without_job}
+use Rattle.document_machine.specs.State.{View, Job, Document, opening, find_view, with_view, find_job}
 use Rattle.send_window.specs.Tiles.{Sent}
-use Rattle.document_machine.specs.Step.{Step, Rests, Cuts, Paints, Says as MachineSays, JoinsWhere as MachineJoins, told, tiles_for, views_offered, given}
+use Rattle.document_machine.specs.Step.{Does, Sends, Rests, Cuts, Paints, Says as MachineSays, JoinsWhere as MachineJoins, told, given}
+use Rattle.document_machine.specs.declared.limits.TheConstants.{MOST_VIEWS}
 use Rattle.document_machine.specs.declared.outs.Outs.{Outs}
+use Rattle.document_machine.specs.declared.outs.Turned.TheVariants.{Worked}
 use Rattle.document_machine.specs.declared.rights.Rights.{Rights}
 use Rattle.kit_trait.specs.Rules.{Rules, doc}
 use Rattle.kit_trait.specs.declared.jobs.PaintJob.{PaintJob}
 use Rattle.kit_trait.specs.declared.values.Input.{Input}
-use Rattle.tile_key.specs.Places.{Place}
-use Rattle.script_world.specs.House.{House, rights, JoinsWhere, BeginsWhere, LoadsOne, LoadsWhere, seated, SaysAs, LeavesAs, TakesOne, TakesFirst, painted_all, WorksAtOnce, TurnsDocument, PollTurn, wids_of, acknowledges, acknowledgements_by, acknowledgements, IsHousedBy, IsHoused}
+use Rattle.tile_key.specs.Places.{Place, place_of_keys}
+use Rattle.script_world.specs.House.{House, rights, JoinsWhere, BeginsWhere, LoadsOne, LoadsWhere, seated, SaysAs, LeavesAs, TakesOne, TakesFirst, WorksAtOnce, TurnsDocument, PollTurn, wids_of, says_processed, acknowledgements_by, acknowledgements, IsHousedBy, IsHoused}
 use Rattle.script_world.specs.Seats.{Seats, is_waiting, sits, without, records}
 use Rattle.script_world.specs.World.{Seen, Move, Turn, Acknowledge, Moves, Chain, turns, RestsNow, IsIdle, Turned, Settled, IsAtRest}
 use Rattle.script_world.specs.declared.event.Waiting.{Waiting}
 use Rattle.script_world.specs.declared.event.Waiting.TheVariants.{Opened, Loads, Says, Gone}
 use Rattle.script_world.proofs.Housed.{Keeps, first_housed, poll_housed}
 
+none_behind : (n m : ℕ) → n ≡ m → nat_lt n m ≡ false
+none_behind n m is = grind arith
+
 module _ {C B S : Type 0} (rules : Rules C B) (cut : C → Place → S) where
-  -- what a turn that serves a key leads to, once its job is painted and answered
-  abbrev tiles_now : Document S → Place → List (ViewId × Frame)
-  tiles_now old key = tiles_for rules old old.applied (key ∷ []) old.views
+  -- the one job of a key that a turn may cut
+  abbrev job_now : Document S → Place → Job S
+  job_now old key = record {
+    ticket = old.next_ticket;
+    number = old.applied;
+    keys = key ∷ [];
+    area = place_of_keys (key ∷ []);
+    scene = cut (doc rules old.base old.journal old.applied) (place_of_keys (key ∷ []));
+  }
 
-  abbrev served : Document S → Place → Document S
-  served old key = record old { views = views_offered rules old old.applied (key ∷ []) old.views; jobs = []; next_ticket = old.next_ticket + 1 }
+  same_job : (old : Document S) (key : Place) (job : Job S) → job.ticket ≡ old.next_ticket → job.number ≡ old.applied → job.keys ≡ key ∷ [] → job.area ≡ place_of_keys job.keys
+      → job.scene ≡ cut (doc rules old.base old.journal old.applied) job.area → job ≡ job_now old key
+  same_job old key job ticket number keys area scene =
+      let here : job.area ≡ place_of_keys (key ∷ []) = area ∙ ap place_of_keys keys in
+      let shows : job.scene ≡ (job_now old key).scene = scene ∙ ap (cut (doc rules old.base old.journal old.applied)) here in
+      ap (λ (n : ℕ). record job { ticket = n }) ticket
+      ∙ ap (λ (n : ℕ). record job { ticket = old.next_ticket; number = n }) number
+      ∙ ap (λ (ks : List Place). record job { ticket = old.next_ticket; number = old.applied; keys = ks }) keys
+      ∙ ap (λ (place : Place). record job { ticket = old.next_ticket; number = old.applied; keys = key ∷ []; area = place }) here
+      ∙ ap (λ (s : S). record (job_now old key) { scene = s }) shows
 
-  abbrev applied : Document S → Document S
-  applied old = record old { applied = old.applied + 1 }
-
-  abbrev hurt_now : Document S → Input → List (ViewId × Frame)
-  hurt_now old input = told old.views (rules.hurt (doc rules old.base old.journal old.applied) input)
-
-  -- the one work that a turn did, and what came of it
-  abbrev IsApplied : Document S → List (ViewId × Frame) → Document S → Type 0
-  IsApplied old frames new = (input : Input) × (slice_get old.journal old.applied ≡ Some input) × (frames ≡ hurt_now old input) × (new ≡ applied old)
-
-  abbrev IsServed : Document S → List (ViewId × Frame) → Document S → Type 0
-  IsServed old frames new = (id : ℕ) × (key : Place) × (old.applied ≡ length old.journal) × (next_pair rules none_kept old ≡ Some (id, key)) × (frames ≡ tiles_now old key) × (new ≡ served old key)
-
-  abbrev cut_now : Document S → Job S → Document S
-  cut_now old job = record old { jobs = old.jobs ++ job ∷ []; next_ticket = old.next_ticket + 1 }
-
-  -- a job that is cut and answered at once: its tiles are offered, and it is gone
-  answered_at_once : (old new : Document S) (job : Job S) (outs : Outs S) → old.jobs ≡ [] → Step rules cut (cut_now old job) (Painted job.ticket job.scene) outs new
-      → (outs ≡ frames_only (tiles_for rules old job.number job.keys old.views))
-      × (new ≡ record old { views = views_offered rules old job.number job.keys old.views; jobs = []; next_ticket = old.next_ticket + 1 })
-  answered_at_once old new job outs none step =
-      let jobs_are : old.jobs ++ job ∷ [] ≡ job ∷ [] = ap (λ (js : List (Job S)). js ++ job ∷ []) none in
-      let here : find_job (job ∷ []) job.ticket ≡ Some job = rw (nat_eq_self job.ticket) refl in
-      let gone : without_job (job ∷ []) job.ticket ≡ [] = rw (nat_eq_self job.ticket) refl in
-      let found : find_job (old.jobs ++ job ∷ []) job.ticket ≡ Some job = ap (λ (js : List (Job S)). find_job js job.ticket) jobs_are ∙ here in
-      let left : without_job (old.jobs ++ job ∷ []) job.ticket ≡ [] = ap (λ (js : List (Job S)). without_job js job.ticket) jobs_are ∙ gone in
-      let paint = subst (Paints rules (cut_now old job) job.ticket job.scene outs new) found step in
-      elim paint [
-        | inl not_taken ↦ absurd (not_taken.0 refl)
-        | inr taken ↦ (
-          taken.1,
-          taken.2 ∙ ap (λ (js : List (Job S)). record old { views = views_offered rules old job.number job.keys old.views; jobs = js; next_ticket = old.next_ticket + 1 }) left,
-        )
-      ]
-
-  cut_at_once : (old mid new : Document S) (outs later : Outs S) (key : Place) → old.jobs ≡ [] → Cuts rules cut old outs mid → map (λ job. job.group) outs.jobs ≡ (key ∷ []) ∷ []
-      → Segment rules cut mid (painted_all outs.jobs) later new
-      → (outs.frames ++ later.frames ≡ tiles_now old key) × (new ≡ served old key)
-  cut_at_once old mid new outs later key none cuts groups answered =
-      let job : Job S = cuts.job in
-      let group : job.keys ∷ [] ≡ (key ∷ []) ∷ [] = sym (ap (λ (o : Outs S). map (λ (j : PaintJob S). j.group) o.jobs) cuts.outs_are) ∙ groups in
-      let keys : job.keys ≡ key ∷ [] = cc in
-      let run : Segment rules cut mid (Painted job.ticket job.scene ∷ []) later new = subst (λ (o : Outs S). Segment rules cut mid (painted_all o.jobs) later new) cuts.outs_are answered in
-      let step : Step rules cut (cut_now old job) (Painted job.ticket job.scene) run.1 run.0 = subst (λ (d : Document S). Step rules cut d (Painted job.ticket job.scene) run.1 run.0) cuts.new_is run.3 in
-      let done = answered_at_once old run.0 job run.1 none step in
-      let first : outs.frames ≡ [] = ap (λ (o : Outs S). o.frames) cuts.outs_are in
-      let more : later.frames ≡ run.1.frames ++ run.2.frames = ap (λ (o : Outs S). o.frames) run.5 in
-      let rest : run.2.frames ≡ [] = ap (λ (o : Outs S). o.frames) run.4.0 in
-      let tiles : run.1.frames ≡ tiles_for rules old job.number job.keys old.views = ap (λ (o : Outs S). o.frames) done.0 in (
-        ap (λ (xs : List (ViewId × Frame)). xs ++ later.frames) first ∙ more ∙ ap (λ (xs : List (ViewId × Frame)). run.1.frames ++ xs) rest ∙ append-nil run.1.frames ∙ tiles
-            ∙ ap (λ (n : ℕ). tiles_for rules old n job.keys old.views) cuts.number_is ∙ ap (λ (ks : List Place). tiles_for rules old old.applied ks old.views) keys,
-        run.4.1 ∙ done.1
-            ∙ ap (λ (n : ℕ). record old { views = views_offered rules old n job.keys old.views; jobs = []; next_ticket = old.next_ticket + 1 }) cuts.number_is
-            ∙ ap (λ (ks : List Place). record old { views = views_offered rules old old.applied ks old.views; jobs = []; next_ticket = old.next_ticket + 1 }) keys,
+  cuts_once : (old new : Document S) (outs : Outs S) (key : Place) (cuts : Cuts rules cut old outs new) → cuts.job.keys ≡ key ∷ []
+      → (outs ≡ record { frames = []; jobs = given (job_now old key) ∷ [] })
+      × (new ≡ record old { jobs = old.jobs ++ job_now old key ∷ []; next_ticket = old.next_ticket + 1 })
+  cuts_once old new outs key cuts keys =
+      let same = same_job old key cuts.job cuts.ticket_is cuts.number_is keys cuts.area_is cuts.scene_is in (
+        cuts.outs_are ∙ ap (λ (j : Job S). record { frames = []; jobs = given j ∷ [] }) same,
+        cuts.new_is ∙ ap (λ (j : Job S). record old { jobs = old.jobs ++ j ∷ []; next_ticket = old.next_ticket + 1 }) same,
       )
 
-  no_group : (key : Place) (jobs : List (PaintJob S)) → jobs ≡ [] → map (λ job. job.group) jobs ≡ (key ∷ []) ∷ [] → ⊥
-  no_group key [] none groups = let odd : [] ≡ (key ∷ []) ∷ [] = groups in absurd (cc)
-  no_group key (job ∷ jobs) none groups = absurd (cc)
+  -- a tile of the key in this version goes to the view with the id
+  sends_once : (old new : Document S) (outs : Outs S) (id : ℕ) (key : Place) (version : ℕ) (view : View) (sends : Sends rules old outs new) → sends.view.id ≡ id → sends.key ≡ key → sends.version ≡ version → find_view old.views id ≡ Some view
+      → (outs ≡ frames_only (tile_frame rules old version key view ∷ []))
+      × (new ≡ record old { views = with_view old.views id (sent rules old version key) })
+  sends_once old new outs id key version view sends is_id is_key is_version live =
+      let some : Some sends.view ≡ Some view = sym sends.live ∙ ap (find_view old.views) is_id ∙ live in
+      let same : sends.view ≡ view = cc in (
+        sends.outs_are ∙ ap (λ (v : View). frames_only (tile_frame rules old sends.version sends.key v ∷ [])) same
+            ∙ ap (λ (n : ℕ). frames_only (tile_frame rules old n sends.key view ∷ [])) is_version
+            ∙ ap (λ (k : Place). frames_only (tile_frame rules old version k view ∷ [])) is_key,
+        sends.new_is ∙ ap (λ (n : ℕ). record old { views = with_view old.views n (sent rules old sends.version sends.key) }) is_id
+            ∙ ap (λ (n : ℕ). record old { views = with_view old.views id (sent rules old n sends.key) }) is_version
+            ∙ ap (λ (k : Place). record old { views = with_view old.views id (sent rules old version k) }) is_key,
+      )
 
-  one_work : (old new : Document S) (frames : List (ViewId × Frame)) → old.jobs ≡ [] → WorksAtOnce rules cut old frames new → IsApplied old frames new ⊎ IsServed old frames new
-  one_work old new frames none work =
-      elim (work.works) [
-        | inl applies ↦
-            let run = subst (λ (o : Outs S). Segment rules cut work.mid (painted_all o.jobs) work.later new) applies.outs_are work.answered in
-            let first : work.first.frames ≡ hurt_now old applies.input = ap (λ (o : Outs S). o.frames) applies.outs_are in
-            let rest : work.later.frames ≡ [] = ap (λ (o : Outs S). o.frames) run.0 in
-            inl (
-              applies.input,
-              applies.behind,
-              work.frames_are ∙ ap (λ (xs : List (ViewId × Frame)). xs ++ work.later.frames) first ∙ ap (λ (xs : List (ViewId × Frame)). hurt_now old applies.input ++ xs) rest ∙ append-nil (hurt_now old applies.input),
-              run.1 ∙ applies.new_is,
-            )
-        | inr other ↦ elim other [
-          | inl sends ↦
-              let first = work.in_order sends.level in
-              absurd (no_group first.1 work.first.jobs (ap (λ (o : Outs S). o.jobs) sends.outs_are) first.3)
-          | inr cuts ↦
-              let first = work.in_order cuts.level in
-              let done = cut_at_once old work.mid new work.first work.later first.1 none cuts first.3 work.answered in
-              inr (first.0, first.1, cuts.level, first.2, work.frames_are ∙ done.0, done.1)
-        ]
+  -- what one work gives out, and the document after it
+  does_once : (work : Work) (old new other : Document S) (outs others : Outs S) → Does rules cut old work (Worked outs) new → Does rules cut old work (Worked others) other → (outs ≡ others) × (new ≡ other)
+  does_once Apply old new other outs others a b =
+      let some : Some a.input ≡ Some b.input = sym a.behind ∙ b.behind in
+      let same : a.input ≡ b.input = cc in (
+        a.outs_are ∙ ap (λ (input : Input). frames_only (told old.views (rules.hurt (doc rules old.base old.journal old.applied) input))) same ∙ sym b.outs_are,
+        a.new_is ∙ sym b.new_is,
+      )
+  does_once (Send id key version) old new other outs others a b =
+      let live : find_view old.views id ≡ Some a.0.view = ap (find_view old.views) (sym a.1) ∙ a.0.live in
+      let one = sends_once old new outs id key version a.0.view a.0 a.1 a.2 a.3 live in
+      let two = sends_once old other others id key version a.0.view b.0 b.1 b.2 b.3 live in
+      (one.0 ∙ sym two.0, one.1 ∙ sym two.1)
+  does_once (Cut id key) old new other outs others a b =
+      let one = cuts_once old new outs key a.0 a.1 in
+      let two = cuts_once old other others key b.0 b.1 in
+      (one.0 ∙ sym two.0, one.1 ∙ sym two.1)
+  does_once Rest old new other outs others a b = absurd a
+
+  -- a painted result, and the answers to some jobs
+  paints_once : (old new other : Document S) (ticket : ℕ) (scene : S) (outs others : Outs S) (job : Option (Job S)) → Paints rules old ticket scene outs new job → Paints rules old ticket scene others other job → (outs ≡ others) × (new ≡ other)
+  paints_once old new other ticket scene outs others None a b = (a.0 ∙ sym b.0, a.1 ∙ sym b.1)
+  paints_once old new other ticket scene outs others (Some job) a b =
+      elim a [
+        | inl x ↦ elim b [ inl y ↦ (x.1 ∙ sym y.1, x.2 ∙ sym y.2) | inr y ↦ absurd (x.0 y.0) ]
+        | inr x ↦ elim b [ inl y ↦ absurd (y.0 x.0) | inr y ↦ (x.1 ∙ sym y.1, x.2 ∙ sym y.2) ]
       ]
 
-  not_behind : (old : Document S) (input : Input) → slice_get old.journal old.applied ≡ Some input → old.applied ≡ length old.journal → ⊥
-  not_behind old input behind level = let less : old.applied < length old.journal = some_input old.journal old.applied input behind in omega (arith, less, level)
+  answers_once : (jobs : List (PaintJob S)) (old new other : Document S) (outs others : Outs S) → Segment rules cut old (map answered jobs) outs new → Segment rules cut old (map answered jobs) others other → (outs ≡ others) × (new ≡ other)
+  answers_once [] old new other outs others a b = (a.0 ∙ sym b.0, a.1 ∙ sym b.1)
+  answers_once (job ∷ jobs) old new other outs others a b =
+      let one = paints_once old a.0 b.0 job.ticket.0 job.scene a.1 b.1 (find_job old.jobs job.ticket.0) a.3 b.3 in
+      let run : Segment rules cut a.0 (map answered jobs) b.2 other = subst (λ (d : Document S). Segment rules cut d (map answered jobs) b.2 other) (sym one.1) b.4 in
+      let more = answers_once jobs a.0 new other a.2 b.2 a.4 run in
+      (a.5 ∙ ap (λ (o : Outs S). joined o a.2) one.0 ∙ ap (λ (o : Outs S). joined b.1 o) more.0 ∙ sym b.5, more.1)
 
-  works_once : (old new other : Document S) (frames others : List (ViewId × Frame)) → old.jobs ≡ [] → WorksAtOnce rules cut old frames new → WorksAtOnce rules cut old others other → (frames ≡ others) × (new ≡ other)
-  works_once old new other frames others none work too =
-      elim (one_work old new frames none work) [
-        | inl a ↦ elim (one_work old other others none too) [
-          | inl b ↦
-              let some : Some a.0 ≡ Some b.0 = sym a.1 ∙ b.1 in
-              let same : a.0 ≡ b.0 = cc in
-              (a.2 ∙ ap (hurt_now old) same ∙ sym b.2, a.3 ∙ sym b.3)
-          | inr b ↦ absurd (not_behind old a.0 a.1 b.2)
-        ]
-        | inr a ↦ elim (one_work old other others none too) [
-          | inl b ↦ absurd (not_behind old b.0 b.1 a.2)
-          | inr b ↦
-              let some : Some (a.0, a.1) ≡ Some (b.0, b.1) = sym a.3 ∙ b.3 in
-              let pair : (a.0, a.1) ≡ (b.0, b.1) = cc in
-              let same : a.1 ≡ b.1 = ap (λ (p : ℕ × Place). p.1) pair in
-              (a.4 ∙ ap (tiles_now old) same ∙ sym b.4, a.5 ∙ ap (served old) same ∙ sym b.5)
-        ]
-      ]
-
-  something : (pair : ℕ × Place) → Some pair ≡ None → ⊥
-  something pair none = absurd (cc)
+  works_once : (old new other : Document S) (frames others : List (ViewId × Frame)) → WorksAtOnce rules cut old frames new → WorksAtOnce rules cut old others other → (frames ≡ others) × (new ≡ other)
+  works_once old new other frames others a b =
+      let one = does_once (pick rules none_kept old) old a.mid b.mid a.first b.first a.does b.does in
+      let at : Segment rules cut a.mid (all_answered b.first) b.later other = subst (λ (d : Document S). Segment rules cut d (all_answered b.first) b.later other) (sym one.1) b.answered in
+      let run : Segment rules cut a.mid (all_answered a.first) b.later other = subst (λ (o : Outs S). Segment rules cut a.mid (all_answered o) b.later other) (sym one.0) at in
+      let more = answers_once a.first.jobs a.mid new other a.later b.later a.answered run in (
+        a.frames_are ∙ ap (λ (o : Outs S). o.frames ++ a.later.frames) one.0 ∙ ap (λ (o : Outs S). b.first.frames ++ o.frames) more.0 ∙ sym b.frames_are,
+        more.1,
+      )
 
   -- a turn that does a work isn't one with nothing to do
-  work_or_rest : (old new : Document S) (frames : List (ViewId × Frame)) → old.jobs ≡ [] → WorksAtOnce rules cut old frames new → Rests rules old → ⊥
-  work_or_rest old new frames none work rests =
-      elim (one_work old new frames none work) [
-        | inl a ↦ not_behind old a.0 a.1 rests.level
-        | inr a ↦ something (a.0, a.1) (sym a.3 ∙ next_by rules old rests)
-      ]
+  work_or_rest : (old new : Document S) (frames : List (ViewId × Frame)) → WorksAtOnce rules cut old frames new → Rests rules old → ⊥
+  work_or_rest old new frames work rests =
+      let all : nat_lt old.applied (length old.journal) ≡ false = none_behind old.applied (length old.journal) rests.level in
+      let is : pick rules none_kept old ≡ Rest =
+      ap (λ (b : Bool). cond b Apply (serving_next none_kept (next_pair rules none_kept old))) all ∙ ap (serving_next none_kept) (next_by rules old rests) in
+      subst (λ (w : Work). Does rules cut old w (Worked work.first) work.mid) is work.does
 
   -- a turn of the document
   document_once : (seats : Seats) (old : Option (Document S)) (out others : List ℕ) (worked too : Bool) (new other : Option (Document S))
-      → IsHousedBy rules seats old → TurnsDocument rules cut seats old out worked new → TurnsDocument rules cut seats old others too other
+      → IsHousedBy rules cut seats old → TurnsDocument rules cut seats old out worked new → TurnsDocument rules cut seats old others too other
       → (out ≡ others) × (worked ≡ too) × (new ≡ other)
   document_once seats None out others worked too new other housed a b = (a.0 ∙ sym b.0, a.1 ∙ sym b.1, a.2 ∙ sym b.2)
   document_once seats (Some d) out others true true new other housed a b =
-      let same = works_once d a.0 b.0 a.1 b.1 housed.none_out a.2 b.2 in
+      let same = works_once d a.0 b.0 a.1 b.1 a.2 b.2 in
       (a.3 ∙ ap (records seats) same.0 ∙ sym b.3, refl, a.4 ∙ ap Some same.1 ∙ sym b.4)
-  document_once seats (Some d) out others true false new other housed a b = absurd (work_or_rest d a.0 a.1 housed.none_out a.2 b.1)
-  document_once seats (Some d) out others false true new other housed a b = absurd (work_or_rest d b.0 b.1 housed.none_out b.2 a.1)
+  document_once seats (Some d) out others true false new other housed a b = absurd (work_or_rest d a.0 a.1 a.2 b.1)
+  document_once seats (Some d) out others false true new other housed a b = absurd (work_or_rest d b.0 b.1 b.2 a.1)
   document_once seats (Some d) out others false false new other housed a b = (a.0 ∙ sym b.0, refl, a.2 ∙ sym b.2)
 
   -- an event
@@ -176,7 +153,7 @@ module _ {C B S : Type 0} (rules : Rules C B) (cut : C → Place → S) where
   joins_once : (b : Bool) (seats : Seats) (link : ℕ) (given : Rights) (old : Document S) (out others : List ℕ) (new other : House S)
       → JoinsWhere b rules cut seats link given old out new → JoinsWhere b rules cut seats link given old others other → (out ≡ others) × (new ≡ other)
   joins_once true seats link given old out others new other a b =
-      let same = machine_joins_once (nat_lt (length old.views) 64) old a.0 b.0 given a.1 b.1 a.2 b.2 in (
+      let same = machine_joins_once (nat_lt (length old.views) MOST_VIEWS) old a.0 b.0 given a.1 b.1 a.2 b.2 in (
         a.4 ∙ ap (λ (o : Outs S). records (sits seats link old.next_view) o.frames) same.0 ∙ sym b.4,
         a.3 ∙ ap (λ (d : Document S). record { seats = sits seats link old.next_view; document = Some d }) same.1 ∙ sym b.3,
       )
@@ -190,7 +167,7 @@ module _ {C B S : Type 0} (rules : Rules C B) (cut : C → Place → S) where
   loads_once : (document : Option (Document S)) (seats : Seats) (link : ℕ) (file : List ℕ) (given : Rights) (out others : List ℕ) (new other : House S)
       → LoadsOne rules cut seats document link file given out new → LoadsOne rules cut seats document link file given others other → (out ≡ others) × (new ≡ other)
   loads_once None seats link file given out others new other a b = begins_once (rules.accepts []) seats link file given out others new other a b
-  loads_once (Some d) seats link file given out others new other a b = joins_once (nat_lt (length d.views) 64) seats link given d out others new other a b
+  loads_once (Some d) seats link file given out others new other a b = joins_once (nat_lt (length d.views) MOST_VIEWS) seats link given d out others new other a b
 
   load_once : (b : Bool) (old : House S) (link : ℕ) (file : List ℕ) (given : Rights) (out others : List ℕ) (new other : House S)
       → LoadsWhere b rules cut old link file given out new → LoadsWhere b rules cut old link file given others other → (out ≡ others) × (new ≡ other)
@@ -202,7 +179,7 @@ module _ {C B S : Type 0} (rules : Rules C B) (cut : C → Place → S) where
       let some : Some a.view ≡ Some b.view = sym a.live ∙ b.live in
       let same : a.view ≡ b.view = cc in (
         a.outs_are ∙ ap (λ (v : View). reply id (effect rules old v text)) same ∙ sym b.outs_are,
-        a.new_is ∙ ap (λ (v : View). took rules old id (effect rules old v text)) same ∙ sym b.new_is,
+        a.new_is ∙ ap (λ (v : View). heard old id (effect rules old v text)) same ∙ sym b.new_is,
       )
 
   says_once : (old : House S) (link : ℕ) (text : List ℕ) (found : Option (Document S × ℕ)) (out others : List ℕ) (new other : House S)
@@ -241,11 +218,11 @@ module _ {C B S : Type 0} (rules : Rules C B) (cut : C → Place → S) where
 
   -- a poll turn
   poll_once : (keeps : Keeps rules cut) (waiting : List Waiting) (old : House S) (out others : List ℕ) (worked too : Bool) (rest more : List Waiting) (new other : House S)
-      → IsHoused rules old → PollTurn rules cut waiting old out worked rest new → PollTurn rules cut waiting old others too more other
+      → IsHoused rules cut old → PollTurn rules cut waiting old out worked rest new → PollTurn rules cut waiting old others too more other
       → (out ≡ others) × (worked ≡ too) × (rest ≡ more) × (new ≡ other)
   poll_once keeps waiting old out others worked too rest more new other housed a b =
       let first = first_once waiting old a.here b.here rest more a.mid b.mid a.takes b.takes in
-      let mid : IsHoused rules b.mid = first_housed rules cut keeps waiting old b.here more b.mid housed b.takes in
+      let mid : IsHoused rules cut b.mid = first_housed rules cut keeps waiting old b.here more b.mid housed b.takes in
       let turn : TurnsDocument rules cut b.mid.seats b.mid.document a.later a.turned new.document = subst (λ (h : House S). TurnsDocument rules cut h.seats h.document a.later a.turned new.document) first.2 a.turns in
       let same = document_once b.mid.seats b.mid.document a.later b.later a.turned b.turned new.document other.document mid turn b.turns in
       let seats : new.seats ≡ other.seats = a.stays ∙ ap (λ (h : House S). h.seats) first.2 ∙ sym b.stays in (
@@ -257,13 +234,13 @@ module _ {C B S : Type 0} (rules : Rules C B) (cut : C → Place → S) where
 
   -- where nothing waits and the document rests, no poll turn works
   no_work : (seats : Seats) (document : Option (Document S)) (out : List ℕ) (worked : Bool) (new : Option (Document S))
-      → IsHousedBy rules seats document → RestsNow rules document → TurnsDocument rules cut seats document out worked new → worked ≡ true → ⊥
+      → IsHousedBy rules cut seats document → RestsNow rules document → TurnsDocument rules cut seats document out worked new → worked ≡ true → ⊥
   no_work seats None out worked new housed rests turn works = let odd : false ≡ true = sym turn.1 ∙ works in absurd (cc)
-  no_work seats (Some d) out true new housed rests turn works = work_or_rest d turn.0 turn.1 housed.none_out turn.2 rests
+  no_work seats (Some d) out true new housed rests turn works = work_or_rest d turn.0 turn.1 turn.2 rests
   no_work seats (Some d) out false new housed rests turn works = absurd (cc)
 
   still : (waiting : List Waiting) (old : House S) (out : List ℕ) (rest : List Waiting) (new : House S)
-      → IsHoused rules old → waiting ≡ [] → RestsNow rules old.document → PollTurn rules cut waiting old out true rest new → ⊥
+      → IsHoused rules cut old → waiting ≡ [] → RestsNow rules old.document → PollTurn rules cut waiting old out true rest new → ⊥
   still [] old out rest new housed none rests turn =
       no_work old.seats old.document turn.later turn.turned new.document housed rests
       (subst (λ (h : House S). TurnsDocument rules cut h.seats h.document turn.later turn.turned new.document) turn.takes.2 turn.turns) (sym turn.worked_is)
@@ -277,7 +254,7 @@ module _ {C B S : Type 0} (rules : Rules C B) (cut : C → Place → S) where
   none_acknowledge : (d : Document S) (seats : List (ℕ × ℕ)) → AllByRecursion (λ (v : View). v.window ≡ []) d.views → acknowledgements_by (Some d) seats ≡ []
   none_acknowledge d [] empty = refl
   none_acknowledge d (seat ∷ seats) empty =
-      ap (λ (wids : List ℕ). acknowledges seat.0 wids ++ acknowledgements_by (Some d) seats) (empty_window d seat.1 (find_view d.views seat.1) empty refl) ∙ none_acknowledge d seats empty
+      ap (λ (wids : List ℕ). says_processed seat.0 wids ++ acknowledgements_by (Some d) seats) (empty_window d seat.1 (find_view d.views seat.1) empty refl) ∙ none_acknowledge d seats empty
 
   nobody_acknowledges : (seats : List (ℕ × ℕ)) → acknowledgements_by {S = S} None seats ≡ []
   nobody_acknowledges [] = refl
@@ -297,7 +274,7 @@ module _ {C B S : Type 0} (rules : Rules C B) (cut : C → Place → S) where
       ap (λ (w : List Waiting). record { waiting = w; house = s.house }) waiting ∙ ap (λ (h : House S). record { waiting = t.waiting; house = h }) house
 
   move_once : (keeps : Keeps rules cut) (move too : Move) (s t u : Seen S) (out others : List ℕ)
-      → IsHoused rules s.house → Moves rules cut move s out t → Moves rules cut too s others u → (out ≡ others) × (t ≡ u)
+      → IsHoused rules cut s.house → Moves rules cut move s out t → Moves rules cut too s others u → (out ≡ others) × (t ≡ u)
   move_once keeps Turn Turn s t u out others housed a b =
       let same = poll_once keeps s.waiting s.house out others true true t.waiting u.waiting t.house u.house housed a b in
       (same.0, same_seen t u same.2 same.3)
@@ -305,16 +282,16 @@ module _ {C B S : Type 0} (rules : Rules C B) (cut : C → Place → S) where
   move_once keeps Acknowledge Turn s t u out others housed a b = absurd (still s.waiting s.house others u.waiting u.house housed a.0.0 a.0.1 b)
   move_once keeps Acknowledge Acknowledge s t u out others housed a b = (a.2 ∙ sym b.2, a.3 ∙ sym b.3)
 
-  move_housed : (keeps : Keeps rules cut) (move : Move) (s t : Seen S) (out : List ℕ) → IsHoused rules s.house → Moves rules cut move s out t → IsHoused rules t.house
+  move_housed : (keeps : Keeps rules cut) (move : Move) (s t : Seen S) (out : List ℕ) → IsHoused rules cut s.house → Moves rules cut move s out t → IsHoused rules cut t.house
   move_housed keeps Turn s t out housed a = poll_housed rules cut keeps s.waiting s.house out true t.waiting t.house housed a
-  move_housed keeps Acknowledge s t out housed a = subst (λ (x : Seen S). IsHoused rules x.house) (sym a.3) housed
+  move_housed keeps Acknowledge s t out housed a = subst (λ (x : Seen S). IsHoused rules cut x.house) (sym a.3) housed
 
-  pub chain_housed : (keeps : Keeps rules cut) (moves : List Move) (s t : Seen S) (out : List ℕ) → IsHoused rules s.house → Chain (Moves rules cut) moves s out t → IsHoused rules t.house
-  chain_housed keeps [] s t out housed a = subst (λ (x : Seen S). IsHoused rules x.house) (sym a.1) housed
+  pub chain_housed : (keeps : Keeps rules cut) (moves : List Move) (s t : Seen S) (out : List ℕ) → IsHoused rules cut s.house → Chain (Moves rules cut) moves s out t → IsHoused rules cut t.house
+  chain_housed keeps [] s t out housed a = subst (λ (x : Seen S). IsHoused rules cut x.house) (sym a.1) housed
   chain_housed keeps (move ∷ moves) s t out housed a = chain_housed keeps moves a.0 t a.2 (move_housed keeps move s a.0 a.1 housed a.3) a.4
 
   -- a house at rest makes no move
-  no_move : (move : Move) (s t : Seen S) (out : List ℕ) → IsHoused rules s.house → s.waiting ≡ [] → IsAtRest rules s.house.document → Moves rules cut move s out t → ⊥
+  no_move : (move : Move) (s t : Seen S) (out : List ℕ) → IsHoused rules cut s.house → s.waiting ≡ [] → IsAtRest rules s.house.document → Moves rules cut move s out t → ⊥
   no_move Turn s t out housed none rest a = still s.waiting s.house out t.waiting t.house housed none (rest_is_idle s.house.document rest) a
   no_move Acknowledge s t out housed none rest a =
       let silent : length (acknowledgements s.house) ≡ length {A = Waiting} [] = ap length (rest_is_silent s.house.document s.house.seats.views rest) in
@@ -322,7 +299,7 @@ module _ {C B S : Type 0} (rules : Rules C B) (cut : C → Place → S) where
 
   -- moves up to where all is at rest
   chain_once : (keeps : Keeps rules cut) (moves too : List Move) (s t u : Seen S) (out others : List ℕ)
-      → IsHoused rules s.house → Chain (Moves rules cut) moves s out t → Chain (Moves rules cut) too s others u
+      → IsHoused rules cut s.house → Chain (Moves rules cut) moves s out t → Chain (Moves rules cut) too s others u
       → t.waiting ≡ [] → IsAtRest rules t.house.document → u.waiting ≡ [] → IsAtRest rules u.house.document → (out ≡ others) × (t ≡ u)
   chain_once keeps [] [] s t u out others housed a b none rest still_none still_rest = (a.0 ∙ sym b.0, a.1 ∙ sym b.1)
   chain_once keeps [] (move ∷ moves) s t u out others housed a b none rest still_none still_rest =
@@ -353,14 +330,14 @@ module _ {C B S : Type 0} (rules : Rules C B) (cut : C → Place → S) where
 
   -- no turn is left to make
   none_left : (made n count : ℕ) (s t next u : Seen S) (out : List ℕ)
-      → IsHoused rules s.house → t ≡ s → Reaches (made + 0) count t → Reaches (made + suc n) count u → Moves rules cut Turn s out next → ⊥
+      → IsHoused rules cut s.house → t ≡ s → Reaches (made + 0) count t → Reaches (made + suc n) count u → Moves rules cut Turn s out next → ⊥
   none_left made n count s t next u out housed same (inl is) further turn = too_many made n count u (omega (arith, is)) further
   none_left made n count s t next u out housed same (inr idle) further turn =
       let here : IsIdle rules s = subst (IsIdle rules) same idle.1 in
       still s.waiting s.house out next.waiting next.house housed here.0 here.1 turn
 
   turns_once : (keeps : Keeps rules cut) (made n m count : ℕ) (s t u : Seen S) (out others : List ℕ)
-      → IsHoused rules s.house → Chain (Moves rules cut) (turns n) s out t → Chain (Moves rules cut) (turns m) s others u
+      → IsHoused rules cut s.house → Chain (Moves rules cut) (turns n) s out t → Chain (Moves rules cut) (turns m) s others u
       → Reaches (made + n) count t → Reaches (made + m) count u → (out ≡ others) × (t ≡ u)
   turns_once keeps made zero zero count s t u out others housed a b all every = (a.0 ∙ sym b.0, a.1 ∙ sym b.1)
   turns_once keeps made zero (suc m) count s t u out others housed a b all every = absurd (none_left made m count s t b.0 u b.1 housed a.1 all every b.3)
@@ -373,11 +350,11 @@ module _ {C B S : Type 0} (rules : Rules C B) (cut : C → Place → S) where
 
   -- what the lines `turn` and `settle` write, and the world behind them
   pub turned_once : (keeps : Keeps rules cut) (count : ℕ) (s t u : Seen S) (out others : List ℕ)
-      → IsHoused rules s.house → Turned rules cut count s out t → Turned rules cut count s others u → (out ≡ others) × (t ≡ u)
+      → IsHoused rules cut s.house → Turned rules cut count s out t → Turned rules cut count s others u → (out ≡ others) × (t ≡ u)
   turned_once keeps count s t u out others housed a b =
       turns_once keeps 0 a.made b.made count s t u out others housed a.follows b.follows (from_none a.made count t a.all) (from_none b.made count u b.all)
 
   pub settled_once : (keeps : Keeps rules cut) (s t u : Seen S) (out others : List ℕ)
-      → IsHoused rules s.house → Settled rules cut s out t → Settled rules cut s others u → (out ≡ others) × (t ≡ u)
+      → IsHoused rules cut s.house → Settled rules cut s out t → Settled rules cut s others u → (out ≡ others) × (t ≡ u)
   settled_once keeps s t u out others housed a b =
       chain_once keeps a.moves b.moves s t u out others housed a.follows b.follows a.none_waits a.rests b.none_waits b.rests

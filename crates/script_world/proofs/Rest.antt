@@ -25,7 +25,7 @@ use Rattle.document_machine.specs.State.{View, Document, find_view}
 use Rattle.send_window.specs.Tiles.{Sent}
 use Rattle.kit_trait.specs.Rules.{Rules}
 use Rattle.tile_key.specs.Places.{Place}
-use Rattle.script_world.specs.House.{House, seated, seated_at, SaysAs, TakesOne, wids_of, window_in, acknowledges, acknowledgements_by, acknowledgements, ids_of, IsSeated, IsHousedBy, IsHoused}
+use Rattle.script_world.specs.House.{House, seated, seated_at, SaysAs, TakesOne, wids_of, window_in, says_processed, acknowledgements_by, acknowledgements, ids_of, IsSeated, IsHousedBy, IsHoused}
 use Rattle.script_world.specs.Moved.{Came, TurnWritten, AllAcknowledge, AreSmall, left_of}
 use Rattle.script_world.specs.Seats.{Seats, view_of, link_in}
 use Rattle.script_run.proofs.Moves.{adds_nothing}
@@ -54,23 +54,23 @@ window_read {C} {B} {S} rules d id (Some view) wid wids kept is has small =
     let few : length view.window ≤ 64 = (found_view (IsViewKept rules d) d.views id view kept is).window_few in
     subst (λ (w : List ℕ). reading (written (TileProcessed w)) ≡ Ok (TileProcessed w)) has (written_read rules d view (some_window view wid wids has) few small)
 
-seat_acks : {C B S : Type 0} (rules : Rules C B) (document : Option (Document S)) (seats : Seats) (link id : ℕ) (wids : List ℕ) → IsHousedBy rules seats document → window_in document id ≡ wids
-    → AllByRecursion (λ (n : ℕ). n < 2 ^ 64) (window_in document id) → AllAcknowledge (acknowledges link wids)
-seat_acks rules document seats link id [] housed is small = tt
-seat_acks rules None seats link id (wid ∷ wids) housed is small = absurd (cc)
-seat_acks rules (Some d) seats link id (wid ∷ wids) housed is small =
-    ((wid ∷ wids, window_read rules d id (find_view d.views id) wid wids housed.whole.kept.each refl is small), tt)
+seat_acks : {C B S : Type 0} (rules : Rules C B) (cut : C → Place → S) (document : Option (Document S)) (seats : Seats) (link id : ℕ) (wids : List ℕ) → IsHousedBy rules cut seats document → window_in document id ≡ wids
+    → AllByRecursion (λ (n : ℕ). n < 2 ^ 64) (window_in document id) → AllAcknowledge (says_processed link wids)
+seat_acks rules cut document seats link id [] housed is small = tt
+seat_acks rules cut None seats link id (wid ∷ wids) housed is small = absurd (cc)
+seat_acks rules cut (Some d) seats link id (wid ∷ wids) housed is small =
+    ((wid ∷ wids, window_read rules d id (find_view d.views id) wid wids housed.kept.each refl is small), tt)
 
 acks_append : (a b : List Waiting) → AllAcknowledge a → AllAcknowledge b → AllAcknowledge (a ++ b)
 acks_append [] b one other = other
 acks_append (x ∷ a) b one other = (one.0, acks_append a b one.1 other)
 
 -- all of them are acknowledgements
-pub all_acks : {C B S : Type 0} (rules : Rules C B) (document : Option (Document S)) (seats : Seats) (views : List (ℕ × ℕ)) → IsHousedBy rules seats document → AreSmall document views → AllAcknowledge (acknowledgements_by document views)
-all_acks rules document seats [] housed small = tt
-all_acks rules document seats (seat ∷ views) housed small =
-    acks_append (acknowledges seat.0 (window_in document seat.1)) (acknowledgements_by document views)
-    (seat_acks rules document seats seat.0 seat.1 (window_in document seat.1) housed refl small.0) (all_acks rules document seats views housed small.1)
+pub all_acks : {C B S : Type 0} (rules : Rules C B) (cut : C → Place → S) (document : Option (Document S)) (seats : Seats) (views : List (ℕ × ℕ)) → IsHousedBy rules cut seats document → AreSmall document views → AllAcknowledge (acknowledgements_by document views)
+all_acks rules cut document seats [] housed small = tt
+all_acks rules cut document seats (seat ∷ views) housed small =
+    acks_append (says_processed seat.0 (window_in document seat.1)) (acknowledgements_by document views)
+    (seat_acks rules cut document seats seat.0 seat.1 (window_in document seat.1) housed refl small.0) (all_acks rules cut document seats views housed small.1)
 
 -- the first of them: its link is a view with an unacknowledged tile
 pub record IsFirst {S : Type 0} (document : Option (Document S)) (views : List (ℕ × ℕ)) (event : Waiting) : Type 1 where
@@ -106,7 +106,7 @@ later_at link other id found views apart at = subst (λ (b : Bool). cond b (Some
 first_by : {S : Type 0} (document : Option (Document S)) (seat : ℕ × ℕ) (views : List (ℕ × ℕ)) (wids : List ℕ) (event : Waiting) (events : List Waiting)
     → window_in document seat.1 ≡ wids → AllByRecursion (λ (n : ℕ). n < 2 ^ 64) (window_in document seat.1) → IsStrictlySortedBy nat_cmp (map (λ (e : ℕ × ℕ). e.0) (seat ∷ views))
     → (acknowledgements_by document views ≡ event ∷ events → IsFirst document views event)
-    → acknowledges seat.0 wids ++ acknowledgements_by document views ≡ event ∷ events → IsFirst document (seat ∷ views) event
+    → says_processed seat.0 wids ++ acknowledgements_by document views ≡ event ∷ events → IsFirst document (seat ∷ views) event
 first_by document seat views [] event events is small sorted further all =
     let f = further all in
     record {
@@ -157,7 +157,7 @@ seated_is {S} d id view live =
 
 -- the first acknowledgement leaves less to do
 first_less : {C B S : Type 0} (rules : Rules C B) (cut : C → Place → S) (old : House S) (document : Option (Document S)) (event : Waiting) (out : List ℕ) (new : House S)
-    → old.document ≡ document → IsHousedBy rules old.seats document → IsFirst document old.seats.views event → TakesOne rules cut event old out new → left_of rules new.document < left_of rules document
+    → old.document ≡ document → IsHousedBy rules cut old.seats document → IsFirst document old.seats.views event → TakesOne rules cut event old out new → left_of rules new.document < left_of rules document
 first_less rules cut old None event out new is housed first takes = let odd : [] ≡ first.wid ∷ first.wids = first.window in absurd (cc)
 first_less {C} {B} {S} rules cut old (Some d) event out new is housed first takes =
     let tiles = has_tiles d first.id (find_view d.views first.id) first.wid first.wids refl first.window in
@@ -168,7 +168,7 @@ first_less {C} {B} {S} rules cut old (Some d) event out new is housed first take
     let said : SaysAs rules cut old first.link text (Some (d, first.id)) out new = subst (λ (f : Option (Document S × ℕ)). SaysAs rules cut old first.link text f out new) found says in
     let some : tiles.view.window ≢ [] = some_window tiles.view first.wid first.wids tiles.window in
     let read : reading text ≡ Ok (TileProcessed (numbers tiles.view)) =
-    window_read rules d first.id (find_view d.views first.id) first.wid first.wids housed.whole.kept.each refl first.window first.small
+    window_read rules d first.id (find_view d.views first.id) first.wid first.wids housed.kept.each refl first.window first.small
     ∙ ap (λ (w : List ℕ). Ok (TileProcessed w)) (sym tiles.window) in
     let gone : IsAcknowledged rules d first.id tiles.view said.1 said.0 = said_lowers rules d first.id tiles.view text said.1 said.0 tiles.live some read said.2 in
     let less : left_to_do rules said.0 < left_to_do rules d = gone.less in
@@ -177,16 +177,16 @@ first_less {C} {B} {S} rules cut old (Some d) event out new is housed first take
 
 -- the poll turn that takes it leaves less to do, and then acknowledgements wait
 pub first_turn : {C B S : Type 0} (rules : Rules C B) (cut : C → Place → S) (keeps : Keeps rules cut) (waiting : List Waiting) (old : House S) (worked : Bool) (rest : List Waiting) (new : House S) (b c : Option (List ℕ))
-    → IsHoused rules old → waiting ≡ acknowledgements old → 0 < length waiting → AreSmall old.document old.seats.views → IsStrictlySortedBy nat_cmp (map (λ (e : ℕ × ℕ). e.0) old.seats.views)
+    → IsHoused rules cut old → waiting ≡ acknowledgements old → 0 < length waiting → AreSmall old.document old.seats.views → IsStrictlySortedBy nat_cmp (map (λ (e : ℕ × ℕ). e.0) old.seats.views)
     → TurnWritten rules cut waiting old worked rest new b c → AllAcknowledge rest × (left_of rules new.document < left_of rules old.document)
 first_turn rules cut keeps [] old worked rest new b c housed are some small sorted written = absurd (omega (arith, some))
 first_turn {C} {B} {S} rules cut keeps (event ∷ events) old worked rest new b c housed are some small sorted written =
     let turn = written.done in
-    let mid : IsHoused rules turn.mid = first_housed rules cut keeps (event ∷ events) old turn.here rest turn.mid housed turn.takes in
+    let mid : IsHoused rules cut turn.mid = first_housed rules cut keeps (event ∷ events) old turn.here rest turn.mid housed turn.takes in
     let first : IsFirst old.document old.seats.views event = first_of_all old.document old.seats.views event events small sorted (sym are) in
     let less : left_of rules turn.mid.document < left_of rules old.document = first_less rules cut old old.document event turn.here turn.mid refl housed first turn.takes.1 in
     let later = document_left rules cut turn.mid.seats turn.mid.document turn.later turn.turned new.document mid turn.turns in
-    let acks : AllAcknowledge (event ∷ events) = subst AllAcknowledge (sym are) (all_acks rules old.document old.seats old.seats.views housed small) in
+    let acks : AllAcknowledge (event ∷ events) = subst AllAcknowledge (sym are) (all_acks rules cut old.document old.seats old.seats.views housed small) in
     (subst AllAcknowledge (sym turn.takes.0) acks.1, omega (arith, less, later))
 
 -- without acknowledgements every window is empty
@@ -194,14 +194,14 @@ none_in : (a b : List Waiting) → a ++ b ≡ [] → (a ≡ []) × (b ≡ [])
 none_in [] b none = (refl, none)
 none_in (x ∷ a) b none = absurd (cc)
 
-no_wids : (link : ℕ) (wids : List ℕ) → acknowledges link wids ≡ [] → wids ≡ []
+no_wids : (link : ℕ) (wids : List ℕ) → says_processed link wids ≡ [] → wids ≡ []
 no_wids link [] none = refl
 no_wids link (wid ∷ wids) none = absurd (cc)
 
 empty_at : {S : Type 0} (document : Option (Document S)) (views : List (ℕ × ℕ)) (id : ℕ) → acknowledgements_by document views ≡ [] → HasLink views id → window_in document id ≡ []
 empty_at document [] id none has = absurd (cc)
 empty_at {S} document (seat ∷ views) id none has =
-    let parts = none_in (acknowledges seat.0 (window_in document seat.1)) (acknowledgements_by document views) none in
+    let parts = none_in (says_processed seat.0 (window_in document seat.1)) (acknowledgements_by document views) none in
     elim (nat_eq seat.1 id) as (λ b. nat_eq seat.1 id ≡ b → is_some (cond b (Some seat.0) (link_in views id)) ≡ true → window_in document id ≡ []) [
       | true ↦ λ is there. let same : seat.1 ≡ id = grind arith in subst (λ (n : ℕ). window_in document n ≡ []) same (no_wids seat.0 (window_in document seat.1) parts.0)
       | false ↦ λ is there. empty_at document views id parts.1 there
@@ -238,11 +238,11 @@ empty_each {S} d seats (v ∷ vs) none linked found =
     (no_tiles v.window (subst (λ (o : Option View). wids_of o ≡ []) found.0 empty), empty_each d seats vs none linked.1 found.1)
 
 -- a house that rests without acknowledgements is at rest
-pub at_rest : {C B S : Type 0} (rules : Rules C B) (seats : Seats) (document : Option (Document S)) → ((d : Document S) → IsQuiet rules d → IsSeated rules seats d → AllRight rules d) → IsHousedBy rules seats document → RestsNow rules document
+pub at_rest : {C B S : Type 0} (rules : Rules C B) (cut : C → Place → S) (seats : Seats) (document : Option (Document S)) → ((d : Document S) → IsQuiet rules d → IsSeated rules cut seats d → AllRight rules d) → IsHousedBy rules cut seats document → RestsNow rules document
     → acknowledgements_by document seats.views ≡ [] → IsAtRest rules document
-at_rest rules seats None right housed rests none = tt
-at_rest rules seats (Some d) right housed rests none =
-    let quiet : IsQuiet rules d = record { rests = rests; no_job = housed.none_out; empty = empty_each d seats.views d.views none housed.linked (found_each d.views housed.whole.kept.ids) } in
+at_rest rules cut seats None right housed rests none = tt
+at_rest rules cut seats (Some d) right housed rests none =
+    let quiet : IsQuiet rules d = record { rests = rests; no_job = housed.none_out; empty = empty_each d seats.views d.views none housed.linked (found_each d.views housed.kept.ids) } in
     (quiet, right d quiet housed)
 
 -- the pass that found acknowledgements: turns up to the last that works, then they wait

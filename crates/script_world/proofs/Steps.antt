@@ -7,7 +7,7 @@ use Rattle.cool_message.specs.Reading.{reading}
 use Rattle.cool_message.specs.declared.message.ClientMessage.TheVariants.{TileProcessed}
 use Rattle.document_laws.proofs.Acknowledged.{said_acknowledges, acknowledging_adds_nothing}
 use Rattle.document_laws.proofs.Lower.{at_once_lowers}
-use Rattle.document_machine.specs.Message.{Acknowledges, took}
+use Rattle.document_laws.specs.AtOnce.{acknowledges}
 use Rattle.document_machine.specs.Rank.{left_to_do}
 use Rattle.document_machine.specs.State.{Document}
 use Rattle.kit_trait.specs.Rules.{Rules}
@@ -24,7 +24,7 @@ use Rattle.script_world.specs.World.{Seen, Move, Turn, Moves, Chain, RestsNow, t
 use Rattle.script_world.specs.declared.event.Waiting.{Waiting}
 use Rattle.script_world.specs.declared.event.Waiting.TheVariants.{Opened, Loads, Says, Gone}
 use Rattle.script_world.proofs.Chains.{came_one, came_joined, chain_one, chain_joined, stopped_later, stopped_writing}
-use Rattle.script_world.proofs.Housed.{Keeps, first_housed, found_document}
+use Rattle.script_world.proofs.Housed.{Keeps, first_housed, found_document, works_of}
 
 some_wait : (event : Waiting) (rest : List Waiting) → nat_lt 0 (length (event ∷ rest)) ≡ true
 some_wait event rest = grind arith
@@ -199,7 +199,7 @@ turn_fewer rules cut (event ∷ events) old worked rest new b c written some = l
 
 -- what a turn of the document leaves to do
 pub document_left : {C B S : Type 0} (rules : Rules C B) (cut : C → Place → S) (seats : Seats) (old : Option (Document S)) (out : List ℕ) (worked : Bool) (new : Option (Document S))
-    → IsHousedBy rules seats old → TurnsDocument rules cut seats old out worked new → left_of rules new + cond worked 1 0 ≤ left_of rules old
+    → IsHousedBy rules cut seats old → TurnsDocument rules cut seats old out worked new → left_of rules new + cond worked 1 0 ≤ left_of rules old
 document_left rules cut seats None out worked new housed goes =
     let same : left_of rules new ≡ 0 = ap (left_of rules) goes.2 in
     let none : ◌≡◌ {A = ℕ} (cond worked 1 0) 0 = ap (λ (b : Bool). cond {A = ℕ} b 1 0) goes.1 in
@@ -207,17 +207,17 @@ document_left rules cut seats None out worked new housed goes =
 document_left {C} {B} {S} rules cut seats (Some d) out true new housed goes =
     let now : Document S = goes.0 in
     let works : WorksAtOnce rules cut d goes.1 now = goes.2 in
-    let less : left_to_do rules now < left_to_do rules d = (at_once_lowers rules cut d works.mid now works.first works.later works.works housed.none_out housed.whole.kept works.answered).1 in
+    let less : left_to_do rules now < left_to_do rules d = (at_once_lowers rules cut d works.mid now works.first works.later (works_of rules cut d now goes.1 works) housed.none_out housed.kept works.answered).1 in
     let same : left_of rules new ≡ left_to_do rules now = ap (left_of rules) goes.4 in
     omega (arith, less, same)
 document_left rules cut seats (Some d) out false new housed goes = let same : left_of rules new ≡ left_to_do rules d = ap (left_of rules) goes.2 in omega (arith, same)
 
 -- where no event waits, a poll turn that works leaves less to do
 pub bare_left : {C B S : Type 0} (rules : Rules C B) (cut : C → Place → S) (waiting : List Waiting) (old : House S) (worked : Bool) (rest : List Waiting) (new : House S) (b c : Option (List ℕ))
-    → waiting ≡ [] → IsHoused rules old → TurnWritten rules cut waiting old worked rest new b c → (rest ≡ []) × (left_of rules new.document + cond worked 1 0 ≤ left_of rules old.document)
+    → waiting ≡ [] → IsHoused rules cut old → TurnWritten rules cut waiting old worked rest new b c → (rest ≡ []) × (left_of rules new.document + cond worked 1 0 ≤ left_of rules old.document)
 bare_left {C} {B} {S} rules cut [] old worked rest new b c none housed written =
     let turn = written.done in
-    let mid : IsHoused rules turn.mid = subst (IsHoused rules) (sym turn.takes.2) housed in
+    let mid : IsHoused rules cut turn.mid = subst (IsHoused rules cut) (sym turn.takes.2) housed in
     let less : left_of rules new.document + cond turn.turned 1 0 ≤ left_of rules turn.mid.document = document_left rules cut turn.mid.seats turn.mid.document turn.later turn.turned new.document mid turn.turns in
     let was : left_of rules turn.mid.document ≡ left_of rules old.document = ap (λ (h : House S). left_of rules h.document) turn.takes.2 in
     let same : ◌≡◌ {A = ℕ} (cond worked 1 0) (cond turn.turned 1 0) = ap (λ (b : Bool). cond {A = ℕ} b 1 0) turn.worked_is in
@@ -232,8 +232,8 @@ said_left {C} {B} {S} rules cut old link text None out new wids is read says =
 said_left {C} {B} {S} rules cut old link text (Some seat) out new wids is read says =
     let d : Document S = seat.0 in
     let acknowledged = said_acknowledges rules d seat.1 wids text says.1 says.0 read says.2 in
-    let less : left_to_do rules (took rules d seat.1 (Acknowledges wids)) ≤ left_to_do rules d = acknowledging_adds_nothing rules d seat.1 wids in
-    let now : left_to_do rules says.0 ≡ left_to_do rules (took rules d seat.1 (Acknowledges wids)) = ap (left_to_do rules) acknowledged.1 in
+    let less : left_to_do rules (acknowledges d seat.1 wids) ≤ left_to_do rules d = acknowledging_adds_nothing rules d seat.1 wids in
+    let now : left_to_do rules says.0 ≡ left_to_do rules (acknowledges d seat.1 wids) = ap (left_to_do rules) acknowledged.1 in
     let new_is : left_of rules new.document ≡ left_to_do rules says.0 = ap (λ (h : House S). left_of rules h.document) says.3 in
     let was : left_of rules old.document ≡ left_to_do rules d = ap (left_of rules) (found_document old.document _ seat is).0 in
     omega (arith, less, now, new_is, was)
@@ -246,13 +246,13 @@ event_left rules cut (Gone link) old out new acks takes = absurd acks
 event_left rules cut (Says link text) old out new acks takes = said_left rules cut old link text (seated old link) out new acks.0 refl acks.1 takes
 
 pub acks_left : {C B S : Type 0} (rules : Rules C B) (cut : C → Place → S) (keeps : Keeps rules cut) (waiting : List Waiting) (old : House S) (worked : Bool) (rest : List Waiting) (new : House S) (b c : Option (List ℕ))
-    → IsHoused rules old → AllAcknowledge waiting → TurnWritten rules cut waiting old worked rest new b c → AllAcknowledge rest × (left_of rules new.document ≤ left_of rules old.document)
+    → IsHoused rules cut old → AllAcknowledge waiting → TurnWritten rules cut waiting old worked rest new b c → AllAcknowledge rest × (left_of rules new.document ≤ left_of rules old.document)
 acks_left rules cut keeps [] old worked rest new b c housed acks written =
     let less = bare_left rules cut [] old worked rest new b c refl housed written in
     (subst AllAcknowledge (sym less.0) tt, omega (arith, less.1))
 acks_left rules cut keeps (event ∷ events) old worked rest new b c housed acks written =
     let turn = written.done in
-    let mid : IsHoused rules turn.mid = first_housed rules cut keeps (event ∷ events) old turn.here rest turn.mid housed turn.takes in
+    let mid : IsHoused rules cut turn.mid = first_housed rules cut keeps (event ∷ events) old turn.here rest turn.mid housed turn.takes in
     let first : left_of rules turn.mid.document ≤ left_of rules old.document = event_left rules cut event old turn.here turn.mid acks.0 turn.takes.1 in
     let later = document_left rules cut turn.mid.seats turn.mid.document turn.later turn.turned new.document mid turn.turns in
     (subst AllAcknowledge (sym turn.takes.0) acks.1, omega (arith, first, later))
@@ -338,7 +338,7 @@ made_further {C} {B} {S} rules cut made start waiting old worked rest new a b c 
 
 -- one turn more of acknowledgements
 pub acks_more : {C B S : Type 0} (rules : Rules C B) (cut : C → Place → S) (keeps : Keeps rules cut) (all waiting : List Waiting) (start : ℕ) (old : House S) (worked : Bool) (rest : List Waiting) (new : House S) (b c : Option (List ℕ))
-    → IsHoused rules old → (AllAcknowledge all → AllAcknowledge waiting × (left_of rules old.document ≤ start)) → TurnWritten rules cut waiting old worked rest new b c
+    → IsHoused rules cut old → (AllAcknowledge all → AllAcknowledge waiting × (left_of rules old.document ≤ start)) → TurnWritten rules cut waiting old worked rest new b c
     → AllAcknowledge all → AllAcknowledge rest × (left_of rules new.document ≤ start)
 acks_more rules cut keeps all waiting start old worked rest new b c housed so_far written acks =
     let was = so_far acks in

@@ -6,18 +6,19 @@ use Rattle.cool_base.specs.declared.ids.ViewId.{ViewId}
 use Rattle.cool_frame.specs.declared.frame.Frame.{Frame}
 use Rattle.cool_message.specs.Writing.{written}
 use Rattle.cool_message.specs.declared.message.ClientMessage.TheVariants.{TileProcessed}
-use Rattle.document_laws.specs.Whole.{IsWhole}
-use Rattle.document_machine.specs.Event.{Event, Joined, Left, Said, Painted}
-use Rattle.document_machine.specs.Next.{none_kept, IsFirst}
+use Rattle.document_laws.specs.AtOnce.{all_answered, numbers}
+use Rattle.document_machine.specs.Event.{Joined, Left, Said}
+use Rattle.document_machine.specs.Kept.{IsKept}
+use Rattle.document_machine.specs.Next.{none_kept, pick}
 use Rattle.document_machine.specs.Outputs.{nothing}
 use Rattle.document_machine.specs.Run.{Segment}
 use Rattle.document_machine.specs.State.{View, Document, opening, find_view}
-use Rattle.document_machine.specs.Step.{Step, Works, Rests}
+use Rattle.document_machine.specs.Step.{Step, Does, Rests}
+use Rattle.document_machine.specs.declared.limits.TheConstants.{MOST_VIEWS}
 use Rattle.document_machine.specs.declared.outs.Outs.{Outs}
 use Rattle.document_machine.specs.declared.outs.Turned.TheVariants.{Worked}
 use Rattle.document_machine.specs.declared.rights.Rights.{Rights}
 use Rattle.kit_trait.specs.Rules.{Rules}
-use Rattle.kit_trait.specs.declared.jobs.PaintJob.{PaintJob}
 use Rattle.tile_key.specs.Places.{Place}
 use Rattle.script_world.specs.Seats.{Seats, is_waiting, view_of, enters, sits, without, link_of, tells, records, lobby_frame, bad_file, views_full}
 use Rattle.script_world.specs.declared.event.Waiting.{Waiting}
@@ -28,17 +29,17 @@ pub record House (S : Type 0) : Type 0 where
   pub seats : Seats
   pub document : Option (Document S)
 
--- a broker that was given up shows no document
-abbrev pub held : {S : Type 0} → Option (Option (Document S)) → Option (Document S)
-held None = None
-held (Some document) = document
+-- the document of a broker, if there is one; one that was given up shows none
+abbrev pub document_of : {S : Type 0} → Option (Option (Document S)) → Option (Document S)
+document_of None = None
+document_of (Some document) = document
 
 -- the rights of a link that writes, and of one that only looks, with their tokens
 abbrev pub rights : Bool → Rights
 rights true = record { can_write = true; token = codes "t-rw" }
 rights false = record { can_write = false; token = codes "t-ro" }
 
--- A load of a document that is there: the link is a new view of it, or, where it has 64 views, is refused and stays
+-- A load of a document that is there: the link is a new view of it, or, where it has all the views that it may have, is refused and stays
 -- in the lobby.
 abbrev pub JoinsWhere : {C B S : Type 0} → Bool → Rules C B → (C → Place → S) → Seats → ℕ → Rights → Document S → List ℕ → House S → Type 0
 JoinsWhere {C} {B} {S} true rules cut seats link given old out new = (d : Document S) × (outs : Outs S)
@@ -50,7 +51,7 @@ JoinsWhere false rules cut seats link given old out new =
 
 abbrev pub JoinsOne : {C B S : Type 0} → Rules C B → (C → Place → S) → Seats → ℕ → Rights → Document S → List ℕ → House S → Type 0
 JoinsOne rules cut seats link given old out new =
-    JoinsWhere (nat_lt (length old.views) 64) rules cut seats link given old out new
+    JoinsWhere (nat_lt (length old.views) MOST_VIEWS) rules cut seats link given old out new
 
 -- The first load begins the document over no bytes, unless the kit refuses no bytes as a file.
 abbrev pub BeginsWhere : {C B S : Type 0} → Bool → Rules C B → (C → Place → S) → Seats → ℕ → List ℕ → Rights → List ℕ → House S → Type 0
@@ -109,19 +110,14 @@ abbrev pub TakesFirst : {C B S : Type 0} → Rules C B → (C → Place → S) �
 TakesFirst rules cut [] old out rest new = (rest ≡ []) × (out ≡ []) × (new ≡ old)
 TakesFirst rules cut (event ∷ events) old out rest new = (rest ≡ events) × TakesOne rules cut event old out new
 
--- these jobs come back painted, in order
-abbrev pub painted_all : {S : Type 0} → List (PaintJob S) → List (Event S)
-painted_all jobs = map (λ job. Painted job.ticket.0 job.scene) jobs
-
--- A turn that does a work, and directly behind it the answers to the jobs that it cut; these are all the frames.
--- Behind the last input the work is a job for the pair that is next, in order of views and then of keys.
+-- A turn that does the one work that is picked, and directly after it the answers to the jobs that it
+-- cut, in order; these are all the frames.
 pub record WorksAtOnce {C B S : Type 0} (rules : Rules C B) (cut : C → Place → S) (old : Document S) (frames : List (ViewId × Frame)) (new : Document S) : Type 0 where
   pub mid : Document S
   pub first : Outs S
   pub later : Outs S
-  pub works : Works rules cut old first mid
-  pub in_order : old.applied ≡ length old.journal → IsFirst rules none_kept old (Worked first)
-  pub answered : Segment rules cut mid (painted_all first.jobs) later new
+  pub does : Does rules cut old (pick rules none_kept old) (Worked first) mid
+  pub answered : Segment rules cut mid (all_answered first) later new
   pub frames_are : frames ≡ first.frames ++ later.frames
 
 -- One turn of the document, its jobs painted and answered at once: what it wrote and that it worked; or it rests, and
@@ -148,12 +144,12 @@ pub record PollTurn {C B S : Type 0} (rules : Rules C B) (cut : C → Place → 
 -- the numbers of the tiles that a view has not acknowledged, in order
 abbrev pub wids_of : Option View → List ℕ
 wids_of None = []
-wids_of (Some view) = map (λ tile. tile.wid) view.window
+wids_of (Some view) = numbers view
 
--- the link acknowledges tiles with these numbers, if there are some
-abbrev pub acknowledges : ℕ → List ℕ → List Waiting
-acknowledges link [] = []
-acknowledges link (wid ∷ wids) = Says link (written (TileProcessed (wid ∷ wids))) ∷ []
+-- the link says that it has processed tiles with these numbers, if there are some
+abbrev pub says_processed : ℕ → List ℕ → List Waiting
+says_processed link [] = []
+says_processed link (wid ∷ wids) = Says link (written (TileProcessed (wid ∷ wids))) ∷ []
 
 abbrev pub window_in : {S : Type 0} → Option (Document S) → ℕ → List ℕ
 window_in None view = []
@@ -161,7 +157,7 @@ window_in (Some d) view = wids_of (find_view d.views view)
 
 -- each view whose window isn't empty acknowledges all its tiles, in order of links
 abbrev pub acknowledgements_by : {S : Type 0} → Option (Document S) → List (ℕ × ℕ) → List Waiting
-acknowledgements_by document views = flat_map (λ seat. acknowledges seat.0 (window_in document seat.1)) views
+acknowledgements_by document views = flat_map (λ seat. says_processed seat.0 (window_in document seat.1)) views
 
 abbrev pub acknowledgements : {S : Type 0} → House S → List Waiting
 acknowledgements house = acknowledgements_by house.document house.seats.views
@@ -170,15 +166,15 @@ acknowledgements house = acknowledgements_by house.document house.seats.views
 abbrev pub ids_of : List View → List ℕ
 ids_of views = map (λ view. view.id) views
 
--- a document and who is there: it is whole, no job is out, and each of its views has a link
-pub record IsSeated {C B S : Type 0} (rules : Rules C B) (seats : Seats) (d : Document S) : Type 0 where
-  pub whole : IsWhole rules d
+-- a document and who is there: it is as a broker keeps it, no job is out, and each of its views has a link
+pub record IsSeated {C B S : Type 0} (rules : Rules C B) (cut : C → Place → S) (seats : Seats) (d : Document S) : Type 0 where
+  pub kept : IsKept rules cut d
   pub none_out : d.jobs ≡ []
   pub linked : AllByRecursion (λ id. is_some (link_of seats id) ≡ true) (ids_of d.views)
 
-abbrev pub IsHousedBy : {C B S : Type 0} → Rules C B → Seats → Option (Document S) → Type 0
-IsHousedBy rules seats None = Unit {0}
-IsHousedBy rules seats (Some d) = IsSeated rules seats d
+abbrev pub IsHousedBy : {C B S : Type 0} → Rules C B → (C → Place → S) → Seats → Option (Document S) → Type 0
+IsHousedBy rules cut seats None = Unit {0}
+IsHousedBy rules cut seats (Some d) = IsSeated rules cut seats d
 
-abbrev pub IsHoused : {C B S : Type 0} → Rules C B → House S → Type 0
-IsHoused rules house = IsHousedBy rules house.seats house.document
+abbrev pub IsHoused : {C B S : Type 0} → Rules C B → (C → Place → S) → House S → Type 0
+IsHoused rules cut house = IsHousedBy rules cut house.seats house.document

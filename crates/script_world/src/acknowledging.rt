@@ -3,7 +3,7 @@ ghost use Rattle.std.specs.Prelude.{◌≡◌, ◌<◌, ◌^◌, ◌++◌, map, 
 ghost use Rattle.std.specs.List.{AllByRecursion};
 ghost use Rattle.std.specs.List.Sorted.{IsStrictlySortedBy};
 ghost use Rattle.std.specs.Ordering.{nat_cmp};
-ghost use Rattle.script_world.specs.House.{held, window_in, acknowledges, acknowledgements};
+ghost use Rattle.script_world.specs.House.{document_of, window_in, says_processed, acknowledgements};
 ghost use Rattle.script_world.specs.Moved.{AreSmall};
 
 use crate::event::Waiting;
@@ -40,7 +40,7 @@ fn window_of<K: Kit>(
     broker: &Option<Broker<K>>,
     view: u32,
 ) -> Result<Vec<u64>, Memory>
-    ensures window { IfOk result (λ wids. wids.items ≡ window_in (held broker.now) view) }
+    ensures window { IfOk result (λ wids. wids.items ≡ window_in (document_of broker.now) view) }
     ensures small { IfOk result (λ wids. AllByRecursion (λ n. n < 2 ^ 64) wids.items) }
 {
     match broker {
@@ -49,14 +49,14 @@ fn window_of<K: Kit>(
     }
 }
 
-/// The link acknowledges tiles with these numbers, if there are some.
+/// The link says that it has processed tiles with these numbers, if there are some.
 fn acknowledge(
     alloc: Global,
     link: u32,
     wids: Vec<u64>,
     waiting: &mut VecDeque<Waiting>,
 ) -> Result<(), Memory>
-    ensures { OnOk result (waiting.new.items ≡ waiting.old.items ++ acknowledges link wids.items) }
+    ensures { OnOk result (waiting.new.items ≡ waiting.old.items ++ says_processed link wids.items) }
 {
     if wids.is_empty() {
         return Ok(());
@@ -76,8 +76,8 @@ pub(crate) fn acknowledge_all<K: Kit>(
     seats: &Seats,
     waiting: &mut VecDeque<Waiting>,
 ) -> Result<(), Memory>
-    ensures ok { OnOk result (waiting.new.items ≡ waiting.old.items ++ acknowledgements (record { seats = seats.now; document = held broker.now })) }
-    ensures small { OnOk result (AreSmall (held broker.now) seats.now.views) }
+    ensures ok { OnOk result (waiting.new.items ≡ waiting.old.items ++ acknowledgements (record { seats = seats.now; document = document_of broker.now })) }
+    ensures small { OnOk result (AreSmall (document_of broker.now) seats.now.views) }
     ensures sorted { IsStrictlySortedBy nat_cmp (map (λ seat. seat.0) seats.now.views) }
 {
     for (link, view) in seats.views() {

@@ -1,7 +1,7 @@
 //! Loads: a document begins, and a link becomes a view of it or is refused.
 ghost use Rattle.std.specs.Prelude.{◌≡◌, [], IfOk, true};
 ghost use Rattle.std.specs.Option.{ForSome};
-ghost use Rattle.script_world.specs.House.{held, rights, LoadsOne, LoadsWhere, BeginsWhere};
+ghost use Rattle.script_world.specs.House.{document_of, rights, LoadsOne, LoadsWhere, BeginsWhere};
 ghost use Rattle.script_world.specs.Seats.{is_waiting};
 ghost use Rattle.script_world.specs.Taken.{JoinsBy};
 
@@ -39,7 +39,7 @@ fn joins<K: Kit>(
     writes: bool,
 ) -> Result<Step<K>, Memory>
     requires { ForSome broker (λ d. d.jobs ≡ []) }
-    ensures { IfOk result (λ step. JoinsBy K.rules K.cut seats.old link (rights writes) broker step.bytes.items (record { seats = seats.new; document = held step.broker })) }
+    ensures { IfOk result (λ step. JoinsBy K.rules K.cut seats.old link (rights writes) broker step.bytes.items (record { seats = seats.new; document = document_of step.broker })) }
 {
     let given = rights(alloc, writes)?;
     match broker.join(given) {
@@ -70,7 +70,7 @@ fn begins<K: Kit>(
     file: &FileId,
     writes: bool,
 ) -> Result<Step<K>, Memory>
-    ensures { IfOk result (λ step. BeginsWhere (K.rules.accepts []) K.rules K.cut seats.old link file.now (rights writes) step.bytes.items (record { seats = seats.new; document = held step.broker })) }
+    ensures { IfOk result (λ step. BeginsWhere (K.rules.accepts []) K.rules K.cut seats.old link file.now (rights writes) step.bytes.items (record { seats = seats.new; document = document_of step.broker })) }
 {
     match Broker::start(alloc, file, Bytes::new()) {
         Ok(broker) => joins(alloc, broker, seats, link, writes),
@@ -94,8 +94,8 @@ fn loads_one<K: Kit>(
     file: &FileId,
     writes: bool,
 ) -> Result<Step<K>, Memory>
-    requires { ForSome (held broker) (λ d. d.jobs ≡ []) }
-    ensures { IfOk result (λ step. LoadsOne K.rules K.cut seats.old (held broker) link file.now (rights writes) step.bytes.items (record { seats = seats.new; document = held step.broker })) }
+    requires { ForSome (document_of broker) (λ d. d.jobs ≡ []) }
+    ensures { IfOk result (λ step. LoadsOne K.rules K.cut seats.old (document_of broker) link file.now (rights writes) step.bytes.items (record { seats = seats.new; document = document_of step.broker })) }
 {
     match broker {
         Some(broker) => joins(alloc, broker, seats, link, writes),
@@ -112,8 +112,8 @@ pub(crate) fn loads<K: Kit>(
     file: &FileId,
     writes: bool,
 ) -> Result<Step<K>, Memory>
-    requires { ForSome (held broker) (λ d. d.jobs ≡ []) }
-    ensures { IfOk result (λ step. LoadsWhere (is_waiting seats.old link) K.rules K.cut (record { seats = seats.old; document = held broker }) link file.now (rights writes) step.bytes.items (record { seats = seats.new; document = held step.broker })) }
+    requires { ForSome (document_of broker) (λ d. d.jobs ≡ []) }
+    ensures { IfOk result (λ step. LoadsWhere (is_waiting seats.old link) K.rules K.cut (record { seats = seats.old; document = document_of broker }) link file.now (rights writes) step.bytes.items (record { seats = seats.new; document = document_of step.broker })) }
 {
     if !seats.is_waiting(link) {
         return Ok(Step {

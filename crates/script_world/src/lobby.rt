@@ -10,7 +10,7 @@ use cool_message::{ClientMessage, MessageFault, command_of, read_message};
 use std::alloc::Global;
 
 /// The frame that refuses a command.
-fn refusal(alloc: Global, command: &str, kind: ErrorKind) -> Result<Frame, Memory>
+fn error_frame(alloc: Global, command: &str, kind: ErrorKind) -> Result<Frame, Memory>
     ensures { IfOk result (λ frame. frame ≡ Frame.Error command.now kind None) }
 {
     let cmd = TextOf::of(String::from_str(alloc, command)?);
@@ -27,10 +27,10 @@ fn lobby_frame(alloc: Global, text: &[u8]) -> Result<Frame, Memory>
 {
     match read_message(alloc, text) {
         Ok(ClientMessage::CoolClient) => Ok(Frame::Server),
-        Ok(ClientMessage::Load { url: _ }) => refusal(alloc, "load", ErrorKind::BadMessage),
-        Ok(_) => refusal(alloc, command_of(text), ErrorKind::NotLoaded),
+        Ok(ClientMessage::Load { url: _ }) => error_frame(alloc, "load", ErrorKind::BadMessage),
+        Ok(_) => error_frame(alloc, command_of(text), ErrorKind::NotLoaded),
         Err(MessageFault::Memory) => Err(Memory),
-        Err(_) => refusal(alloc, command_of(text), ErrorKind::BadMessage),
+        Err(_) => error_frame(alloc, command_of(text), ErrorKind::BadMessage),
     }
 }
 
@@ -54,6 +54,6 @@ pub(crate) fn lobby_record(
 pub(crate) fn load_refusal(alloc: Global, link: u32, kind: ErrorKind) -> Result<Vec<u8>, Memory>
     ensures { IfOk result (λ bytes. bytes.items ≡ tells link (Frame.Error (codes "load") kind None)) }
 {
-    let frame = refusal(alloc, "load", kind)?;
+    let frame = error_frame(alloc, "load", kind)?;
     record(alloc, link, &frame)
 }

@@ -2,7 +2,7 @@
 ghost use Rattle.std.specs.Prelude.{◌≡◌, ◌≤◌, [], ◌∷◌, List, IfOk, IfErr, Err};
 ghost use Rattle.outside.specs.Causes.{HasCause};
 ghost use Rattle.script_run.specs.Play.{Stopped};
-ghost use Rattle.script_world.specs.House.{held, IsHoused, PollTurn};
+ghost use Rattle.script_world.specs.House.{document_of, IsHoused, PollTurn};
 ghost use Rattle.script_world.specs.Moved.{Came, MadeFrom, TurnedTo, TurnWritten, AllAcknowledge, left_of};
 ghost use Rattle.script_world.specs.World.{Moves, RestsNow};
 
@@ -26,8 +26,8 @@ fn event_turn<K: Kit>(
     seats: &mut Seats,
     event: Waiting,
 ) -> Result<Turn<K>, Memory>
-    requires { IsHoused K.rules (record { seats = seats.old; document = held broker }) }
-    ensures { IfOk result (λ turn. (rest : List Waiting) → PollTurn K.rules K.cut (event ∷ rest) (record { seats = seats.old; document = held broker }) turn.bytes.items turn.worked rest (record { seats = seats.new; document = held turn.broker })) }
+    requires { IsHoused K.rules K.cut (record { seats = seats.old; document = document_of broker }) }
+    ensures { IfOk result (λ turn. (rest : List Waiting) → PollTurn K.rules K.cut (event ∷ rest) (record { seats = seats.old; document = document_of broker }) turn.bytes.items turn.worked rest (record { seats = seats.new; document = document_of turn.broker })) }
 {
     steps_keep::<K>();
     let taken = takes(alloc, broker, seats, event)?;
@@ -53,8 +53,8 @@ fn poll_turn<K: Kit>(
     seats: &mut Seats,
     waiting: &mut VecDeque<Waiting>,
 ) -> Result<Turn<K>, Memory>
-    requires { IsHoused K.rules (record { seats = seats.old; document = held broker }) }
-    ensures { IfOk result (λ turn. PollTurn K.rules K.cut waiting.old.items (record { seats = seats.old; document = held broker }) turn.bytes.items turn.worked waiting.new.items (record { seats = seats.new; document = held turn.broker })) }
+    requires { IsHoused K.rules K.cut (record { seats = seats.old; document = document_of broker }) }
+    ensures { IfOk result (λ turn. PollTurn K.rules K.cut waiting.old.items (record { seats = seats.old; document = document_of broker }) turn.bytes.items turn.worked waiting.new.items (record { seats = seats.new; document = document_of turn.broker })) }
 {
     match waiting.pop_front() {
         Some(event) => event_turn(alloc, broker, seats, event),
@@ -70,10 +70,10 @@ pub(crate) fn one_turn<K: Kit, T: Sink>(
     waiting: &mut VecDeque<Waiting>,
     sink: &mut T,
 ) -> Result<(Option<Broker<K>>, bool), Stop>
-    requires { IsHoused K.rules (record { seats = seats.old; document = held broker }) }
-    ensures ok { IfOk result (λ new. TurnWritten K.rules K.cut waiting.old.items (record { seats = seats.old; document = held broker }) new.1 waiting.new.items (record { seats = seats.new; document = held new.0 }) (T.written sink.old) (T.written sink.new)) }
-    ensures housed { IfOk result (λ new. IsHoused K.rules (record { seats = seats.new; document = held new.0 })) }
-    ensures stop { IfErr result (λ stop. Stopped stop (MadeFrom (Moves K.rules K.cut) (record { waiting = waiting.old.items; house = record { seats = seats.old; document = held broker } })) (T.written sink.old) (T.written sink.new)) }
+    requires { IsHoused K.rules K.cut (record { seats = seats.old; document = document_of broker }) }
+    ensures ok { IfOk result (λ new. TurnWritten K.rules K.cut waiting.old.items (record { seats = seats.old; document = document_of broker }) new.1 waiting.new.items (record { seats = seats.new; document = document_of new.0 }) (T.written sink.old) (T.written sink.new)) }
+    ensures housed { IfOk result (λ new. IsHoused K.rules K.cut (record { seats = seats.new; document = document_of new.0 })) }
+    ensures stop { IfErr result (λ stop. Stopped stop (MadeFrom (Moves K.rules K.cut) (record { waiting = waiting.old.items; house = record { seats = seats.old; document = document_of broker } })) (T.written sink.old) (T.written sink.new)) }
     ensures cause { HasCause (T.faults sink.old) (T.faults sink.new) (result ≡ Err Stop.Sink) }
 {
     steps_keep::<K>();
@@ -95,12 +95,12 @@ pub(crate) fn all_events<K: Kit, T: Sink>(
     waiting: &mut VecDeque<Waiting>,
     sink: &mut T,
 ) -> Result<Option<Broker<K>>, Stop>
-    requires { IsHoused K.rules (record { seats = seats.old; document = held broker }) }
-    ensures ok { IfOk result (λ new. Came (Moves K.rules K.cut) (record { waiting = waiting.old.items; house = record { seats = seats.old; document = held broker } }) (record { waiting = []; house = record { seats = seats.new; document = held new } }) (T.written sink.old) (T.written sink.new)) }
+    requires { IsHoused K.rules K.cut (record { seats = seats.old; document = document_of broker }) }
+    ensures ok { IfOk result (λ new. Came (Moves K.rules K.cut) (record { waiting = waiting.old.items; house = record { seats = seats.old; document = document_of broker } }) (record { waiting = []; house = record { seats = seats.new; document = document_of new } }) (T.written sink.old) (T.written sink.new)) }
     ensures none { IfOk result (λ _. waiting.new.items ≡ []) }
-    ensures less { IfOk result (λ new. AllAcknowledge waiting.old.items → left_of K.rules (held new) ≤ left_of K.rules (held broker)) }
-    ensures housed { IfOk result (λ new. IsHoused K.rules (record { seats = seats.new; document = held new })) }
-    ensures stop { IfErr result (λ stop. Stopped stop (MadeFrom (Moves K.rules K.cut) (record { waiting = waiting.old.items; house = record { seats = seats.old; document = held broker } })) (T.written sink.old) (T.written sink.new)) }
+    ensures less { IfOk result (λ new. AllAcknowledge waiting.old.items → left_of K.rules (document_of new) ≤ left_of K.rules (document_of broker)) }
+    ensures housed { IfOk result (λ new. IsHoused K.rules K.cut (record { seats = seats.new; document = document_of new })) }
+    ensures stop { IfErr result (λ stop. Stopped stop (MadeFrom (Moves K.rules K.cut) (record { waiting = waiting.old.items; house = record { seats = seats.old; document = document_of broker } })) (T.written sink.old) (T.written sink.new)) }
     ensures cause { HasCause (T.faults sink.old) (T.faults sink.new) (result ≡ Err Stop.Sink) }
 {
     steps_keep::<K>();
@@ -120,14 +120,14 @@ pub(crate) fn works<K: Kit, T: Sink>(
     waiting: &mut VecDeque<Waiting>,
     sink: &mut T,
 ) -> Result<Option<Broker<K>>, Stop>
-    requires housed { IsHoused K.rules (record { seats = seats.old; document = held broker }) }
+    requires housed { IsHoused K.rules K.cut (record { seats = seats.old; document = document_of broker }) }
     requires none { waiting.old.items ≡ [] }
-    ensures ok { IfOk result (λ new. Came (Moves K.rules K.cut) (record { waiting = []; house = record { seats = seats.old; document = held broker } }) (record { waiting = []; house = record { seats = seats.new; document = held new } }) (T.written sink.old) (T.written sink.new)) }
+    ensures ok { IfOk result (λ new. Came (Moves K.rules K.cut) (record { waiting = []; house = record { seats = seats.old; document = document_of broker } }) (record { waiting = []; house = record { seats = seats.new; document = document_of new } }) (T.written sink.old) (T.written sink.new)) }
     ensures none_still { IfOk result (λ _. waiting.new.items ≡ []) }
-    ensures housed_still { IfOk result (λ new. IsHoused K.rules (record { seats = seats.new; document = held new })) }
-    ensures rests { IfOk result (λ new. RestsNow K.rules (held new)) }
-    ensures less { IfOk result (λ new. left_of K.rules (held new) ≤ left_of K.rules (held broker)) }
-    ensures stop { IfErr result (λ stop. Stopped stop (MadeFrom (Moves K.rules K.cut) (record { waiting = []; house = record { seats = seats.old; document = held broker } })) (T.written sink.old) (T.written sink.new)) }
+    ensures housed_still { IfOk result (λ new. IsHoused K.rules K.cut (record { seats = seats.new; document = document_of new })) }
+    ensures rests { IfOk result (λ new. RestsNow K.rules (document_of new)) }
+    ensures less { IfOk result (λ new. left_of K.rules (document_of new) ≤ left_of K.rules (document_of broker)) }
+    ensures stop { IfErr result (λ stop. Stopped stop (MadeFrom (Moves K.rules K.cut) (record { waiting = []; house = record { seats = seats.old; document = document_of broker } })) (T.written sink.old) (T.written sink.new)) }
     ensures cause { HasCause (T.faults sink.old) (T.faults sink.new) (result ≡ Err Stop.Sink) }
 {
     let mut broker = broker;
@@ -149,10 +149,10 @@ pub(crate) fn turns_up_to<K: Kit, T: Sink>(
     sink: &mut T,
     count: u32,
 ) -> Result<Option<Broker<K>>, Stop>
-    requires { IsHoused K.rules (record { seats = seats.old; document = held broker }) }
-    ensures ok { IfOk result (λ new. TurnedTo K.rules K.cut count (record { waiting = waiting.old.items; house = record { seats = seats.old; document = held broker } }) (record { waiting = waiting.new.items; house = record { seats = seats.new; document = held new } }) (T.written sink.old) (T.written sink.new)) }
-    ensures housed { IfOk result (λ new. IsHoused K.rules (record { seats = seats.new; document = held new })) }
-    ensures stop { IfErr result (λ stop. Stopped stop (MadeFrom (Moves K.rules K.cut) (record { waiting = waiting.old.items; house = record { seats = seats.old; document = held broker } })) (T.written sink.old) (T.written sink.new)) }
+    requires { IsHoused K.rules K.cut (record { seats = seats.old; document = document_of broker }) }
+    ensures ok { IfOk result (λ new. TurnedTo K.rules K.cut count (record { waiting = waiting.old.items; house = record { seats = seats.old; document = document_of broker } }) (record { waiting = waiting.new.items; house = record { seats = seats.new; document = document_of new } }) (T.written sink.old) (T.written sink.new)) }
+    ensures housed { IfOk result (λ new. IsHoused K.rules K.cut (record { seats = seats.new; document = document_of new })) }
+    ensures stop { IfErr result (λ stop. Stopped stop (MadeFrom (Moves K.rules K.cut) (record { waiting = waiting.old.items; house = record { seats = seats.old; document = document_of broker } })) (T.written sink.old) (T.written sink.new)) }
     ensures cause { HasCause (T.faults sink.old) (T.faults sink.new) (result ≡ Err Stop.Sink) }
 {
     let mut broker = broker;

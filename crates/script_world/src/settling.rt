@@ -4,7 +4,7 @@ ghost use Rattle.std.specs.List.Sorted.{IsStrictlySortedBy};
 ghost use Rattle.std.specs.Ordering.{nat_cmp};
 ghost use Rattle.outside.specs.Causes.{HasCause};
 ghost use Rattle.script_run.specs.Play.{Stopped};
-ghost use Rattle.script_world.specs.House.{held, acknowledgements, IsHoused};
+ghost use Rattle.script_world.specs.House.{document_of, acknowledgements, IsHoused};
 ghost use Rattle.script_world.specs.Moved.{Came, MadeFrom, AreSmall, left_of};
 ghost use Rattle.script_world.specs.World.{Moves, IsAtRest};
 
@@ -28,16 +28,16 @@ fn acknowledged<K: Kit, T: Sink>(
     waiting: &mut VecDeque<Waiting>,
     sink: &mut T,
 ) -> Result<Option<Broker<K>>, Stop>
-    requires housed { IsHoused K.rules (record { seats = seats.old; document = held broker }) }
-    requires are { waiting.old.items ≡ acknowledgements (record { seats = seats.old; document = held broker }) }
+    requires housed { IsHoused K.rules K.cut (record { seats = seats.old; document = document_of broker }) }
+    requires are { waiting.old.items ≡ acknowledgements (record { seats = seats.old; document = document_of broker }) }
     requires some { 0 < length waiting.old.items }
-    requires small { AreSmall (held broker) seats.old.views }
+    requires small { AreSmall (document_of broker) seats.old.views }
     requires sorted { IsStrictlySortedBy nat_cmp (map (λ seat. seat.0) seats.old.views) }
-    ensures ok { IfOk result (λ new. Came (Moves K.rules K.cut) (record { waiting = waiting.old.items; house = record { seats = seats.old; document = held broker } }) (record { waiting = []; house = record { seats = seats.new; document = held new } }) (T.written sink.old) (T.written sink.new)) }
+    ensures ok { IfOk result (λ new. Came (Moves K.rules K.cut) (record { waiting = waiting.old.items; house = record { seats = seats.old; document = document_of broker } }) (record { waiting = []; house = record { seats = seats.new; document = document_of new } }) (T.written sink.old) (T.written sink.new)) }
     ensures none { IfOk result (λ _. waiting.new.items ≡ []) }
-    ensures housed_still { IfOk result (λ new. IsHoused K.rules (record { seats = seats.new; document = held new })) }
-    ensures less { IfOk result (λ new. left_of K.rules (held new) < left_of K.rules (held broker)) }
-    ensures stop { IfErr result (λ stop. Stopped stop (MadeFrom (Moves K.rules K.cut) (record { waiting = waiting.old.items; house = record { seats = seats.old; document = held broker } })) (T.written sink.old) (T.written sink.new)) }
+    ensures housed_still { IfOk result (λ new. IsHoused K.rules K.cut (record { seats = seats.new; document = document_of new })) }
+    ensures less { IfOk result (λ new. left_of K.rules (document_of new) < left_of K.rules (document_of broker)) }
+    ensures stop { IfErr result (λ stop. Stopped stop (MadeFrom (Moves K.rules K.cut) (record { waiting = waiting.old.items; house = record { seats = seats.old; document = document_of broker } })) (T.written sink.old) (T.written sink.new)) }
     ensures cause { HasCause (T.faults sink.old) (T.faults sink.new) (result ≡ Err Stop.Sink) }
 {
     steps_keep::<K>();
@@ -54,13 +54,13 @@ pub(crate) fn comes_to_rest<K: Kit, T: Sink>(
     waiting: &mut VecDeque<Waiting>,
     sink: &mut T,
 ) -> Result<Option<Broker<K>>, Stop>
-    requires housed { IsHoused K.rules (record { seats = seats.old; document = held broker }) }
+    requires housed { IsHoused K.rules K.cut (record { seats = seats.old; document = document_of broker }) }
     requires none { waiting.old.items ≡ [] }
-    ensures ok { IfOk result (λ new. Came (Moves K.rules K.cut) (record { waiting = []; house = record { seats = seats.old; document = held broker } }) (record { waiting = []; house = record { seats = seats.new; document = held new } }) (T.written sink.old) (T.written sink.new)) }
+    ensures ok { IfOk result (λ new. Came (Moves K.rules K.cut) (record { waiting = []; house = record { seats = seats.old; document = document_of broker } }) (record { waiting = []; house = record { seats = seats.new; document = document_of new } }) (T.written sink.old) (T.written sink.new)) }
     ensures none_still { IfOk result (λ _. waiting.new.items ≡ []) }
-    ensures housed_still { IfOk result (λ new. IsHoused K.rules (record { seats = seats.new; document = held new })) }
-    ensures rests { IfOk result (λ new. IsAtRest K.rules (held new)) }
-    ensures stop { IfErr result (λ stop. Stopped stop (MadeFrom (Moves K.rules K.cut) (record { waiting = []; house = record { seats = seats.old; document = held broker } })) (T.written sink.old) (T.written sink.new)) }
+    ensures housed_still { IfOk result (λ new. IsHoused K.rules K.cut (record { seats = seats.new; document = document_of new })) }
+    ensures rests { IfOk result (λ new. IsAtRest K.rules (document_of new)) }
+    ensures stop { IfErr result (λ stop. Stopped stop (MadeFrom (Moves K.rules K.cut) (record { waiting = []; house = record { seats = seats.old; document = document_of broker } })) (T.written sink.old) (T.written sink.new)) }
     ensures cause { HasCause (T.faults sink.old) (T.faults sink.new) (result ≡ Err Stop.Sink) }
 {
     quiet_is_right::<K>();

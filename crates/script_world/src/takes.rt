@@ -1,7 +1,7 @@
 //! One event, as the records that taking it writes.
 ghost use Rattle.std.specs.Prelude.{◌≡◌, [], IfOk};
 ghost use Rattle.std.specs.Option.{ForSome, option_map};
-ghost use Rattle.script_world.specs.House.{held, seated_at, SaysAs, LeavesAs, TakesOne};
+ghost use Rattle.script_world.specs.House.{document_of, seated_at, SaysAs, LeavesAs, TakesOne};
 ghost use Rattle.script_world.specs.Seats.{view_of};
 ghost use Rattle.script_world.specs.Taken.{LeavesDocument};
 
@@ -42,7 +42,7 @@ fn says_to<K: Kit>(
     text: &[u8],
 ) -> Result<Step<K>, Memory>
     requires { ForSome broker (λ d. d.jobs ≡ []) }
-    ensures { IfOk result (λ step. SaysAs K.rules K.cut (record { seats = seats.now; document = broker }) link text.now (seated_at broker (view_of seats.now link)) step.bytes.items (record { seats = seats.now; document = held step.broker })) }
+    ensures { IfOk result (λ step. SaysAs K.rules K.cut (record { seats = seats.now; document = broker }) link text.now (seated_at broker (view_of seats.now link)) step.bytes.items (record { seats = seats.now; document = document_of step.broker })) }
 {
     let Some(view) = live_view(&broker, seats, link) else {
         let bytes = lobby_record(alloc, seats, link, text)?;
@@ -67,8 +67,8 @@ fn says<K: Kit>(
     link: u32,
     text: &[u8],
 ) -> Result<Step<K>, Memory>
-    requires { ForSome (held broker) (λ d. d.jobs ≡ []) }
-    ensures { IfOk result (λ step. SaysAs K.rules K.cut (record { seats = seats.now; document = held broker }) link text.now (seated_at (held broker) (view_of seats.now link)) step.bytes.items (record { seats = seats.now; document = held step.broker })) }
+    requires { ForSome (document_of broker) (λ d. d.jobs ≡ []) }
+    ensures { IfOk result (λ step. SaysAs K.rules K.cut (record { seats = seats.now; document = document_of broker }) link text.now (seated_at (document_of broker) (view_of seats.now link)) step.bytes.items (record { seats = seats.now; document = document_of step.broker })) }
 {
     match broker {
         Some(broker) => says_to(alloc, broker, seats, link, text),
@@ -95,8 +95,8 @@ fn leaves_it<K: Kit>(mut broker: Broker<K>, seats: &Seats, link: u32) -> Broker<
 
 /// A link is gone.
 fn leaves<K: Kit>(alloc: Global, broker: Option<Broker<K>>, seats: &mut Seats, link: u32) -> Step<K>
-    requires { ForSome (held broker) (λ d. d.jobs ≡ []) }
-    ensures { LeavesAs K.rules K.cut (record { seats = seats.old; document = held broker }) link (seated_at (held broker) (view_of seats.old link)) result.bytes.items (record { seats = seats.new; document = held result.broker }) }
+    requires { ForSome (document_of broker) (λ d. d.jobs ≡ []) }
+    ensures { LeavesAs K.rules K.cut (record { seats = seats.old; document = document_of broker }) link (seated_at (document_of broker) (view_of seats.old link)) result.bytes.items (record { seats = seats.new; document = document_of result.broker }) }
 {
     let broker = match broker {
         Some(broker) => Some(leaves_it(broker, seats, link)),
@@ -116,8 +116,8 @@ pub(crate) fn takes<K: Kit>(
     seats: &mut Seats,
     event: Waiting,
 ) -> Result<Step<K>, Memory>
-    requires { ForSome (held broker) (λ d. d.jobs ≡ []) }
-    ensures { IfOk result (λ step. TakesOne K.rules K.cut event (record { seats = seats.old; document = held broker }) step.bytes.items (record { seats = seats.new; document = held step.broker })) }
+    requires { ForSome (document_of broker) (λ d. d.jobs ≡ []) }
+    ensures { IfOk result (λ step. TakesOne K.rules K.cut event (record { seats = seats.old; document = document_of broker }) step.bytes.items (record { seats = seats.new; document = document_of step.broker })) }
 {
     match event {
         Waiting::Opened(link) => {

@@ -1,7 +1,7 @@
 //! One turn of the document, its jobs painted and answered at once.
 ghost use Rattle.std.specs.Prelude.{◌≡◌, [], IfOk, IsSome};
 ghost use Rattle.std.specs.Option.{ForSome};
-ghost use Rattle.script_world.specs.House.{held, TurnsDocument};
+ghost use Rattle.script_world.specs.House.{document_of, TurnsDocument};
 ghost use Rattle.script_world.specs.Answered.{AnswersAll};
 
 use crate::seats::{Seats, records};
@@ -42,7 +42,7 @@ fn answers_all<K: Kit>(
 /// One turn of a document.
 fn turns_one<K: Kit>(alloc: Global, mut broker: Broker<K>, seats: &Seats) -> Result<Turn<K>, Memory>
     requires { ForSome broker (λ d. d.jobs ≡ []) }
-    ensures { IfOk result (λ turn. TurnsDocument K.rules K.cut seats.now broker turn.bytes.items turn.worked (held turn.broker)) }
+    ensures { IfOk result (λ turn. TurnsDocument K.rules K.cut seats.now broker turn.bytes.items turn.worked (document_of turn.broker)) }
 {
     match broker.turn()? {
         Turned::Worked(outs) => {
@@ -69,8 +69,8 @@ pub(crate) fn turns<K: Kit>(
     broker: Option<Broker<K>>,
     seats: &Seats,
 ) -> Result<Turn<K>, Memory>
-    requires { ForSome (held broker) (λ d. d.jobs ≡ []) }
-    ensures { IfOk result (λ turn. TurnsDocument K.rules K.cut seats.now (held broker) turn.bytes.items turn.worked (held turn.broker)) }
+    requires { ForSome (document_of broker) (λ d. d.jobs ≡ []) }
+    ensures { IfOk result (λ turn. TurnsDocument K.rules K.cut seats.now (document_of broker) turn.bytes.items turn.worked (document_of turn.broker)) }
 {
     match broker {
         Some(broker) => turns_one(alloc, broker, seats),

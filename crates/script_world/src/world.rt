@@ -24,14 +24,14 @@ pub struct World<K: Kit> {
 }
 
 impl<K: Kit> Model for World<K> {
-    ghost use Rattle.script_world.specs.House.{IsHoused, held};
+    ghost use Rattle.script_world.specs.House.{IsHoused, document_of};
     ghost use Rattle.script_world.specs.World.{Seen};
 
     ghost Value = { Seen K.Scene };
 
-    ghost view = { λ w. record { waiting = w.waiting.items; house = record { seats = w.seats; document = held w.broker } } };
+    ghost view = { λ w. record { waiting = w.waiting.items; house = record { seats = w.seats; document = document_of w.broker } } };
 
-    ghost invariant = { λ w. IsHoused K.rules (record { seats = w.seats; document = held w.broker }) };
+    ghost invariant = { λ w. IsHoused K.rules K.cut (record { seats = w.seats; document = document_of w.broker }) };
 }
 
 impl<K: Kit> World<K> {
@@ -101,7 +101,12 @@ impl<K: Kit> World<K> {
     /// Makes so many poll turns, or fewer up to one that would do nothing, and writes the records of their
     /// frames. Where it is stopped, whole turns were written and a front of one more; what stands in the
     /// world after that is open.
-    pub fn turn<T: Sink>(&mut self, alloc: Global, sink: &mut T, count: u32) -> Result<(), Stop>
+    pub fn make_turns<T: Sink>(
+        &mut self,
+        alloc: Global,
+        sink: &mut T,
+        count: u32,
+    ) -> Result<(), Stop>
         ensures ok { OnOk result ((out : List ℕ) × Turned K.rules K.cut count self.old out self.new × Adds (T.written sink.old) out (T.written sink.new)) }
         ensures stop { IfErr result (λ stop. Stopped stop (Begun K.rules K.cut self.old) (T.written sink.old) (T.written sink.new)) }
         ensures cause { HasCause (T.faults sink.old) (T.faults sink.new) (result ≡ Err Stop.Sink) }

@@ -11,7 +11,7 @@ returns-clause-quiet g c =
     (Quiet.quiet_is_right g.K.Kit.rules d
     (λ base journal version n place wide high le clean.
     Untouched.untouched_is_unchanged g.K.Kit.rules g.K.Kit.IsSound laws.sound_start laws.sound_step laws.covered base journal version place wide high n le clean)
-    (Law.run_whole g.K.Kit.rules g.K.Kit.cut (λ base. laws.some_part (g.K.Kit.rules.start base) (laws.sound_start base)) _ d played.run).kept
+    (Law.run_kept g.K.Kit.rules g.K.Kit.cut (λ base. laws.some_part (g.K.Kit.rules.start base) (laws.sound_start base)) _ d played.run)
     quiet)
 
 pub returns-clause-settled : goal.returns-clause-settled

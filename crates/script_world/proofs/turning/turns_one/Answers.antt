@@ -1,7 +1,5 @@
-use Rattle.std.proofs.Common.{◌≡◌, ap, ◌∙◌, ◌++◌, length, subst}
-use Rattle.std.specs.Option.{ForSome}
-use Rattle.broker_core.specs.Serving.{GoesTo}
-use Rattle.document_machine.specs.Next.{none_kept, IsFirst}
+use Rattle.std.proofs.Common.{ap, ◌∙◌, ◌++◌, subst}
+use Rattle.document_machine.specs.Step.{Did}
 use Rattle.script_world.specs.Answered.{AnswersAll}
 use Rattle.script_world.specs.Seats.{records}
 use Rattle.script_world.proofs.Answers.{worked_by}
@@ -10,8 +8,7 @@ use Rattle.script_world.proofs.turning.turns_one.Goals as goal
 pub returns-in_ok-extend_from_slice-in-Worked : goal.returns-in_ok-extend_from_slice-in-Worked
 returns-in_ok-extend_from_slice-in-Worked g c =
     worked_by g.K.Kit.rules g.K.Kit.cut c.args.seats.now c.args.broker c.turn.new.self c.answers_all.new.broker c.in-Worked.outs c.in_ok-bytes-in-Worked.bytes.items c.in_ok-later-in-Worked.later.items c.extend_from_slice.new.self.items
-    (subst (λ turned. GoesTo g.K.Kit.rules g.K.Kit.cut c.args.broker turned c.turn.new.self) c.in-Worked.is c.in_ok-outs.ensures.turn)
-    (subst (λ turned. ForSome c.args.broker (λ d. d.applied ≡ length d.journal → IsFirst g.K.Kit.rules none_kept d turned)) c.in-Worked.is c.in_ok-outs.ensures.first)
+    (subst (λ turned. Did g.K.Kit.rules g.K.Kit.cut c.args.broker turned c.turn.new.self) c.in-Worked.is c.in_ok-outs.ensures.does)
     (c.in_ok-bytes-in-Worked.ensures ∙ ap (records c.args.seats.now) c.get.ensures)
     (subst (λ jobs. AnswersAll g.K.Kit.rules g.K.Kit.cut c.args.seats.now c.turn.new.self jobs c.in_ok-later-in-Worked.later.items c.answers_all.new.broker) c.into_inner.ensures c.in_ok-later-in-Worked.ensures)
     (c.in_ok-extend_from_slice-in-Worked.ensures.items ∙ ap (λ b. c.in_ok-bytes-in-Worked.bytes.items ++ b) c.deref.ensures.value)

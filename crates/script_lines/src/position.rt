@@ -11,23 +11,23 @@ use std::marker::Model;
 /// Where a script stands: the file that its links open, the links that were used, and those of them that
 /// were dropped.
 #[derive(Drop)]
-pub struct Place {
+pub struct Position {
     file: Option<FileId>,
     used: BTreeSet<u32>,
     dropped: BTreeSet<u32>,
 }
 
-impl Model for Place {
-    ghost use Rattle.script_lines.specs.Places.{Place as Standing};
+impl Model for Position {
+    ghost use Rattle.script_lines.specs.Positions.{Position as Standing};
 
     ghost Value = { Standing };
 
     ghost view = { λ p. record { file = p.file; used = p.used.keys; dropped = p.dropped.keys } };
 }
 
-/// What a line does.
+/// What a line does in a script.
 #[derive(Drop)]
-pub enum Judged {
+pub enum LineRole {
     /// It acts.
     Acts(ScriptLine),
     /// It ends the script.
@@ -36,44 +36,44 @@ pub enum Judged {
     Refused,
 }
 
-impl Place {
+impl Position {
     ghost use Rattle.std.specs.Prelude.{◌≡◌, IfOk, OnErr, Some, if◌then◌else◌};
-    ghost use Rattle.script_lines.specs.Grammar.{start, is_live, may_open, judged, verdict};
-    ghost use Rattle.script_lines.specs.Judged.{Judges};
+    ghost use Rattle.script_lines.specs.Grammar.{start, is_live, may_open, role_of, role};
+    ghost use Rattle.script_lines.specs.Advances.{Advances};
 
     /// A script before its first line.
-    pub fn start(alloc: Global) -> Place
+    pub fn start(alloc: Global) -> Position
         ensures { result ≡ start }
     {
-        Place {
+        Position {
             file: None,
             used: BTreeSet::new(alloc),
             dropped: BTreeSet::new(alloc),
         }
     }
 
-    /// What the line does here; where it acts, the script then stands behind it. After `Memory` the place
+    /// What the line does here; where it acts, the script then stands after it. After `Memory` the position
     /// is unchanged.
-    pub fn judge(&mut self, alloc: Global, line: &[u8]) -> Result<Judged, Memory>
-        ensures ok { IfOk result (λ j. Judges j (verdict self.old line.now) self.old self.new) }
+    pub fn advance(&mut self, alloc: Global, line: &[u8]) -> Result<LineRole, Memory>
+        ensures ok { IfOk result (λ j. Advances j (role self.old line.now) self.old self.new) }
         ensures err { OnErr result (self.new ≡ self.old) }
     {
         let Some(said) = read_line(alloc, line)? else {
-            return Ok(Judged::Refused);
+            return Ok(LineRole::Refused);
         };
-        self.weigh(said)
+        self.advance_by(said)
     }
 
     // What a line that says this does here.
-    fn weigh(&mut self, said: ScriptLine) -> Result<Judged, Memory>
-        ensures ok { IfOk result (λ j. Judges j (judged self.old (Some said)) self.old self.new) }
+    fn advance_by(&mut self, said: ScriptLine) -> Result<LineRole, Memory>
+        ensures ok { IfOk result (λ j. Advances j (role_of self.old (Some said)) self.old self.new) }
         ensures err { OnErr result (self.new ≡ self.old) }
     {
         match said {
-            ScriptLine::End => Ok(Judged::Ends),
-            ScriptLine::Settle => Ok(Judged::Acts(ScriptLine::Settle)),
-            ScriptLine::Blank => Ok(Judged::Acts(ScriptLine::Blank)),
-            ScriptLine::Turn(count) => Ok(Judged::Acts(ScriptLine::Turn(count))),
+            ScriptLine::End => Ok(LineRole::Ends),
+            ScriptLine::Settle => Ok(LineRole::Acts(ScriptLine::Settle)),
+            ScriptLine::Blank => Ok(LineRole::Acts(ScriptLine::Blank)),
+            ScriptLine::Turn(count) => Ok(LineRole::Acts(ScriptLine::Turn(count))),
             ScriptLine::Say(link, message) => Ok(self.if_live(
                 link,
                 ScriptLine::Say(link, message),
@@ -85,13 +85,13 @@ impl Place {
     }
 
     // A line of a link acts while the link is live.
-    fn if_live(&self, link: u32, said: ScriptLine) -> Judged
-        ensures { result ≡ (if is_live self.now link then Judged.Acts said else Judged.Refused) }
+    fn if_live(&self, link: u32, said: ScriptLine) -> LineRole
+        ensures { result ≡ (if is_live self.now link then LineRole.Acts said else LineRole.Refused) }
     {
         if self.is_live(link) {
-            Judged::Acts(said)
+            LineRole::Acts(said)
         } else {
-            Judged::Refused
+            LineRole::Refused
         }
     }
 
@@ -103,15 +103,15 @@ impl Place {
     }
 
     // A live link is dropped.
-    fn leave(&mut self, link: u32) -> Result<Judged, Memory>
-        ensures ok { IfOk result (λ j. Judges j (judged self.old (Some (ScriptLine.Leave link))) self.old self.new) }
+    fn leave(&mut self, link: u32) -> Result<LineRole, Memory>
+        ensures ok { IfOk result (λ j. Advances j (role_of self.old (Some (ScriptLine.Leave link))) self.old self.new) }
         ensures err { OnErr result (self.new ≡ self.old) }
     {
         if !self.is_live(link) {
-            return Ok(Judged::Refused);
+            return Ok(LineRole::Refused);
         }
         self.dropped.insert(link)?;
-        Ok(Judged::Acts(ScriptLine::Leave(link)))
+        Ok(LineRole::Acts(ScriptLine::Leave(link)))
     }
 
     // Whether a link may be opened on the file.
@@ -122,16 +122,16 @@ impl Place {
     }
 
     // A link is opened on the script's one file.
-    fn open(&mut self, link: u32, file: FileId, writes: bool) -> Result<Judged, Memory>
-        ensures ok { IfOk result (λ j. Judges j (judged self.old (Some (ScriptLine.Open link file writes))) self.old self.new) }
+    fn open(&mut self, link: u32, file: FileId, writes: bool) -> Result<LineRole, Memory>
+        ensures ok { IfOk result (λ j. Advances j (role_of self.old (Some (ScriptLine.Open link file writes))) self.old self.new) }
         ensures err { OnErr result (self.new ≡ self.old) }
     {
         if !self.may_open(link, &file) {
-            return Ok(Judged::Refused);
+            return Ok(LineRole::Refused);
         }
         self.used.insert(link)?;
         self.file = Some(file.copy());
-        Ok(Judged::Acts(ScriptLine::Open(link, file, writes)))
+        Ok(LineRole::Acts(ScriptLine::Open(link, file, writes)))
     }
 }
 
