@@ -1,0 +1,4 @@
+pub mod Loops
+pub mod Exchanges
+pub mod Calls
+pub mod Kept
