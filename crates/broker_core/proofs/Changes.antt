@@ -16,10 +16,10 @@ use Rattle.document_machine.specs.declared.limits.TheConstants.{MOST_ASKED}
 use Rattle.view_session.specs.Viewing.{Viewing, Entry, asks, looks, zooms, goes_to, cancels, wants}
 use Rattle.view_session.specs.declared.views.ViewFault.{ViewFault}
 use Rattle.view_session.specs.declared.views.ViewFault.TheVariants.{TooLarge as SeesTooMuch, AskedFull as AsksTooMuch, Memory}
-use Rattle.broker_core.specs.Hearing.{Hears, effect_in, frames_in, inputs_in, heard_of_change}
+use Rattle.broker_core.specs.Hearing.{Hears, effect_in, frames_in, inputs_in, outcome_of}
 use Rattle.broker_core.specs.Members.{shown_of, view_of}
-use Rattle.broker_core.specs.declared.hearing.Heard.{Heard}
-use Rattle.broker_core.specs.declared.hearing.Heard.TheVariants.{Nothing, Answer}
+use Rattle.broker_core.specs.declared.hearing.Outcome.{Outcome}
+use Rattle.broker_core.specs.declared.hearing.Outcome.TheVariants.{Nothing, Answer}
 use Rattle.broker_core.specs.declared.members.Member.{Member}
 use Rattle.broker_core.proofs.Lists.{keeps_all}
 
@@ -51,8 +51,8 @@ abbrev pub with_viewing : Member → Viewing → Member
 with_viewing member view = record member { view = view }
 
 -- a message that leaves the member as it is
-pub same_hears : (sizes : ℕ → Extent) (member : Member) (effect : Effect) (heard : Heard) → effect_in (view_of member) heard ≡ effect → member.view.visible ≡ seen_keys sizes (view_of member) → Hears sizes member effect heard member
-same_hears sizes member effect heard is seen = record {
+pub same_hears : (sizes : ℕ → Extent) (member : Member) (effect : Effect) (outcome : Outcome) → effect_in (view_of member) outcome ≡ effect → member.view.visible ≡ seen_keys sizes (view_of member) → Hears sizes member effect outcome member
+same_hears sizes member effect outcome is seen = record {
   is = is;
   seen = seen;
   keeps = λ entry. true;
@@ -60,14 +60,14 @@ same_hears sizes member effect heard is seen = record {
 }
 
 -- a message that is refused
-pub refuses_hears : (sizes : ℕ → Extent) (member : Member) (command : List ℕ) (kind : ErrorKind) (effect : Effect) (heard : Heard) → heard ≡ Answer (Error command kind None) → refuses (view_of member) command kind ≡ effect → member.view.visible ≡ seen_keys sizes (view_of member) → Hears sizes member effect heard member
-refuses_hears sizes member command kind effect heard is effect_is seen = same_hears sizes member effect heard (ap (effect_in (view_of member)) is ∙ effect_is) seen
+pub refuses_hears : (sizes : ℕ → Extent) (member : Member) (command : List ℕ) (kind : ErrorKind) (effect : Effect) (outcome : Outcome) → outcome ≡ Answer (Error command kind None) → refuses (view_of member) command kind ≡ effect → member.view.visible ≡ seen_keys sizes (view_of member) → Hears sizes member effect outcome member
+refuses_hears sizes member command kind effect outcome is effect_is seen = same_hears sizes member effect outcome (ap (effect_in (view_of member)) is ∙ effect_is) seen
 
 -- a message by which the view is this one
-becomes_hears : (sizes : ℕ → Extent) (member : Member) (next : Viewing) (view : View) (keeps : Entry → Bool) (heard : Heard)
-    → frames_in heard ≡ [] → inputs_in heard ≡ [] → view_of (with_viewing member next) ≡ view → next.visible ≡ seen_keys sizes view → next.screen ≡ filter keeps member.view.screen
-    → Hears sizes member (becomes view) heard (with_viewing member next)
-becomes_hears sizes member next view keeps heard frames inputs view_is seen screen = record {
+becomes_hears : (sizes : ℕ → Extent) (member : Member) (next : Viewing) (view : View) (keeps : Entry → Bool) (outcome : Outcome)
+    → frames_in outcome ≡ [] → inputs_in outcome ≡ [] → view_of (with_viewing member next) ≡ view → next.visible ≡ seen_keys sizes view → next.screen ≡ filter keeps member.view.screen
+    → Hears sizes member (becomes view) outcome (with_viewing member next)
+becomes_hears sizes member next view keeps outcome frames inputs view_is seen screen = record {
   is = λ i. record { frames = frames i; inputs = inputs i; view = view_is i };
   seen = seen ∙ ap (seen_keys sizes) (sym view_is);
   keeps = keeps;
@@ -75,39 +75,39 @@ becomes_hears sizes member next view keeps heard frames inputs view_is seen scre
 }
 
 -- a change of what a view sees
-change_hears : (sizes : ℕ → Extent) (member now : Member) (command : List ℕ) (changed : View) (next : Viewing) (keeps : Entry → Bool) (change : Result (Unit {0}) ViewFault) (heard : Heard)
+change_hears : (sizes : ℕ → Extent) (member now : Member) (command : List ℕ) (changed : View) (next : Viewing) (keeps : Entry → Bool) (change : Result (Unit {0}) ViewFault) (outcome : Outcome)
     → now.id ≡ member.id → OnOk change (now.view ≡ next) → ((change ≡ Err SeesTooMuch) ↔ (is_too_large changed.zoom (length (seen_keys sizes changed)) ≡ true)) → change ≢ Err AsksTooMuch → OnErr change (now.view ≡ member.view) → change ≢ Err Memory
-    → heard ≡ heard_of_change command change
+    → outcome ≡ outcome_of command change
     → view_of (with_viewing member next) ≡ forgets sizes changed → next.visible ≡ seen_keys sizes changed → next.screen ≡ filter keeps member.view.screen
     → member.view.visible ≡ seen_keys sizes (view_of member)
-    → Hears sizes member (seeing_effect sizes (view_of member) command changed) heard now
-change_hears sizes member now command changed next keeps (Ok done) heard id_is ok large full err memory told view_is seen screen was =
+    → Hears sizes member (seeing_effect sizes (view_of member) command changed) outcome now
+change_hears sizes member now command changed next keeps (Ok done) outcome id_is ok large full err memory told view_is seen screen was =
     let small : is_too_large changed.zoom (length (seen_keys sizes changed)) ≡ false = off _ (λ so. let e = large.1 so in absurd (cc)) in
     let now_is : with_viewing member next ≡ now = λ i. record { id = sym id_is i; view = sym ok i } in
     let effect_is : becomes (forgets sizes changed) ≡ seeing_effect sizes (view_of member) command changed = ap (λ b. cond b (refuses (view_of member) command TooLarge) (becomes (forgets sizes changed))) (sym small) in
-    subst (λ (m : Member). Hears sizes member (seeing_effect sizes (view_of member) command changed) heard m) now_is
-    (subst (λ (e : Effect). Hears sizes member e heard (with_viewing member next)) effect_is
-    (becomes_hears sizes member next (forgets sizes changed) keeps heard (ap frames_in told) (ap inputs_in told) view_is seen screen))
-change_hears sizes member now command changed next keeps (Err SeesTooMuch) heard id_is ok large full err memory told view_is seen screen was =
+    subst (λ (m : Member). Hears sizes member (seeing_effect sizes (view_of member) command changed) outcome m) now_is
+    (subst (λ (e : Effect). Hears sizes member e outcome (with_viewing member next)) effect_is
+    (becomes_hears sizes member next (forgets sizes changed) keeps outcome (ap frames_in told) (ap inputs_in told) view_is seen screen))
+change_hears sizes member now command changed next keeps (Err SeesTooMuch) outcome id_is ok large full err memory told view_is seen screen was =
     let now_is : member ≡ now = λ i. record { id = sym id_is i; view = sym err i } in
     let effect_is : refuses (view_of member) command TooLarge ≡ seeing_effect sizes (view_of member) command changed = ap (λ b. cond b (refuses (view_of member) command TooLarge) (becomes (forgets sizes changed))) (sym (large.0 refl)) in
-    let is : effect_in (view_of member) heard ≡ refuses (view_of member) command TooLarge = λ i. record { frames = ap frames_in told i; inputs = ap inputs_in told i; view = view_of member } in
-    subst (λ (m : Member). Hears sizes member (seeing_effect sizes (view_of member) command changed) heard m) now_is (same_hears sizes member _ heard (is ∙ effect_is) was)
-change_hears sizes member now command changed next keeps (Err AsksTooMuch) heard id_is ok large full err memory told view_is seen screen was = absurd (full refl)
-change_hears sizes member now command changed next keeps (Err Memory) heard id_is ok large full err memory told view_is seen screen was = absurd (memory refl)
+    let is : effect_in (view_of member) outcome ≡ refuses (view_of member) command TooLarge = λ i. record { frames = ap frames_in told i; inputs = ap inputs_in told i; view = view_of member } in
+    subst (λ (m : Member). Hears sizes member (seeing_effect sizes (view_of member) command changed) outcome m) now_is (same_hears sizes member _ outcome (is ∙ effect_is) was)
+change_hears sizes member now command changed next keeps (Err AsksTooMuch) outcome id_is ok large full err memory told view_is seen screen was = absurd (full refl)
+change_hears sizes member now command changed next keeps (Err Memory) outcome id_is ok large full err memory told view_is seen screen was = absurd (memory refl)
 
-module _ (sizes : ℕ → Extent) (member now : Member) (size : Extent) (change : Result (Unit {0}) ViewFault) (heard : Heard) where
+module _ (sizes : ℕ → Extent) (member now : Member) (size : Extent) (change : Result (Unit {0}) ViewFault) (outcome : Outcome) where
   -- the view looks at another area
   pub look_hears : (area : Rectangle) (command : List ℕ) → size ≡ sizes member.view.part → now.id ≡ member.id
       → OnOk change (now.view ≡ looks area size member.view) → ((change ≡ Err SeesTooMuch) ↔ (is_too_large member.view.zoom (length (visible_keys member.view.part member.view.zoom area size)) ≡ true)) → change ≢ Err AsksTooMuch → OnErr change (now.view ≡ member.view) → change ≢ Err Memory
-      → heard ≡ heard_of_change command change → member.view.visible ≡ seen_keys sizes (view_of member)
-      → Hears sizes member (seeing_effect sizes (view_of member) command (record (view_of member) { area = area })) heard now
+      → outcome ≡ outcome_of command change → member.view.visible ≡ seen_keys sizes (view_of member)
+      → Hears sizes member (seeing_effect sizes (view_of member) command (record (view_of member) { area = area })) outcome now
   look_hears area command size_is id_is ok large full err memory told was =
       let v : Viewing = record member.view { area = area; visible = visible_keys member.view.part member.view.zoom area (sizes member.view.part) } in
       let keeps : Entry → Bool = λ entry. wants v entry.key in
       let view_is : view_of (with_viewing member (looks area (sizes member.view.part) member.view)) ≡ forgets sizes (record (view_of member) { area = area }) =
       ap (λ (s : List Shown). record (view_of (with_viewing member v)) { screen = s }) (sym (screen_keeps (wants v) member.view.screen)) in
-      change_hears sizes member now command (record (view_of member) { area = area }) (looks area (sizes member.view.part) member.view) keeps change heard id_is
+      change_hears sizes member now command (record (view_of member) { area = area }) (looks area (sizes member.view.part) member.view) keeps change outcome id_is
       (subst (λ (s : Extent). OnOk change (now.view ≡ looks area s member.view)) size_is ok)
       (subst (λ (s : Extent). (change ≡ Err SeesTooMuch) ↔ (is_too_large member.view.zoom (length (visible_keys member.view.part member.view.zoom area s)) ≡ true)) size_is large)
       full err memory told view_is refl refl was
@@ -115,14 +115,14 @@ module _ (sizes : ℕ → Extent) (member now : Member) (size : Extent) (change 
   -- the view's tiles have another size
   pub scale_hears : (zoom : Scale) (command : List ℕ) → size ≡ sizes member.view.part → now.id ≡ member.id
       → OnOk change (now.view ≡ zooms zoom size member.view) → ((change ≡ Err SeesTooMuch) ↔ (is_too_large zoom (length (visible_keys member.view.part zoom member.view.area size)) ≡ true)) → change ≢ Err AsksTooMuch → OnErr change (now.view ≡ member.view) → change ≢ Err Memory
-      → heard ≡ heard_of_change command change → member.view.visible ≡ seen_keys sizes (view_of member)
-      → Hears sizes member (seeing_effect sizes (view_of member) command (record (view_of member) { zoom = zoom })) heard now
+      → outcome ≡ outcome_of command change → member.view.visible ≡ seen_keys sizes (view_of member)
+      → Hears sizes member (seeing_effect sizes (view_of member) command (record (view_of member) { zoom = zoom })) outcome now
   scale_hears zoom command size_is id_is ok large full err memory told was =
       let v : Viewing = record member.view { zoom = zoom; visible = visible_keys member.view.part zoom member.view.area (sizes member.view.part) } in
       let keeps : Entry → Bool = λ entry. wants v entry.key in
       let view_is : view_of (with_viewing member (zooms zoom (sizes member.view.part) member.view)) ≡ forgets sizes (record (view_of member) { zoom = zoom }) =
       ap (λ (s : List Shown). record (view_of (with_viewing member v)) { screen = s }) (sym (screen_keeps (wants v) member.view.screen)) in
-      change_hears sizes member now command (record (view_of member) { zoom = zoom }) (zooms zoom (sizes member.view.part) member.view) keeps change heard id_is
+      change_hears sizes member now command (record (view_of member) { zoom = zoom }) (zooms zoom (sizes member.view.part) member.view) keeps change outcome id_is
       (subst (λ (s : Extent). OnOk change (now.view ≡ zooms zoom s member.view)) size_is ok)
       (subst (λ (s : Extent). (change ≡ Err SeesTooMuch) ↔ (is_too_large zoom (length (visible_keys member.view.part zoom member.view.area s)) ≡ true)) size_is large)
       full err memory told view_is refl refl was
@@ -130,42 +130,42 @@ module _ (sizes : ℕ → Extent) (member now : Member) (size : Extent) (change 
   -- the view goes to another part
   pub go_hears : (part : ℕ) (command : List ℕ) → size ≡ sizes part → now.id ≡ member.id
       → OnOk change (now.view ≡ goes_to part size member.view) → ((change ≡ Err SeesTooMuch) ↔ (is_too_large member.view.zoom (length (visible_keys part member.view.zoom member.view.area size)) ≡ true)) → change ≢ Err AsksTooMuch → OnErr change (now.view ≡ member.view) → change ≢ Err Memory
-      → heard ≡ heard_of_change command change → member.view.visible ≡ seen_keys sizes (view_of member)
-      → Hears sizes member (seeing_effect sizes (view_of member) command (record (view_of member) { part = part })) heard now
+      → outcome ≡ outcome_of command change → member.view.visible ≡ seen_keys sizes (view_of member)
+      → Hears sizes member (seeing_effect sizes (view_of member) command (record (view_of member) { part = part })) outcome now
   go_hears part command size_is id_is ok large full err memory told was =
       let v : Viewing = record member.view { part = part; visible = visible_keys part member.view.zoom member.view.area (sizes part) } in
       let keeps : Entry → Bool = λ entry. wants v entry.key in
       let view_is : view_of (with_viewing member (goes_to part (sizes part) member.view)) ≡ forgets sizes (record (view_of member) { part = part }) =
       ap (λ (s : List Shown). record (view_of (with_viewing member v)) { screen = s }) (sym (screen_keeps (wants v) member.view.screen)) in
-      change_hears sizes member now command (record (view_of member) { part = part }) (goes_to part (sizes part) member.view) keeps change heard id_is
+      change_hears sizes member now command (record (view_of member) { part = part }) (goes_to part (sizes part) member.view) keeps change outcome id_is
       (subst (λ (s : Extent). OnOk change (now.view ≡ goes_to part s member.view)) size_is ok)
       (subst (λ (s : Extent). (change ≡ Err SeesTooMuch) ↔ (is_too_large member.view.zoom (length (visible_keys part member.view.zoom member.view.area s)) ≡ true)) size_is large)
       full err memory told view_is refl refl was
 
 -- the view asks for these keys too
-pub ask_hears : (sizes : ℕ → Extent) (member now : Member) (keys : List Place) (change : Result (Unit {0}) ViewFault) (heard : Heard) (command : List ℕ) → now.id ≡ member.id
+pub ask_hears : (sizes : ℕ → Extent) (member now : Member) (keys : List Place) (change : Result (Unit {0}) ViewFault) (outcome : Outcome) (command : List ℕ) → now.id ≡ member.id
     → OnOk change (now.view ≡ asks keys member.view) → ((change ≡ Err AsksTooMuch) ↔ (MOST_ASKED < length (asked_with_all member.view.asked keys))) → change ≢ Err SeesTooMuch → OnErr change (now.view ≡ member.view) → change ≢ Err Memory
-    → heard ≡ heard_of_change command change → member.view.visible ≡ seen_keys sizes (view_of member)
-    → Hears sizes member (asking_effect (view_of member) command (Some keys)) heard now
-ask_hears sizes member now keys (Ok done) heard command id_is ok full large err memory told was =
+    → outcome ≡ outcome_of command change → member.view.visible ≡ seen_keys sizes (view_of member)
+    → Hears sizes member (asking_effect (view_of member) command (Some keys)) outcome now
+ask_hears sizes member now keys (Ok done) outcome command id_is ok full large err memory told was =
     let asked : List Place = asked_with_all member.view.asked keys in
     let few : nat_lt MOST_ASKED (length asked) ≡ false = off _ (λ so. let many : MOST_ASKED < length asked = grind (arith, nat_tests) in let e = full.1 many in absurd (cc)) in
     let view : View = record (view_of member) { asked = asked } in
     let now_is : with_viewing member (asks keys member.view) ≡ now = λ i. record { id = sym id_is i; view = sym ok i } in
     let effect_is : becomes view ≡ asking_effect (view_of member) command (Some keys) = ap (λ b. cond b (refuses (view_of member) command AskedFull) (becomes view)) (sym few) in
-    subst (λ (m : Member). Hears sizes member (asking_effect (view_of member) command (Some keys)) heard m) now_is
-    (subst (λ (e : Effect). Hears sizes member e heard (with_viewing member (asks keys member.view))) effect_is
-    (becomes_hears sizes member (asks keys member.view) view (λ entry. true) heard (ap frames_in told) (ap inputs_in told) refl was (sym (keeps_all member.view.screen))))
-ask_hears sizes member now keys (Err AsksTooMuch) heard command id_is ok full large err memory told was =
+    subst (λ (m : Member). Hears sizes member (asking_effect (view_of member) command (Some keys)) outcome m) now_is
+    (subst (λ (e : Effect). Hears sizes member e outcome (with_viewing member (asks keys member.view))) effect_is
+    (becomes_hears sizes member (asks keys member.view) view (λ entry. true) outcome (ap frames_in told) (ap inputs_in told) refl was (sym (keeps_all member.view.screen))))
+ask_hears sizes member now keys (Err AsksTooMuch) outcome command id_is ok full large err memory told was =
     let asked : List Place = asked_with_all member.view.asked keys in
     let over : MOST_ASKED < length asked = full.0 refl in
     let many : nat_lt MOST_ASKED (length asked) ≡ true = grind (arith, nat_tests) in
     let now_is : member ≡ now = λ i. record { id = sym id_is i; view = sym err i } in
     let effect_is : refuses (view_of member) command AskedFull ≡ asking_effect (view_of member) command (Some keys) = ap (λ b. cond b (refuses (view_of member) command AskedFull) (becomes (record (view_of member) { asked = asked }))) (sym many) in
-    let is : effect_in (view_of member) heard ≡ refuses (view_of member) command AskedFull = λ i. record { frames = ap frames_in told i; inputs = ap inputs_in told i; view = view_of member } in
-    subst (λ (m : Member). Hears sizes member (asking_effect (view_of member) command (Some keys)) heard m) now_is (same_hears sizes member _ heard (is ∙ effect_is) was)
-ask_hears sizes member now keys (Err SeesTooMuch) heard command id_is ok full large err memory told was = absurd (large refl)
-ask_hears sizes member now keys (Err Memory) heard command id_is ok full large err memory told was = absurd (memory refl)
+    let is : effect_in (view_of member) outcome ≡ refuses (view_of member) command AskedFull = λ i. record { frames = ap frames_in told i; inputs = ap inputs_in told i; view = view_of member } in
+    subst (λ (m : Member). Hears sizes member (asking_effect (view_of member) command (Some keys)) outcome m) now_is (same_hears sizes member _ outcome (is ∙ effect_is) was)
+ask_hears sizes member now keys (Err SeesTooMuch) outcome command id_is ok full large err memory told was = absurd (large refl)
+ask_hears sizes member now keys (Err Memory) outcome command id_is ok full large err memory told was = absurd (memory refl)
 
 -- the view asks for nothing that it doesn't see
 pub cancel_hears : (sizes : ℕ → Extent) (member : Member) → member.view.visible ≡ seen_keys sizes (view_of member) → Hears sizes member (becomes (cancels_all sizes (view_of member))) Nothing (with_viewing member (cancels member.view))

@@ -26,11 +26,6 @@ pub all_unmap : {X Y : Type 0} (P : Y → Type 0) (f : X → Y) (xs : List X) �
 all_unmap P f [] all = tt
 all_unmap P f (x ∷ xs) all = (all.0, all_unmap P f xs all.1)
 
--- two facts of each
-pub all_both : {X : Type 0} (P Q : X → Type 0) (xs : List X) → AllByRecursion P xs → AllByRecursion Q xs → AllByRecursion (λ x. P x × Q x) xs
-all_both P Q [] p q = tt
-all_both P Q (x ∷ xs) p q = ((p.0, q.0), all_both P Q xs p.1 q.1)
-
 -- what holds of all holds of those that a filter keeps
 pub all_kept : {X : Type 0} (P : X → Type 0) (p : X → Bool) (xs : List X) → AllByRecursion P xs → AllByRecursion P (filter p xs)
 all_kept P p [] all = tt

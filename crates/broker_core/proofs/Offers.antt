@@ -1,5 +1,5 @@
 -- A painted tile, offered to every view.
-use Rattle.std.proofs.Common.{◌≡◌, ℕ, zero, suc, ◌+◌, ◌<◌, ◌≤◌, Bool, true, false, not, ◌||◌, cond, List, [], ◌∷◌, ◌++◌, length, map, take, drop, get_or, Option, Some, None, refl, sym, ap, subst, ◌∙◌, inl, inr, arith, rules, nat_eq, append-nil}
+use Rattle.std.proofs.Common.{◌≡◌, ℕ, zero, suc, ◌+◌, ◌<◌, ◌≤◌, Bool, true, false, not, ◌||◌, cond, List, [], ◌∷◌, ◌++◌, length, map, take, drop, get_or, Some, None, refl, sym, ap, subst, ◌∙◌, inr, arith, rules, nat_eq, append-nil}
 use Rattle.std.specs.List.{flat_map, AllByRecursion}
 use Rattle.std.specs.Ordering.{is_lt}
 use Rattle.std.proofs.lemmas.List.{take_more, flat_map_more}
@@ -14,7 +14,7 @@ use Rattle.document_machine.specs.Due as due
 use Rattle.document_machine.specs.Event.{Painted}
 use Rattle.document_machine.specs.Keys.{is_among}
 use Rattle.document_machine.specs.Kept.{IsJobKept}
-use Rattle.document_machine.specs.Outputs.{nothing, frames_only}
+use Rattle.document_machine.specs.Outputs.{frames_only}
 use Rattle.document_machine.specs.State.{Document, Job, find_job, without_job}
 use Rattle.document_machine.specs.Step as step
 use Rattle.document_machine.specs.Step.{Paints, views_offered, tiles_for}
@@ -24,7 +24,7 @@ use Rattle.document_laws.proofs.Kept.{steps_keep}
 use Rattle.view_session.specs.Viewing.{Viewing, Entry, with_entry, screen_after, sent}
 use Rattle.broker_core.specs.Held.{Holds, IsPresent, IsTracked}
 use Rattle.broker_core.specs.Members.{view_of, views_of}
-use Rattle.broker_core.specs.Serving.{takes, offered, frames_for, job_of, Awaits, Ignores}
+use Rattle.broker_core.specs.Serving.{takes, offered, frames_for, job_of, Awaits}
 use Rattle.broker_core.specs.declared.members.Member.{Member}
 use Rattle.broker_core.proofs.Lists.{all_kept}
 use Rattle.broker_core.proofs.Words.{takes_same, sent_same}
@@ -175,11 +175,6 @@ holds_painted {C} {B} {S} rules cut IsSound some_part contents members after d t
       tracked = subst (λ ms. AllByRecursion (IsTracked rules d.base d.journal d.applied) ms) (sym after_is) (all_tracked rules d.base d.journal d.applied number key members out.0.now h.tracked);
       out = tt;
     }
-
--- a painted result that isn't taken
-pub refuses_by : {C B S : Type 0} (rules : Rules C B) (d : Document S) (ticket : ℕ) (scene : S) (outs : Outs S) (found : Option (Job S)) → Ignores scene found → outs ≡ nothing → Paints rules d ticket scene outs d found
-refuses_by rules d ticket scene outs None other is = (is, refl)
-refuses_by rules d ticket scene outs (Some job) other is = inl (other, is, refl)
 
 -- the item at the place is still as it was
 item_same : {X : Type 0} (f : X → X) (xs : List X) (i : ℕ) (x : X) → i < length xs → get_or (map f (take i xs) ++ drop i xs) i x ≡ get_or xs i x

@@ -168,10 +168,6 @@ next_by rules cut IsSound contents members d h none = sym (pair_same rules d mem
 pub level_by : (applied count : ℕ) → nat_lt applied count ≡ false → applied ≤ count → applied ≡ count
 level_by applied count past level = grind (arith, nat_tests)
 
--- the work of a turn, by what it finds
-pub picks_apply : {C B S : Type 0} (rules : Rules C B) (d : Document S) → nat_lt d.applied (length d.journal) ≡ true → Apply ≡ pick rules none_kept d
-picks_apply rules d behind = sym (ap (λ b. cond b Apply (serving_next none_kept (next_pair rules none_kept d))) behind)
-
 pub picks_next : {C B S : Type 0} (rules : Rules C B) (d : Document S) (pair : Option (ℕ × Place)) → nat_lt d.applied (length d.journal) ≡ false → next_pair rules none_kept d ≡ pair → serving_next none_kept pair ≡ pick rules none_kept d
 picks_next rules d pair level is = sym (ap (λ b. cond b Apply (serving_next none_kept (next_pair rules none_kept d))) level ∙ ap (serving_next none_kept) is)
 

@@ -17,10 +17,6 @@ use Rattle.broker_core.specs.Members.{shown_of, view_of, views_of}
 use Rattle.broker_core.specs.Serving as serving
 use Rattle.broker_core.specs.declared.members.Member.{Member}
 
--- the keys that a member sees
-pub visible_same : {C B S : Type 0} (rules : Rules C B) (d : Document S) (member : Member) → IsTracked rules d.base d.journal d.applied member → visible rules d (view_of member) ≡ member.view.visible
-visible_same rules d member s = sym s.seen
-
 pub keys_same : {C B S : Type 0} (rules : Rules C B) (d : Document S) (member : Member) → IsTracked rules d.base d.journal d.applied member → keys rules d (view_of member) ≡ viewing.keys member.view
 keys_same rules d member s = ap (λ (vs : List Place). ordered member.view.asked vs) (sym s.seen)
 

@@ -13,8 +13,8 @@ use Rattle.view_session.specs.Viewing.{Entry}
 use Rattle.view_session.specs.declared.views.ViewFault.{ViewFault}
 use Rattle.view_session.specs.declared.views.ViewFault.TheVariants.{TooLarge as SeesTooMuch, AskedFull as AsksTooMuch, Memory}
 use Rattle.broker_core.specs.Members.{view_of}
-use Rattle.broker_core.specs.declared.hearing.Heard.{Heard}
-use Rattle.broker_core.specs.declared.hearing.Heard.TheVariants.{Nothing, Answer, Accepted}
+use Rattle.broker_core.specs.declared.hearing.Outcome.{Outcome}
+use Rattle.broker_core.specs.declared.hearing.Outcome.TheVariants.{Nothing, Answer, Accepted}
 use Rattle.broker_core.specs.declared.members.Member.{Member}
 
 -- the sizes of the parts in these contents
@@ -27,31 +27,31 @@ limits_in rules contents count =
     record { inputs = count; parts = rules.parts (rules.body contents); sizes = sizes_in rules contents }
 
 -- the frames, and the inputs, of what came of a message
-abbrev pub frames_in : Heard → List Frame
+abbrev pub frames_in : Outcome → List Frame
 frames_in Nothing = []
 frames_in (Answer frame) = frame ∷ []
 frames_in (Accepted input) = []
 
-abbrev pub inputs_in : Heard → List Input
+abbrev pub inputs_in : Outcome → List Input
 inputs_in Nothing = []
 inputs_in (Answer frame) = []
 inputs_in (Accepted input) = input ∷ []
 
 -- the effect that it is, where the view is this one after it
-abbrev pub effect_in : View → Heard → Effect
-effect_in view heard = record { frames = frames_in heard; inputs = inputs_in heard; view = view }
+abbrev pub effect_in : View → Outcome → Effect
+effect_in view outcome = record { frames = frames_in outcome; inputs = inputs_in outcome; view = view }
 
 -- what came of a message is this effect; the keys that the member sees are again those of its view, in a
 -- document with parts of these sizes, and its screen has entries alone that it had
-pub record Hears (sizes : ℕ → Extent) (member : Member) (effect : Effect) (heard : Heard) (now : Member) : Type 0 where
-  pub is : effect_in (view_of now) heard ≡ effect
+pub record Hears (sizes : ℕ → Extent) (member : Member) (effect : Effect) (outcome : Outcome) (now : Member) : Type 0 where
+  pub is : effect_in (view_of now) outcome ≡ effect
   pub seen : now.view.visible ≡ seen_keys sizes (view_of now)
   pub keeps : Entry → Bool
   pub screen_is : now.view.screen ≡ filter keeps member.view.screen
 
 -- what comes of a change of a view: nothing, or an error frame where the view refused it
-abbrev pub heard_of_change : (command : List ℕ) → Result (Unit {0}) ViewFault → Heard
-heard_of_change command (Ok done) = Nothing
-heard_of_change command (Err SeesTooMuch) = Answer (Error command TooLarge None)
-heard_of_change command (Err AsksTooMuch) = Answer (Error command AskedFull None)
-heard_of_change command (Err Memory) = Nothing
+abbrev pub outcome_of : (command : List ℕ) → Result (Unit {0}) ViewFault → Outcome
+outcome_of command (Ok done) = Nothing
+outcome_of command (Err SeesTooMuch) = Answer (Error command TooLarge None)
+outcome_of command (Err AsksTooMuch) = Answer (Error command AskedFull None)
+outcome_of command (Err Memory) = Nothing

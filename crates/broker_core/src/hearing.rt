@@ -9,7 +9,7 @@ ghost use Rattle.document_machine.specs.State.{find_view};
 ghost use Rattle.document_machine.specs.Step.{Says};
 ghost use Rattle.broker_core.specs.Hearing.{limits_in, sizes_in, effect_in, frames_in, inputs_in, Hears};
 ghost use Rattle.broker_core.specs.Members.{view_of};
-ghost use Rattle.broker_core.specs.declared.hearing.Heard.TheVariants.{Answer as AnswerHeard};
+ghost use Rattle.broker_core.specs.declared.hearing.Outcome.TheVariants.{Answer as AnswerOutcome};
 
 use crate::changing::zoom_of;
 use crate::core_of::{Core, Frames, frames_only};
@@ -26,7 +26,7 @@ use std::alloc::Global;
 
 /// What comes of a message, beside what its view becomes.
 #[derive(Drop)]
-pub(crate) enum Heard {
+pub(crate) enum Outcome {
     /// Nothing.
     Nothing,
     /// The view gets this frame.
@@ -36,10 +36,10 @@ pub(crate) enum Heard {
 }
 
 /// The error frame of a refused command.
-pub(crate) fn refuse(alloc: Global, command: &str, kind: ErrorKind) -> Result<Heard, Memory>
-    ensures { IfOk result (λ heard. heard ≡ AnswerHeard (ErrorFrame command.now kind None)) }
+pub(crate) fn refuse(alloc: Global, command: &str, kind: ErrorKind) -> Result<Outcome, Memory>
+    ensures { IfOk result (λ outcome. outcome ≡ AnswerOutcome (ErrorFrame command.now kind None)) }
 {
-    Ok(Heard::Answer(Frame::Error {
+    Ok(Outcome::Answer(Frame::Error {
         cmd: TextOf::of(String::from_str(alloc, command)?),
         kind,
         code: None,
@@ -55,10 +55,10 @@ impl Member {
         kit: &K,
         count: usize,
         text: &[u8],
-    ) -> Result<Heard, Memory>
+    ) -> Result<Outcome, Memory>
         requires part { self.old.view.part < K.rules.parts (K.rules.body (K.contents kit.now)) }
         requires seen { self.old.view.visible ≡ seen_keys (sizes_in K.rules (K.contents kit.now)) (view_of self.old) }
-        ensures { IfOk result (λ heard. Hears (sizes_in K.rules (K.contents kit.now)) self.old (effect_of (limits_in K.rules (K.contents kit.now) count) (view_of self.old) text.now) heard self.new) }
+        ensures { IfOk result (λ outcome. Hears (sizes_in K.rules (K.contents kit.now)) self.old (effect_of (limits_in K.rules (K.contents kit.now) count) (view_of self.old) text.now) outcome self.new) }
     {
         match read_message(alloc, text) {
             Ok(message) => self.answer(alloc, kit, count, message),
@@ -75,13 +75,13 @@ impl Member {
         kit: &K,
         count: usize,
         message: ClientMessage,
-    ) -> Result<Heard, Memory>
+    ) -> Result<Outcome, Memory>
         requires part { self.old.view.part < K.rules.parts (K.rules.body (K.contents kit.now)) }
         requires seen { self.old.view.visible ≡ seen_keys (sizes_in K.rules (K.contents kit.now)) (view_of self.old) }
-        ensures { IfOk result (λ heard. Hears (sizes_in K.rules (K.contents kit.now)) self.old (message_effect (limits_in K.rules (K.contents kit.now) count) (view_of self.old) message) heard self.new) }
+        ensures { IfOk result (λ outcome. Hears (sizes_in K.rules (K.contents kit.now)) self.old (message_effect (limits_in K.rules (K.contents kit.now) count) (view_of self.old) message) outcome self.new) }
     {
         match message {
-            ClientMessage::CoolClient => Ok(Heard::Answer(Frame::Server)),
+            ClientMessage::CoolClient => Ok(Outcome::Answer(Frame::Server)),
             ClientMessage::Load { url: _ } => refuse(alloc, "load", ErrorKind::AlreadyLoaded),
             ClientMessage::Key { kind, chr, code } => {
                 self.key(alloc, count, kind, What::Key { chr, code })
@@ -135,8 +135,14 @@ impl Member {
     }
 
     /// An input of this command, in the part where the view stands.
-    fn input(&self, alloc: Global, count: usize, command: &str, what: What) -> Result<Heard, Memory>
-        ensures { IfOk result (λ heard. (parts : ℕ) (sizes : ℕ → Extent) → effect_in (view_of self.now) heard ≡ input_effect (record { inputs = count; parts = parts; sizes = sizes }) (view_of self.now) command.now what) }
+    fn input(
+        &self,
+        alloc: Global,
+        count: usize,
+        command: &str,
+        what: What,
+    ) -> Result<Outcome, Memory>
+        ensures { IfOk result (λ outcome. (parts : ℕ) (sizes : ℕ → Extent) → effect_in (view_of self.now) outcome ≡ input_effect (record { inputs = count; parts = parts; sizes = sizes }) (view_of self.now) command.now what) }
     {
         if !self.view.rights().can_write {
             return refuse(alloc, command, ErrorKind::ReadOnly);
@@ -144,7 +150,7 @@ impl Member {
         if MOST_INPUTS <= count {
             return refuse(alloc, command, ErrorKind::InputsFull);
         }
-        Ok(Heard::Accepted(Input {
+        Ok(Outcome::Accepted(Input {
             view: ViewId(self.id),
             part: self.view.part(),
             what,
@@ -152,12 +158,12 @@ impl Member {
     }
 
     /// A key, which is an input where it went down.
-    fn key(&self, alloc: Global, count: usize, kind: KeyKind, what: What) -> Result<Heard, Memory>
-        ensures { IfOk result (λ heard. (parts : ℕ) (sizes : ℕ → Extent) → effect_in (view_of self.now) heard ≡ key_effect (record { inputs = count; parts = parts; sizes = sizes }) (view_of self.now) kind what) }
+    fn key(&self, alloc: Global, count: usize, kind: KeyKind, what: What) -> Result<Outcome, Memory>
+        ensures { IfOk result (λ outcome. (parts : ℕ) (sizes : ℕ → Extent) → effect_in (view_of self.now) outcome ≡ key_effect (record { inputs = count; parts = parts; sizes = sizes }) (view_of self.now) kind what) }
     {
         match kind {
             KeyKind::Input => self.input(alloc, count, "key", what),
-            KeyKind::Up => Ok(Heard::Nothing),
+            KeyKind::Up => Ok(Outcome::Nothing),
         }
     }
 
@@ -168,27 +174,32 @@ impl Member {
         count: usize,
         kind: MouseKind,
         what: What,
-    ) -> Result<Heard, Memory>
-        ensures { IfOk result (λ heard. (parts : ℕ) (sizes : ℕ → Extent) → effect_in (view_of self.now) heard ≡ mouse_effect (record { inputs = count; parts = parts; sizes = sizes }) (view_of self.now) kind what) }
+    ) -> Result<Outcome, Memory>
+        ensures { IfOk result (λ outcome. (parts : ℕ) (sizes : ℕ → Extent) → effect_in (view_of self.now) outcome ≡ mouse_effect (record { inputs = count; parts = parts; sizes = sizes }) (view_of self.now) kind what) }
     {
         match kind {
             MouseKind::ButtonDown => self.input(alloc, count, "mouse", what),
-            MouseKind::ButtonUp => Ok(Heard::Nothing),
-            MouseKind::Move => Ok(Heard::Nothing),
+            MouseKind::ButtonUp => Ok(Outcome::Nothing),
+            MouseKind::Move => Ok(Outcome::Nothing),
         }
     }
 }
 
 /// What came of a message of this view: its frames, and its input after the accepted ones.
 #[tactic(auto, using(crate::proofs::Lists::append_none))]
-fn enter(alloc: Global, id: u32, heard: Heard, accepted: &mut Vec<Input>) -> Result<Frames, Memory>
-    ensures frames { IfOk result (λ frames. frames ≡ map (λ frame. (named id, frame)) (frames_in heard)) }
-    ensures inputs { OnOk result (accepted.new.items ≡ accepted.old.items ++ inputs_in heard) }
+fn enter(
+    alloc: Global,
+    id: u32,
+    outcome: Outcome,
+    accepted: &mut Vec<Input>,
+) -> Result<Frames, Memory>
+    ensures frames { IfOk result (λ frames. frames ≡ map (λ frame. (named id, frame)) (frames_in outcome)) }
+    ensures inputs { OnOk result (accepted.new.items ≡ accepted.old.items ++ inputs_in outcome) }
 {
-    match heard {
-        Heard::Nothing => Ok(ListOf::new(alloc)),
-        Heard::Answer(frame) => one_frame(alloc, id, frame),
-        Heard::Accepted(input) => {
+    match outcome {
+        Outcome::Nothing => Ok(ListOf::new(alloc)),
+        Outcome::Answer(frame) => one_frame(alloc, id, frame),
+        Outcome::Accepted(input) => {
             accepted.push(input)?;
             Ok(ListOf::new(alloc))
         }
@@ -214,8 +225,8 @@ impl<K: Kit> Core<K> {
         };
         let count = inputs.accepted.len();
         let member = &mut views.members[i];
-        let heard = member.hear(alloc, &kit, count, text)?;
-        let frames = enter(alloc, id, heard, &mut inputs.accepted)?;
+        let outcome = member.hear(alloc, &kit, count, text)?;
+        let frames = enter(alloc, id, outcome, &mut inputs.accepted)?;
         let core = Core {
             kit,
             source,

@@ -23,13 +23,13 @@ invariant_of-core g c =
     let d : Document _ = document_of i.source.file i.source.base i.inputs.accepted.items i.inputs.applied i.views.members.items i.views.next (option_to_list i.jobs.out) i.jobs.next in
     let laws = g.met.K.Kit g.world.𝓛 g.world.𝓜 g.world.𝓡 ((λ s x. x), (λ x. x), (λ x. x), λ x. x) in
     rw (c.in_ok-frames.ensures.inputs)
-    (holds_said g.K.Kit.rules g.K.Kit.cut g.K.Kit.IsSound (λ base. laws.some_part (g.K.Kit.rules.start base) (laws.sound_start base)) (g.K.Kit.contents i.kit) i.views.members.items d c.args.id c.in-Some.i c.len-count.result c.index_mut-member.result.now c.hear.new.self c.args.text.now c.in_ok-heard.heard
-    c.self.invariant c.in-Some.ensures.place (sym c.index_mut-member.ensures.value) (c.len-count.ensures ∙ i.inputs.accepted.ok.0) c.in_ok-heard.ensures)
+    (holds_said g.K.Kit.rules g.K.Kit.cut g.K.Kit.IsSound (λ base. laws.some_part (g.K.Kit.rules.start base) (laws.sound_start base)) (g.K.Kit.contents i.kit) i.views.members.items d c.args.id c.in-Some.i c.len-count.result c.index_mut-member.result.now c.hear.new.self c.args.text.now c.in_ok-outcome.outcome
+    c.self.invariant c.in-Some.ensures.place (sym c.index_mut-member.ensures.value) (c.len-count.ensures ∙ i.inputs.accepted.ok.0) c.in_ok-outcome.ensures)
 
 pub returns : goal.returns
 returns g c =
     let i = c.self.inside in
     let d : Document _ = document_of i.source.file i.source.base i.inputs.accepted.items i.inputs.applied i.views.members.items i.views.next (option_to_list i.jobs.out) i.jobs.next in
     rw (← c.self.view_is, c.frames_only.ensures, c.in_ok-frames.ensures.inputs)
-    (says_by g.K.Kit.rules g.K.Kit.cut g.K.Kit.IsSound (g.K.Kit.contents i.kit) i.views.members.items d c.args.id c.in-Some.i c.len-count.result c.index_mut-member.result.now c.hear.new.self c.args.text.now c.in_ok-heard.heard c.in_ok-frames.frames
-    c.self.invariant c.in-Some.ensures.place (sym c.index_mut-member.ensures.value) (c.len-count.ensures ∙ i.inputs.accepted.ok.0) c.in_ok-heard.ensures c.in_ok-frames.ensures.frames)
+    (says_by g.K.Kit.rules g.K.Kit.cut g.K.Kit.IsSound (g.K.Kit.contents i.kit) i.views.members.items d c.args.id c.in-Some.i c.len-count.result c.index_mut-member.result.now c.hear.new.self c.args.text.now c.in_ok-outcome.outcome c.in_ok-frames.frames
+    c.self.invariant c.in-Some.ensures.place (sym c.index_mut-member.ensures.value) (c.len-count.ensures ∙ i.inputs.accepted.ok.0) c.in_ok-outcome.ensures c.in_ok-frames.ensures.frames)

@@ -3,7 +3,7 @@ use Rattle.document_machine.specs.Message.{becomes, cancels}
 use Rattle.view_session.specs.Viewing.{Viewing}
 use Rattle.broker_core.specs.Hearing.{Hears}
 use Rattle.broker_core.specs.Members.{view_of}
-use Rattle.broker_core.specs.declared.hearing.Heard.TheVariants.{Nothing}
+use Rattle.broker_core.specs.declared.hearing.Outcome.TheVariants.{Nothing}
 use Rattle.broker_core.proofs.Changes.{cancel_hears, with_viewing}
 use Rattle.broker_core.proofs.members.Member.cancel.Goals as goal
 

@@ -12,6 +12,6 @@ returns-in-Err g c =
     let contents = g.K.Kit.contents c.args.kit.now in
     let view = view_of c.args.self.now in
     IfOk-weaker c.refuse.result _ _
-    (λ heard is. refuses_hears (sizes_in g.K.Kit.rules contents) c.args.self.now _ _ _ heard is
+    (λ outcome is. refuses_hears (sizes_in g.K.Kit.rules contents) c.args.self.now _ _ _ outcome is
     (ap (λ command. refuses view command BadMessage) c.command_of.ensures ∙ ap (reading_effect (limits_in g.K.Kit.rules contents c.args.count) view c.args.text.now) (sym (c.in-Err.ensures.refused (search rules)))) c.requires.seen)
     c.refuse.ensures
