@@ -1,9 +1,10 @@
 -- What is seen of a store over a host.
-use Rattle.std.specs.Prelude.{ℕ, Some}
+use Rattle.std.specs.Prelude.{ℕ, ◌≡◌, Option, Some}
 use Rattle.wopi_host.specs.declared.hosts.Host.{Host}
 use Rattle.wopi_host.specs.declared.keepers.MemoryKeeper.{MemoryKeeper}
-use Rattle.wopi_host.specs.Hosts.{HostAt}
-use Rattle.wopi_host.specs.Kept.{contents_in, host_at}
+use Rattle.wopi_host.specs.Hosts.{HostAt, Pages}
+use Rattle.wopi_host.specs.Keepers.{Files}
+use Rattle.wopi_host.specs.Kept.{contents_in, host_at, keeper_of, pages_of}
 use Rattle.host_store.specs.declared.stores.HostStore.{HostStore}
 use Rattle.host_store.specs.Calls.{StoreAt}
 
@@ -15,7 +16,21 @@ memory_host host = host_at (λ k. Some (contents_in k)) host
 abbrev pub store_at : HostStore → StoreAt
 store_at store = record {
   host = memory_host store.host;
-  now = store.now;
+  now = store.moment;
   failing = store.failing;
   faults = store.faults;
 }
+
+-- The files of its host with their contents, and the marks of each.
+abbrev pub files_in : HostStore → Option Files
+files_in store = Some (contents_in (keeper_of store.host))
+
+abbrev pub pages_in : HostStore → Pages
+pages_in store = pages_of store.host
+
+-- All but its host stays.
+pub record StaysBeside (old new : HostStore) : Type 0 where
+  pub moment : new.moment ≡ old.moment
+  pub failing : new.failing ≡ old.failing
+  pub faults : new.faults ≡ old.faults
+  pub calls : new.calls ≡ old.calls

@@ -27,7 +27,11 @@ impl Model for LoopWire {
     ghost Value = { LoopSeen };
 
     ghost view = { λ w. record {
-      talk = record { sent = w.bytes.items; received = take w.given w.bytes.items; ended = w.ended };
+      talk = record {
+        sent = w.bytes.items;
+        received = take w.given w.bytes.items;
+        ended = w.ended;
+      };
       faults = w.faults;
     } };
 

@@ -6,6 +6,8 @@ ghost use Rattle.wopi_client.specs.Stores.{info_told, content_told, done_told, I
 ghost use Rattle.host_store.specs.Exchanges.{Exchanges, is_loss};
 ghost use Rattle.host_store.specs.Kept.{memory_host};
 
+mod scripts;
+
 use crate::carry::{carry_request, carry_response};
 use crate::loops::LoopWire;
 use crate::notes::Noted;
@@ -21,7 +23,7 @@ use wopi_host::{Host, MemoryKeeper};
 #[derive(Drop)]
 pub struct HostStore {
     host: Host<MemoryKeeper>,
-    now: u64,
+    moment: u64,
     failing: u64,
     faults: u64,
     there: LoopWire,
@@ -122,7 +124,7 @@ impl HostStore {
         let back = LoopWire::new(alloc)?;
         Ok(HostStore {
             host,
-            now,
+            moment: now,
             failing: 0,
             faults: 0,
             there,
@@ -146,7 +148,7 @@ impl HostStore {
             &mut self.there,
             &mut self.back,
             &mut self.host,
-            self.now,
+            self.moment,
             ask,
         );
         if has_failed(&answer) {
