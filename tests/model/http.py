@@ -10,7 +10,7 @@ nothing with the crates but the form of the lines.
 import re
 import sys
 
-HEAD, BODY, LINE, LINES, FRAMING = 16384, 67108864, 16384, 64, 1048576
+HEAD, BODY, LINE, LINES, FRAMING = 16384, 67108864, 16384, 64, 67108864
 TOKEN = set(b"!#$%&'*+-.^_`|~0123456789ABCDEFGHIJKLMNOPQRSTUVWXYZabcdefghijklmnopqrstuvwxyz")
 VALUE = {9} | set(range(32, 127)) | set(range(128, 256))
 HEX = set(b'0123456789abcdefABCDEF')
@@ -162,6 +162,13 @@ class Chunks(Reader):
         self.line -= 1
         return self.frame()
 
+    def plain(self):
+        """An extension's bytes up to its line's end, as far as the limits go."""
+        most = min(self.line, self.framing)
+        found = re.compile(rb'[^\r\n]*').match(self.data, self.at, self.at + most)
+        size = found.end() - self.at
+        self.at, self.line, self.framing = found.end(), self.line - size, self.framing - size
+
     def size_line(self, room):
         size, digits = 0, 0
         while True:
@@ -177,8 +184,8 @@ class Chunks(Reader):
         while byte in b' \t':
             byte = self.step()
         if byte == 59:
-            while byte not in b'\r\n':
-                byte = self.step()
+            self.plain()
+            byte = self.step()
         if byte != 13 or self.step() != 10:
             raise Fault('BadChunk')
         return size
@@ -300,6 +307,11 @@ def answer(line):
     word, rest = line.split(' ', 1)
     if word in ('request', 'response'):
         return said(word, unescape(rest))
+    if word == 'long':
+        kind, count, tail = rest.split(' ', 2)
+        head = {'request': b'POST / HTTP/1.1', 'response': b'HTTP/1.1 200 OK'}[kind]
+        chunk = b'1;' + b'x' * 16378 + b'\r\nc\r\n'
+        return said(kind, head + b'\r\nTransfer-Encoding: chunked\r\n\r\n' + chunk * int(count) + unescape(tail))
     if word == 'fronts':
         kind, rest = rest.split(' ', 1)
         data = unescape(rest)
@@ -390,15 +402,12 @@ def cases():
                  r'\*16382.0\r\n\r\n', r'\*16383.0\r\n\r\n', r'0\r\nA:\*16378.x\r\n\r\n', r'0\r\nA:\*16379.x\r\n\r\n', r'0\r\nA:\*16380.x\r\n\r\n', r'0\r\n\*16384.A', r'0\r\n\*16385.A'):
         yield 'request ' + post + chunked + case
         yield 'response ' + ok + chunked + case
-    yield '# All framing of a body in chunks: 1,048,576 bytes of size lines, line ends and trailers'
-    most = r'1;\*16378.x\r\nc\r\n' * 63
-    for case in (r'0;\*16377.x\r\n\r\nmore', r'0;\*16378.x\r\n\r\nmore', r'0;\*16378.x\r\n\r', r'0\r\nA:\*16375.x\r\n\r\n',
-                 r'0\r\nA:\*16376.x\r\n\r\n', r'0\r\nA:\*16377.x\r\n', r'0\r\nA:\*16377.x\r\n\r', r'1;\*16372.x\r\nc\r\n0\r\n\r\n',
-                 r'1;\*16378.x\r\nc\r\n', r'1;\*16379.x\r\nc\r', r'1;\*16379.x\r\nc\r\n', r'1;\*16378.x\r\nc\r\n0',
-                 r'1;\*16371.x\r\nc\r\n3ffffc1', r'1;\*16372.x\r\nc\r\n3ffffc1'):
-        yield 'request ' + post + chunked + most + case
-    yield 'response ' + ok + chunked + most + r'0;\*16378.x\r\n\r\n'
-    yield 'response ' + ok + chunked + most + r'1;\*16378.x\r\nc\r\n0'
+    yield '# All framing of a body in chunks: 67,108,864 bytes of size lines, line ends and trailers'
+    for case in (r'0;\*16378.x\r\n\r\nmore', r'0\r\nA:\*16376.x\r\n\r\n', r'1;\*16379.x\r\nc\r', r'1;\*16379.x\r\nc\r\n',
+                 r'1;\*16371.x\r\nc\r\n3fff001', r'1;\*16372.x\r\nc\r\n3fff001'):
+        yield 'long request 4095 ' + case
+    yield r'long response 4095 0;\*16378.x\r\n\r\n'
+    yield 'long response 4096 0'
     yield 'response ' + ok + chunked + r'1\r\nx\r\n' * 1000 + r'0\r\n\r\n'
     yield '# Each proper front of a message is cut off'
     for case in ('request ' + put + 'abc', 'request ' + get + r'Host: h\r\n\r\n', 'request ' + post + chunked + r'5;x=y\r\nhello\r\n0\r\nA: b\r\n\r\n',

@@ -112,6 +112,32 @@ snoc_front (z ∷ a) (w ∷ b) x y e =
     let rest = snoc_front a b x y tail in
     λ i. head i ∷ rest i
 
+-- and the same last item
+pub snoc_last : (a b : List ℕ) (x y : ℕ) → a ++ x ∷ [] ≡ b ++ y ∷ [] → x ≡ y
+snoc_last [] [] x y e = cc
+snoc_last [] (z ∷ b) x y e = absurd (snoc_some b y (let tail : [] ≡ b ++ y ∷ [] = cc in sym tail))
+snoc_last (z ∷ a) [] x y e = absurd (snoc_some a x (let tail : a ++ x ∷ [] ≡ [] = cc in tail))
+snoc_last (z ∷ a) (w ∷ b) x y e =
+    let tail : a ++ x ∷ [] ≡ b ++ y ∷ [] = cc in
+    snoc_last a b x y tail
+
+-- a last part that has no line end is no part of bytes that end in one
+pub ends_in_last : (lines tail rest front text : List ℕ) → ends_in tail ≡ 0 → text ≡ front ++ 10 ∷ [] → lines ++ tail ≡ text ++ rest → (m : List ℕ) × (lines ≡ text ++ m)
+ends_in_last lines tail rest front text none end is = elim (two_cuts lines tail text rest is) [
+  | inl w ↦ (w.0, w.1)
+  | inr w ↦ within w.0 w.1 w.2 (last_of w.0)
+]
+  where
+    within : (m : List ℕ) → text ≡ lines ++ m → tail ≡ m ++ rest → ((m ≡ []) ⊎ ((k : List ℕ) × (x : ℕ) × (m ≡ k ++ x ∷ []))) → (m : List ℕ) × (lines ≡ text ++ m)
+    within m begins ends (inl empty) =
+        ([], sym (append-nil lines) ∙ ap (λ t. lines ++ t) (sym empty) ∙ sym begins ∙ sym (append-nil text))
+    within m begins ends (inr w) =
+        let last : w.1 ≡ 10 = snoc_last (lines ++ w.0) front w.1 10 (append_assoc lines w.0 (w.1 ∷ []) ∙ ap (λ t. lines ++ t) (sym w.2) ∙ sym begins ∙ end) in
+        let tail_is : tail ≡ (w.0 ++ 10 ∷ []) ++ rest = ends ∙ ap (λ t. t ++ rest) (w.2 ∙ ap (λ x. w.0 ++ x ∷ []) last) in
+        let count : ends_in tail ≡ ends_in (w.0 ++ 10 ∷ []) + ends_in rest = ap ends_in tail_is ∙ ends_in-append (w.0 ++ 10 ∷ []) rest in
+        let here : ends_in (w.0 ++ 10 ∷ []) ≡ ends_in w.0 + 1 = ends_in-append w.0 (10 ∷ []) in
+        absurd (omega (arith, none, count, here))
+
 -- a first line with the blank lines before it: one line ends in it behind its first blank
 pub record IsStart (start : List ℕ) : Type 0 where
   pub counts : (t : List ℕ) → ends_in (behind_blank (start ++ t)) ≡ 1 + ends_in t

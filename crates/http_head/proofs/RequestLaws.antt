@@ -7,7 +7,8 @@ use Rattle.httparse.proofs.GrammarLemmas.{request_unique, ReadsRequest-append}
 use Rattle.http_head.specs.declared.parts.RequestParts.{RequestParts}
 use Rattle.http_head.specs.Requests.{ReadsPlain, ReadsRequestHead, request_said, BeginsRequest, IsNoRequest}
 use Rattle.http_head.proofs.Cuts.{two_cuts, last_of}
-use Rattle.http_head.proofs.Counts.{before_last, begun_few, snoc_some, lines_of}
+use Rattle.http_head.proofs.Counts.{before_last, begun_few, snoc_some, lines_of, section_last, ends_in_last}
+use Rattle.http_head.specs.Corners.{ends_in}
 use Rattle.http_head.proofs.RequestHeads.{request_start, request_start_is, request_ends, can_end_front}
 
 pub one_request : (bytes : List ℕ) (p q : RequestParts) (r s : List ℕ) → ReadsRequestHead bytes p r → ReadsRequestHead bytes q s → (p ≡ q) × (r ≡ s)
@@ -73,3 +74,12 @@ begun_before bytes more begun = record {
   can_end = can_end_front bytes more begun.can_end;
   few_lines = λ many. begun.few_lines (exceeds_stays bytes more many);
 }
+
+-- a head that is whole with bytes that end no line is whole without them
+pub opens_no_longer : (lines tail : List ℕ) (p : RequestParts) (r : List ℕ) → BeginsRequest lines → ends_in tail ≡ 0 → ReadsRequestHead (lines ++ tail) p r → ⊥
+opens_no_longer lines tail p r begun none (h, x, few, said) =
+    let end = section_last h.fields h.last x.0.0.fields in
+    let text : print_request h ≡ (request_start h ++ end.0) ++ 10 ∷ [] =
+    sym (append-nil (print_request h)) ∙ request_ends h ∙ ap (λ t. request_start h ++ t) end.1 ∙ sym (append_assoc (request_start h) end.0 (10 ∷ [])) in
+    let inside = ends_in_last lines tail r (request_start h ++ end.0) (print_request h) none text x.0.1 in
+    begun.not_whole h inside.0 (x.0.0, inside.1)

@@ -7,7 +7,8 @@ use Rattle.httparse.proofs.GrammarLemmas.{response_unique, ReadsResponse-append}
 use Rattle.http_head.specs.declared.parts.ResponseParts.{ResponseParts}
 use Rattle.http_head.specs.Responses.{ReadsResponseHead, response_said, BeginsResponse, IsNoResponse}
 use Rattle.http_head.proofs.Cuts.{two_cuts, last_of}
-use Rattle.http_head.proofs.Counts.{before_last, begun_few, snoc_some, lines_of}
+use Rattle.http_head.proofs.Counts.{before_last, begun_few, snoc_some, lines_of, section_last, ends_in_last}
+use Rattle.http_head.specs.Corners.{ends_in}
 use Rattle.http_head.proofs.ResponseHeads.{response_start, response_start_is, response_ends}
 
 pub one_response : (bytes : List ℕ) (p q : ResponseParts) (r s : List ℕ) → ReadsResponseHead bytes p r → ReadsResponseHead bytes q s → (p ≡ q) × (r ≡ s)
@@ -73,3 +74,12 @@ begun_before bytes more begun = record {
   can_end = (more ++ begun.can_end.0, begun.can_end.1, subst (λ t. ReadsResponse t begun.can_end.1 []) (append_assoc bytes more begun.can_end.0) begun.can_end.2);
   few_lines = λ many. begun.few_lines (exceeds_stays bytes more many);
 }
+
+-- a head that is whole with bytes that end no line is whole without them
+pub opens_no_longer : (lines tail : List ℕ) (p : ResponseParts) (r : List ℕ) → BeginsResponse lines → ends_in tail ≡ 0 → ReadsResponseHead (lines ++ tail) p r → ⊥
+opens_no_longer lines tail p r begun none (h, x, few, said) =
+    let end = section_last h.fields h.last x.0.fields in
+    let text : print_response h ≡ (response_start h ++ end.0) ++ 10 ∷ [] =
+    sym (append-nil (print_response h)) ∙ response_ends h ∙ ap (λ t. response_start h ++ t) end.1 ∙ sym (append_assoc (response_start h) end.0 (10 ∷ [])) in
+    let inside = ends_in_last lines tail r (response_start h ++ end.0) (print_response h) none text x.1 in
+    begun.not_whole h inside.0 (x.0, inside.1)

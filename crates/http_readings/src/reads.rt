@@ -111,3 +111,24 @@ pub fn fronts_cut(alloc: Global, kind: Kind, bytes: &[u8]) -> Result<String, Mem
     }
     Ok(format!(in alloc; "{cut} of {fronts} cut off")?)
 }
+
+// The head of a message in chunks.
+fn head_of(kind: Kind) -> &'static [u8] {
+    match kind {
+        Kind::Request => b"POST / HTTP/1.1\r\nTransfer-Encoding: chunked\r\n\r\n",
+        Kind::Response => b"HTTP/1.1 200 OK\r\nTransfer-Encoding: chunked\r\n\r\n",
+    }
+}
+
+/// What is read of so many chunks of one byte, each with 16,384 bytes of framing, and then the tail.
+pub fn said_long(alloc: Global, kind: Kind, count: u64, tail: &[u8]) -> Result<String, Memory> {
+    let extension = [b'x'; 16_378];
+    let mut bytes = Vec::from_slice(alloc, head_of(kind))?;
+    for _ in 0..count {
+        bytes.extend_from_slice(b"1;")?;
+        bytes.extend_from_slice(&extension)?;
+        bytes.extend_from_slice(b"\r\nc\r\n")?;
+    }
+    bytes.extend_from_slice(tail)?;
+    said_at(alloc, kind, &bytes, 4096)
+}

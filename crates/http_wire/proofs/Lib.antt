@@ -1,1 +1,3 @@
 pub mod Joins
+pub mod Feeds
+pub mod Gains

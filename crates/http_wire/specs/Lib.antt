@@ -1,3 +1,4 @@
 pub mod Messages
 pub mod GrowLaws
 pub mod Kinds
+pub mod Lines

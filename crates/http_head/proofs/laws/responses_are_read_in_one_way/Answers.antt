@@ -1,4 +1,4 @@
-use Rattle.http_head.proofs.ResponseLaws.{one_response, response_stays, whole_not_begun, whole_not_none, begun_not_none, none_stays, begun_before}
+use Rattle.http_head.proofs.ResponseLaws.{one_response, response_stays, whole_not_begun, whole_not_none, begun_not_none, none_stays, begun_before, opens_no_longer}
 use Rattle.http_head.proofs.laws.responses_are_read_in_one_way.Goals as goal
 
 pub returns : goal.returns
@@ -10,4 +10,5 @@ returns c = record {
   begun_or_none = begun_not_none;
   none_stays = none_stays;
   begun_before = begun_before;
+  open_without_an_end = opens_no_longer;
 }
