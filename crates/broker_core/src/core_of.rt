@@ -75,8 +75,8 @@ pub(crate) struct Jobs<S> {
     pub(crate) next: u64,
 }
 
-/// A document: the kit holds it after the applied inputs. Its methods take it by value, so one that was
-/// out of memory leaves nothing.
+/// A document: the kit holds it after the applied inputs. Its methods take it by value, so nothing of it
+/// is left after `Memory`.
 #[derive(Drop)]
 pub(crate) struct Core<K: Kit> {
     pub(crate) kit: K,
