@@ -55,9 +55,9 @@ impl<K: Kit> Broker<K> {
         }
     }
 
-    /// A view joins, with the next id, and gets its status. ViewsFull exactly where `MOST_VIEWS`
-    /// views are there, which is judged before any memory is taken, and then nothing changed; after `Memory` the broker is
-    /// spent.
+    /// A view joins, with the next id, and gets its status. ViewsFull exactly where `MOST_VIEWS` views are
+    /// there, which is judged before any memory is taken, and then nothing changed; after `Memory` the
+    /// broker is spent.
     #[tactic(auto, using(crate::proofs::Comings::full_by, crate::proofs::Comings::not_full_by, crate::proofs::Comings::spent_not_full))]
     pub fn join(&mut self, rights: Rights) -> Result<(ViewId, Outs<K::Scene>), JoinFault>
         ensures step { IfOk result (λ r. Goes K.rules K.cut self.old (Joined rights) r.1 self.new) }
