@@ -38,7 +38,7 @@ fn timed(rt: &HostRuntime) -> Option<()> {
     let mut book = chain(rt.alloc())?;
     let built = begun.elapsed(rt).ok()?.as_millis();
     let start = Instant::now(rt).ok()?;
-    let changed = edit(rt.alloc(), &mut book, 0, "2")?;
+    let changed = edit(&mut book, 0, "2")?;
     let taken = start.elapsed(rt).ok()?.as_micros();
     let count = changed.places.get().len();
     println!(rt; "{CELLS} edits that build the chain: {built} ms").ok()?;
@@ -49,16 +49,16 @@ fn timed(rt: &HostRuntime) -> Option<()> {
 // The chain, whose first cell holds 1.
 fn chain(alloc: Global) -> Option<Book> {
     let mut book = Book::new(alloc, 1).ok()?;
-    edit(alloc, &mut book, 0, "1")?;
+    edit(&mut book, 0, "1")?;
     for row in 1..CELLS {
         let raw = format!(in alloc; "=A{row}+1").ok()?;
-        edit(alloc, &mut book, row, raw.as_str())?;
+        edit(&mut book, row, raw.as_str())?;
     }
     Some(book)
 }
 
 // Gives a cell of column A a raw text.
-fn edit(alloc: Global, book: &mut Book, row: u32, raw: &str) -> Option<Changed> {
+fn edit(book: &mut Book, row: u32, raw: &str) -> Option<Changed> {
     if !is_raw(raw) {
         return None;
     }
@@ -73,7 +73,7 @@ fn edit(alloc: Global, book: &mut Book, row: u32, raw: &str) -> Option<Changed> 
         row,
         col: 0,
     };
-    book.set(alloc, &at, raw).ok()
+    book.set(&at, raw).ok()
 }
 END
 sed -i "s/@CELLS@/$cells/" crates/chain_bench/src/main.rt

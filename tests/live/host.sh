@@ -31,8 +31,8 @@ is() { [ "$2" = "$3" ] || fail "$1: wanted '$3', got '$2'"; }
 status() { curl -s -o "$work/body" -D "$work/lines" -w '%{http_code}' --max-time 60 "$@"; }
 get() { status "$at/$1?access_token=t-rw"; }
 post() { local file="$1" over="$2"; shift 2; status -X POST -H "X-WOPI-Override: $over" "$@" "$at/$file?access_token=t-rw"; }
-# The lock that the last response told.
-told_lock() { tr -d '\r' < "$work/lines" | sed -n 's/^[Xx]-[Ww][Oo][Pp][Ii]-[Ll]ock: *//p'; }
+# The lock that the last response told, in brackets.
+told_lock() { tr -d '\r' < "$work/lines" | sed -n 's/^[Xx]-[Ww][Oo][Pp][Ii]-[Ll]ock: *\(.*\)/[\1]/p'; }
 
 # Starts the host with these words, and waits until it listens.
 start() {
@@ -62,11 +62,12 @@ is "its members" "$(cat "$work/body")" \
 is "GetFile" "$(get text/contents)" 200
 is "its bytes" "$(cat "$work/body")" hello
 is "PutFile without a lock" "$(post text/contents PUT --data-binary changed)" 409
+is "the lock it is told" "$(told_lock)" "[]"
 is "Lock" "$(post text LOCK -H 'X-WOPI-Lock: me')" 200
 is "GetLock" "$(post text GET_LOCK)" 200
-is "its lock" "$(told_lock)" me
+is "its lock" "$(told_lock)" "[me]"
 is "Lock by another" "$(post text LOCK -H 'X-WOPI-Lock: you')" 409
-is "the lock it is told" "$(told_lock)" me
+is "the lock it is told" "$(told_lock)" "[me]"
 is "RefreshLock" "$(post text REFRESH_LOCK -H 'X-WOPI-Lock: me')" 200
 is "PutFile by another" "$(post text/contents PUT -H 'X-WOPI-Lock: you' --data-binary other)" 409
 is "PutFile" "$(post text/contents PUT -H 'X-WOPI-Lock: me' --data-binary changed)" 200
@@ -75,7 +76,10 @@ is "what lies beside it" "$(ls "$work/files" | tr '\n' ' ')" "empty folder large
 is "CheckFileInfo after it" "$(get text)" 200
 is "its members" "$(cat "$work/body")" \
     '{"BaseFileName":"text","OwnerId":"owner","Size":7,"UserCanWrite":true,"UserId":"rw","Version":"1"}'
+is "Unlock by another" "$(post text UNLOCK -H 'X-WOPI-Lock: you')" 409
 is "Unlock" "$(post text UNLOCK -H 'X-WOPI-Lock: me')" 200
+is "GetLock after it" "$(post text GET_LOCK)" 200
+is "its lock" "$(told_lock)" "[]"
 is "Unlock again" "$(post text UNLOCK -H 'X-WOPI-Lock: me')" 409
 
 # What is refused.

@@ -1,7 +1,7 @@
 -- A document once a view joined or left.
-use Rattle.std.proofs.Common.{◌≡◌, ◌∙◌, ℕ, ◌<◌, ◌≤◌, ◌+◌, true, Option, Some, None, not, List, [], ◌∷◌, ◌++◌, length, length-append, get_or, refl, sym, ap, subst, arith}
+use Rattle.std.proofs.Common.{◌≡◌, ◌∙◌, ℕ, ◌<◌, ◌≤◌, ◌+◌, true, Option, Some, None, not, List, [], ◌∷◌, ◌++◌, length, get_or, refl, sym, ap, subst, arith}
 use Rattle.std.specs.Prelude.{nat_lt, remove}
-use Rattle.std.proofs.lemmas.List.{length-map, map-append}
+use Rattle.std.proofs.lemmas.List.{map-append}
 use Rattle.std.proofs.lemmas.Bool.Decides.{nat_tests}
 use Rattle.cool_base.specs.Points.{Extent}
 use Rattle.cool_base.specs.declared.ids.ViewId.{ViewId}
@@ -9,33 +9,31 @@ use Rattle.cool_frame.specs.declared.frame.Frame.{Frame}
 use Rattle.cool_frame.specs.declared.frame.Frame.TheVariants.{Status}
 use Rattle.kit_trait.specs.Rules.{Rules}
 use Rattle.tile_key.specs.Places.{Place}
-use Rattle.kit_trait.specs.declared.values.Input.{Input}
 use Rattle.document_machine.specs.Due.{parts_of}
+use Rattle.document_machine.specs.Event.{Joined, Left}
 use Rattle.document_machine.specs.Outputs.{named, nothing, frames_only, one_frame}
-use Rattle.document_machine.specs.State.{View, Job, Document, opening_view}
+use Rattle.document_machine.specs.State.{View, Document, opening_view, without_view}
 use Rattle.document_machine.specs.Step.{Joins, JoinsWhere, Leaves, status}
+use Rattle.document_machine.specs.declared.limits.TheConstants.{MOST_VIEWS}
 use Rattle.document_machine.specs.declared.outs.Outs.{Outs}
 use Rattle.document_machine.specs.declared.rights.Rights.{Rights}
 use Rattle.document_machine.proofs.Lists.{all_push}
-use Rattle.view_session.specs.Keeps.{IsViewing}
-use Rattle.view_session.specs.Viewing.{Viewing, opening}
-use Rattle.broker_core.specs.Held.{Seat, view_of, views_of, IsSeated, IsFull, Holds}
+use Rattle.document_laws.proofs.Kept.{steps_keep}
+use Rattle.view_session.specs.Viewing.{opening}
+use Rattle.broker_core.specs.Held.{IsFull, IsTracked, Holds}
+use Rattle.broker_core.specs.Members.{view_of, views_of}
 use Rattle.broker_core.specs.Places.{IsPlace}
-use Rattle.broker_core.proofs.HeardBy.{document_of}
-use Rattle.broker_core.proofs.SeatLists.{all_weaker, all_remove, pairs_push, pairs_remove, length-remove_one}
-use Rattle.broker_core.proofs.SeatPlaces.{place_leaves}
+use Rattle.broker_core.specs.declared.members.Member.{Member}
+use Rattle.broker_core.proofs.Lists.{all_remove}
+use Rattle.broker_core.proofs.Places.{place_leaves}
 
--- fewer than 64 views sit on fewer than 64 seats
-pub few_seats : (seats : List Seat) → length (views_of seats) < 64 → length seats < 64
-few_seats seats few = simp length-map at few
-
--- a broker is full where its document has 64 views, and no spent one is
-pub full_by : {S : Type 0} (broker : Option (Document S)) (d : Document S) → broker ≡ Some d → 64 ≤ length d.views → IsFull broker
+-- a broker is full where its document has as many views as it may have, and no spent one is
+pub full_by : {S : Type 0} (broker : Option (Document S)) (d : Document S) → broker ≡ Some d → MOST_VIEWS ≤ length d.views → IsFull broker
 full_by {S} broker d is many = subst (λ (b : Option (Document S)). IsFull b) (sym is) many
 
-pub not_full_by : {S : Type 0} (broker : Option (Document S)) (d : Document S) → broker ≡ Some d → length d.views < 64 → IsFull broker → ⊥
+pub not_full_by : {S : Type 0} (broker : Option (Document S)) (d : Document S) → broker ≡ Some d → length d.views < MOST_VIEWS → IsFull broker → ⊥
 not_full_by {S} broker d is few full =
-    let many : 64 ≤ length d.views = subst (λ (b : Option (Document S)). IsFull b) is full in
+    let many : MOST_VIEWS ≤ length d.views = subst (λ (b : Option (Document S)). IsFull b) is full in
     omega (arith, few, many)
 
 pub spent_not_full : {S : Type 0} (broker : Option (Document S)) → broker ≡ None → IsFull broker → ⊥
@@ -46,81 +44,72 @@ pub outs_by : {S : Type 0} (outs : Outs S) (frames : List (ViewId × Frame)) (id
 outs_by outs frames id frame told outs_are frames_are frame_is =
     outs_are ∙ ap (λ (fs : List (ViewId × Frame)). frames_only fs) (frames_are ∙ ap (λ (f : Frame). (named id, f) ∷ []) frame_is)
 
--- what a broker keeps, with a view that joined
-pub holds_joined : {C B S : Type 0} (rules : Rules C B) (cut : C → Place → S) (IsSound : C → Type 0) (contents : C) (base : List ℕ) (journal : List Input) (applied : ℕ) (seats : List Seat) (next_view : ℕ) (jobs : List (Job S)) (now : Seat) (rights : Rights) (size : Extent)
-    → Holds rules cut IsSound contents base journal applied seats next_view jobs → length seats < 64 → size ≡ rules.size (rules.body contents) 0 → now.id ≡ next_view → now.view ≡ opening rights size → IsViewing now.view
-    → Holds rules cut IsSound contents base journal applied (seats ++ now ∷ []) (next_view + 1) jobs
-holds_joined rules cut IsSound contents base journal applied seats next_view jobs now rights size h few size_is id_is view_is keeps =
-    let v : Viewing = opening rights size in
-    let seat : Seat = record { id = next_view; view = v } in
-    let now_is : now ≡ seat = ap (λ n. record now { id = n }) id_is ∙ ap (λ (x : Viewing). record { id = next_view; view = x }) view_is in
-    let sat : IsSeated rules base journal applied seat = record {
-      keeps = subst IsViewing view_is keeps;
-      part = omega (arith, h.some_part);
-      asked = tt;
+-- the document with a view that joined, and without one that left
+abbrev pub joined_once : {S : Type 0} → Document S → List Member → Document S
+joined_once d members = record d { views = views_of members; next_view = d.next_view + 1 }
+
+abbrev pub left_once : {S : Type 0} → Document S → List Member → Document S
+left_once d members = record d { views = views_of members }
+
+-- the member that joins
+abbrev pub newcomer : (id : ℕ) → Rights → Extent → Member
+newcomer id rights size = record { id = id; view = opening rights size }
+
+-- a view joined
+pub joins_by : {C B S : Type 0} (rules : Rules C B) (cut : C → Place → S) (IsSound : C → Type 0) (contents : C) (members : List Member) (d : Document S) (rights : Rights) (size : Extent) (outs : Outs S)
+    → Holds rules cut IsSound contents members d → length d.views < MOST_VIEWS
+    → outs ≡ one_frame d.next_view (Status rules.name (rules.parts (rules.body contents)) (rules.size (rules.body contents) 0) (named d.next_view) (not rights.can_write))
+    → Joins rules d rights outs (joined_once d (members ++ newcomer d.next_view rights size ∷ []))
+joins_by {C} {B} {S} rules cut IsSound contents members d rights size outs h few outs_are =
+    let new : Document S = joined_once d (members ++ newcomer d.next_view rights size ∷ []) in
+    let views_are : views_of (members ++ newcomer d.next_view rights size ∷ []) ≡ d.views ++ opening_view d.next_view rights ∷ [] = map-append view_of members (newcomer d.next_view rights size ∷ []) ∙ ap (λ vs. vs ++ opening_view d.next_view rights ∷ []) (sym h.views_are) in
+    let new_is : new ≡ record d { views = d.views ++ opening_view d.next_view rights ∷ []; next_view = d.next_view + 1 } =
+    ap (λ (vs : List View). record d { views = vs; next_view = d.next_view + 1 }) views_are in
+    let told : outs ≡ one_frame d.next_view (status rules d d.next_view rights) = outs_are
+    ∙ ap (λ n. one_frame d.next_view (Status rules.name n (rules.size (rules.body contents) 0) (named d.next_view) (not rights.can_write))) h.parts_are
+    ∙ ap (λ (s : Extent). one_frame d.next_view (Status rules.name (parts_of rules d.base) s (named d.next_view) (not rights.can_write))) (h.sizes_are 0) in
+    let yes : nat_lt (length d.views) MOST_VIEWS ≡ true = grind (arith, nat_tests) in
+    subst (λ b. JoinsWhere b rules d rights outs new) (sym yes) (told, new_is)
+
+pub holds_joined : {C B S : Type 0} (rules : Rules C B) (cut : C → Place → S) (IsSound : C → Type 0) (some_part : (base : List ℕ) → 0 < parts_of rules base) (contents : C) (members : List Member) (d : Document S) (rights : Rights) (size : Extent)
+    → Holds rules cut IsSound contents members d → length d.views < MOST_VIEWS → size ≡ rules.size (rules.body contents) 0
+    → Holds rules cut IsSound contents (members ++ newcomer d.next_view rights size ∷ []) (joined_once d (members ++ newcomer d.next_view rights size ∷ []))
+holds_joined {C} {B} {S} rules cut IsSound some_part contents members d rights size h few size_is =
+    let new : Document S = joined_once d (members ++ newcomer d.next_view rights size ∷ []) in
+    let frame : Frame = Status rules.name (rules.parts (rules.body contents)) (rules.size (rules.body contents) 0) (named d.next_view) (not rights.can_write) in
+    let joins : Joins rules d rights (one_frame d.next_view frame) new = joins_by rules cut IsSound contents members d rights size (one_frame d.next_view frame) h few refl in
+    let tracked : IsTracked rules d.base d.journal d.applied (newcomer d.next_view rights size) = record {
       seen = ap (λ (s : Extent). (opening rights s).visible) (size_is ∙ h.sizes_are 0);
-      versions = tt;
       marks = tt;
     } in
-    let done : Holds rules cut IsSound contents base journal applied (seats ++ seat ∷ []) (next_view + 1) jobs = record {
-      accepted = h.accepted;
-      level = h.level;
+    record {
+      kept = steps_keep rules cut some_part d new (Joined rights) (one_frame d.next_view frame) joins h.kept;
+      views_are = refl;
       contents_are = h.contents_are;
       sound = h.sound;
       parts_are = h.parts_are;
       sizes_are = h.sizes_are;
       some_part = h.some_part;
-      typed = h.typed;
-      few = omega (arith, few, length-append seats (seat ∷ []));
-      ids = pairs_push (λ a b. a.id < b.id) seats seat h.ids h.ids_below;
-      ids_below = all_push (λ (x : Seat). x.id < next_view + 1) seats seat (all_weaker (λ (x : Seat). x.id < next_view) (λ x. x.id < next_view + 1) seats (λ x low. omega (arith, low)) h.ids_below) (omega arith);
-      seated = all_push (IsSeated rules base journal applied) seats seat h.seated sat;
+      tracked = all_push (IsTracked rules d.base d.journal d.applied) members (newcomer d.next_view rights size) h.tracked tracked;
       out = h.out;
-    } in
-    subst (λ (x : Seat). Holds rules cut IsSound contents base journal applied (seats ++ x ∷ []) (next_view + 1) jobs) (sym now_is) done
+    }
 
--- a view joined
-pub joins_by : {C B S : Type 0} (rules : Rules C B) (cut : C → Place → S) (IsSound : C → Type 0) (contents : C) (file base : List ℕ) (journal : List Input) (applied : ℕ) (seats : List Seat) (next_view : ℕ) (jobs : List (Job S)) (next_ticket : ℕ) (now : Seat) (rights : Rights) (size : Extent) (outs : Outs S)
-    → Holds rules cut IsSound contents base journal applied seats next_view jobs → length seats < 64 → now.id ≡ next_view → now.view ≡ opening rights size
-    → outs ≡ one_frame next_view (Status rules.name (rules.parts (rules.body contents)) (rules.size (rules.body contents) 0) (named next_view) (not rights.can_write))
-    → Joins rules (document_of file base journal applied seats next_view jobs next_ticket) rights outs (document_of file base journal applied (seats ++ now ∷ []) (next_view + 1) jobs next_ticket)
-joins_by {C} {B} {S} rules cut IsSound contents file base journal applied seats next_view jobs next_ticket now rights size outs h few id_is view_is outs_are =
-    let d : Document S = document_of file base journal applied seats next_view jobs next_ticket in
-    let now_is : view_of now ≡ opening_view next_view rights = ap (λ n. view_of (record now { id = n })) id_is ∙ ap (λ (x : Viewing). view_of (record { id = next_view; view = x })) view_is in
-    let views_are : views_of (seats ++ now ∷ []) ≡ views_of seats ++ opening_view next_view rights ∷ [] = map-append view_of seats (now ∷ []) ∙ ap (λ (x : View). views_of seats ++ x ∷ []) now_is in
-    let new_is : document_of file base journal applied (seats ++ now ∷ []) (next_view + 1) jobs next_ticket ≡ record d { views = views_of seats ++ opening_view next_view rights ∷ []; next_view = next_view + 1 } =
-    ap (λ (vs : List View). record d { views = vs; next_view = next_view + 1 }) views_are in
-    let told : outs ≡ one_frame next_view (status rules d next_view rights) = outs_are
-    ∙ ap (λ n. one_frame next_view (Status rules.name n (rules.size (rules.body contents) 0) (named next_view) (not rights.can_write))) h.parts_are
-    ∙ ap (λ (s : Extent). one_frame next_view (Status rules.name (parts_of rules base) s (named next_view) (not rights.can_write))) (h.sizes_are 0) in
-    let fewer : length (views_of seats) ≡ length seats = simp length-map in
-    let yes : nat_lt (length (views_of seats)) 64 ≡ true = grind (arith, nat_tests) in
-    subst (λ b. JoinsWhere b rules d rights outs (document_of file base journal applied (seats ++ now ∷ []) (next_view + 1) jobs next_ticket)) (sym yes) (told, new_is)
+-- a view left
+pub leaves_by : {S : Type 0} (members : List Member) (d : Document S) (id i : ℕ) (member : Member) → d.views ≡ views_of members → IsPlace members id i → get_or members i member ≡ member → Leaves d id nothing (left_once d (remove members i))
+leaves_by {S} members d id i member views place is =
+    (refl, ap (λ (vs : List View). record d { views = vs }) (place_leaves members id i member place is ∙ ap (λ vs. without_view vs id) (sym views)))
 
--- what a broker keeps, without a view that left
-pub holds_left : {C B S : Type 0} (rules : Rules C B) (cut : C → Place → S) (IsSound : C → Type 0) (contents : C) (base : List ℕ) (journal : List Input) (applied : ℕ) (seats : List Seat) (next_view : ℕ) (jobs : List (Job S)) (i : ℕ)
-    → Holds rules cut IsSound contents base journal applied seats next_view jobs
-    → Holds rules cut IsSound contents base journal applied (remove seats i) next_view jobs
-holds_left rules cut IsSound contents base journal applied seats next_view jobs i h = record {
-  accepted = h.accepted;
-  level = h.level;
+pub holds_left : {C B S : Type 0} (rules : Rules C B) (cut : C → Place → S) (IsSound : C → Type 0) (some_part : (base : List ℕ) → 0 < parts_of rules base) (contents : C) (members : List Member) (d : Document S) (id i : ℕ) (member : Member)
+    → Holds rules cut IsSound contents members d → IsPlace members id i → get_or members i member ≡ member
+    → Holds rules cut IsSound contents (remove members i) (left_once d (remove members i))
+holds_left rules cut IsSound some_part contents members d id i member h place is = record {
+  kept = steps_keep rules cut some_part d (left_once d (remove members i)) (Left id) nothing (leaves_by members d id i member h.views_are place is) h.kept;
+  views_are = refl;
   contents_are = h.contents_are;
   sound = h.sound;
   parts_are = h.parts_are;
   sizes_are = h.sizes_are;
   some_part = h.some_part;
-  typed = h.typed;
-  few = omega (arith, h.few, length-remove_one {X = Seat} seats i);
-  ids = pairs_remove (λ a b. a.id < b.id) seats i h.ids;
-  ids_below = all_remove (λ (x : Seat). x.id < next_view) seats i h.ids_below;
-  seated = all_remove (IsSeated rules base journal applied) seats i h.seated;
+  tracked = all_remove (IsTracked rules d.base d.journal d.applied) members i h.tracked;
   out = h.out;
 }
-
--- a view left
-pub leaves_by : {S : Type 0} (file base : List ℕ) (journal : List Input) (applied : ℕ) (seats : List Seat) (next_view : ℕ) (jobs : List (Job S)) (next_ticket id i : ℕ) (seat : Seat)
-    → IsPlace seats id i → get_or seats i seat ≡ seat
-    → Leaves (document_of file base journal applied seats next_view jobs next_ticket) id nothing (document_of file base journal applied (remove seats i) next_view jobs next_ticket)
-leaves_by {S} file base journal applied seats next_view jobs next_ticket id i seat place is =
-    let d : Document S = document_of file base journal applied seats next_view jobs next_ticket in
-    (refl, ap (λ (vs : List View). record d { views = vs }) (place_leaves seats id i seat place is))

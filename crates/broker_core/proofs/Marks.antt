@@ -1,5 +1,5 @@
 -- What an applied input makes of the marks.
-use Rattle.std.proofs.Common.{◌≡◌, ℕ, suc, ◌+◌, ◌<◌, ◌≤◌, Bool, true, false, ◌||◌, List, [], ◌∷◌, length, map, Some, refl, sym, ap, subst, ◌∙◌, arith, rules, add-one}
+use Rattle.std.proofs.Common.{◌≡◌, ℕ, ◌+◌, ◌≤◌, Bool, true, false, ◌||◌, List, [], ◌∷◌, map, Some, refl, sym, ap, subst, ◌∙◌, arith, rules, add-one}
 use Rattle.std.specs.Prelude.{nat_le, slice_get}
 use Rattle.std.specs.List.{AllByRecursion}
 use Rattle.std.proofs.lemmas.Bool.Decides.{nat_tests}
@@ -7,17 +7,16 @@ use Rattle.kit_trait.specs.Rules.{Rules, doc}
 use Rattle.kit_trait.specs.declared.values.Damage.{Damage}
 use Rattle.kit_trait.specs.declared.values.Input.{Input}
 use Rattle.tile_key.specs.Places.{Place}
-use Rattle.tile_key.specs.Visible.{IsBefore}
-use Rattle.document_machine.specs.Due.{touched, damage_of, damages, is_hurt}
-use Rattle.document_machine.specs.Keys.{Pairwise}
-use Rattle.view_session.specs.Keeps.{IsViewing}
-use Rattle.view_session.specs.Viewing.{Viewing, Entry, damaged, hit, wants}
-use Rattle.broker_core.specs.Held.{Seat, shown_of, view_of, views_of, IsSeated}
-use Rattle.broker_core.specs.Serving.{struck, struck_seat}
+use Rattle.document_machine.specs.Due.{touched, damage_of, damages as hits, is_hurt}
+use Rattle.view_session.specs.Viewing.{Viewing, Entry, damaged, hit}
+use Rattle.broker_core.specs.Held.{IsTracked}
+use Rattle.broker_core.specs.Members.{shown_of, view_of, views_of}
+use Rattle.broker_core.specs.Serving.{damaged_by, marked_by}
+use Rattle.broker_core.specs.declared.members.Member.{Member}
 
 -- an entry with all these damages noted
 abbrev pub marked : List Damage → Entry → Entry
-marked hurt entry = record entry { stale = entry.stale || is_hurt hurt entry.key }
+marked damages entry = record entry { stale = entry.stale || is_hurt damages entry.key }
 
 or_false : (b : Bool) → (b || false) ≡ b
 or_false true = refl
@@ -42,17 +41,17 @@ map_id f same (x ∷ xs) = ap (λ y. y ∷ map f xs) (same x) ∙ ap (λ ys. x �
 marked_none : (entry : Entry) → marked [] entry ≡ entry
 marked_none entry = ap (λ b. record entry { stale = b }) (or_false entry.stale)
 
-marked_more : (damage : Damage) (hurt : List Damage) (entry : Entry) → marked hurt (hit damage.part damage.rect entry) ≡ marked (damage ∷ hurt) entry
-marked_more damage hurt entry =
-    ap (λ b. record entry { stale = b }) (or_assoc entry.stale (damages entry.key damage) (is_hurt hurt entry.key))
+marked_more : (damage : Damage) (damages : List Damage) (entry : Entry) → marked damages (hit damage.part damage.rect entry) ≡ marked (damage ∷ damages) entry
+marked_more damage damages entry =
+    ap (λ b. record entry { stale = b }) (or_assoc entry.stale (hits entry.key damage) (is_hurt damages entry.key))
 
 -- noting the damages one after the other marks every entry of the screen by all of them
-pub struck_is : (hurt : List Damage) (v : Viewing) → struck hurt v ≡ record v { screen = map (marked hurt) v.screen }
-struck_is [] v = ap (λ es. record v { screen = es }) (sym (map_id (marked []) marked_none v.screen))
-struck_is (damage ∷ hurt) v =
-    struck_is hurt (damaged damage.part damage.rect v)
-    ∙ ap (λ es. record v { screen = es }) (map_map (marked hurt) (hit damage.part damage.rect) v.screen
-    ∙ map_same (λ e. marked hurt (hit damage.part damage.rect e)) (marked (damage ∷ hurt)) (marked_more damage hurt) v.screen)
+pub damaged_is : (damages : List Damage) (v : Viewing) → damaged_by damages v ≡ record v { screen = map (marked damages) v.screen }
+damaged_is [] v = ap (λ es. record v { screen = es }) (sym (map_id (marked []) marked_none v.screen))
+damaged_is (damage ∷ damages) v =
+    damaged_is damages (damaged damage.part damage.rect v)
+    ∙ ap (λ es. record v { screen = es }) (map_map (marked damages) (hit damage.part damage.rect) v.screen
+    ∙ map_same (λ e. marked damages (hit damage.part damage.rect e)) (marked (damage ∷ damages)) (marked_more damage damages) v.screen)
 
 -- one more input touches what it damages above the version
 pub touched_more : {C B : Type 0} (rules : Rules C B) (base : List ℕ) (journal : List Input) (version : ℕ) (key : Place) (n : ℕ) → version ≤ n → (touched rules base journal version key n || is_hurt (damage_of rules base journal n) key) ≡ touched rules base journal version key (n + 1)
@@ -65,96 +64,45 @@ pub damage_is : {C B : Type 0} (rules : Rules C B) (base : List ℕ) (journal : 
 damage_is rules base journal n input behind = rw behind refl
 
 -- an entry's mark is right after one more input
-mark_more : {C B : Type 0} (rules : Rules C B) (base : List ℕ) (journal : List Input) (applied : ℕ) (hurt : List Damage) (entry : Entry) → hurt ≡ damage_of rules base journal applied → entry.version ≤ applied → entry.stale ≡ touched rules base journal entry.version entry.key applied → (entry.stale || is_hurt hurt entry.key) ≡ touched rules base journal entry.version entry.key (applied + 1)
-mark_more rules base journal applied hurt entry is le right =
-    ap (λ b. b || is_hurt hurt entry.key) right
+mark_more : {C B : Type 0} (rules : Rules C B) (base : List ℕ) (journal : List Input) (applied : ℕ) (damages : List Damage) (entry : Entry) → damages ≡ damage_of rules base journal applied → entry.version ≤ applied → entry.stale ≡ touched rules base journal entry.version entry.key applied → (entry.stale || is_hurt damages entry.key) ≡ touched rules base journal entry.version entry.key (applied + 1)
+mark_more rules base journal applied damages entry is le right =
+    ap (λ b. b || is_hurt damages entry.key) right
     ∙ ap (λ (h : List Damage). touched rules base journal entry.version entry.key applied || is_hurt h entry.key) is
     ∙ touched_more rules base journal entry.version entry.key applied le
 
-pub marks_more : {C B : Type 0} (rules : Rules C B) (base : List ℕ) (journal : List Input) (applied : ℕ) (hurt : List Damage) (screen : List Entry) → hurt ≡ damage_of rules base journal applied → AllByRecursion (λ (e : Entry). e.version ≤ applied) screen → AllByRecursion (λ (e : Entry). e.stale ≡ touched rules base journal e.version e.key applied) screen → AllByRecursion (λ (e : Entry). e.stale ≡ touched rules base journal e.version e.key (applied + 1)) (map (marked hurt) screen)
-marks_more rules base journal applied hurt [] is les rights = tt
-marks_more rules base journal applied hurt (entry ∷ screen) is les rights =
-    (mark_more rules base journal applied hurt entry is les.0 rights.0, marks_more rules base journal applied hurt screen is les.1 rights.1)
-
-versions_more : (applied : ℕ) (hurt : List Damage) (screen : List Entry) → AllByRecursion (λ (e : Entry). e.version ≤ applied) screen → AllByRecursion (λ (e : Entry). e.version ≤ applied + 1) (map (marked hurt) screen)
-versions_more applied hurt [] les = tt
-versions_more applied hurt (entry ∷ screen) les =
-    let le : entry.version ≤ applied = les.0 in
-    let more : entry.version ≤ applied + 1 = omega arith in
-    (more, versions_more applied hurt screen les.1)
-
--- what speaks of keys alone stays
-keys_all : (P : Place → Type 0) (hurt : List Damage) (screen : List Entry) → AllByRecursion (λ (e : Entry). P e.key) screen → AllByRecursion (λ (e : Entry). P e.key) (map (marked hurt) screen)
-keys_all P hurt [] all = tt
-keys_all P hurt (entry ∷ screen) all = (all.0, keys_all P hurt screen all.1)
-
-keys_pairs : (hurt : List Damage) (screen : List Entry) → Pairwise (λ p q. IsBefore p.key q.key) screen → Pairwise (λ p q. IsBefore p.key q.key) (map (marked hurt) screen)
-keys_pairs hurt [] pairs = tt
-keys_pairs hurt (entry ∷ screen) pairs =
-    (keys_all (IsBefore entry.key) hurt screen pairs.0, keys_pairs hurt screen pairs.1)
-
--- a view with its screen marked is one
-pub keeps_marked : (hurt : List Damage) (v : Viewing) → IsViewing v → IsViewing (record v { screen = map (marked hurt) v.screen })
-keeps_marked hurt v keeps = record {
-  zoom = keeps.zoom;
-  visible = keeps.visible;
-  seen = keeps.seen;
-  asked = keeps.asked;
-  asked_once = keeps.asked_once;
-  asked_few = keeps.asked_few;
-  screen = keys_pairs hurt v.screen keeps.screen;
-  wanted = keys_all (λ key. wants v key ≡ true) hurt v.screen keeps.wanted;
-  window_few = keeps.window_few;
-  wids = keeps.wids;
-  wids_below = keeps.wids_below;
-  numbers = keeps.numbers;
-}
+pub marks_more : {C B : Type 0} (rules : Rules C B) (base : List ℕ) (journal : List Input) (applied : ℕ) (damages : List Damage) (screen : List Entry) → damages ≡ damage_of rules base journal applied → AllByRecursion (λ (e : Entry). e.version ≤ applied) screen → AllByRecursion (λ (e : Entry). e.stale ≡ touched rules base journal e.version e.key applied) screen → AllByRecursion (λ (e : Entry). e.stale ≡ touched rules base journal e.version e.key (applied + 1)) (map (marked damages) screen)
+marks_more rules base journal applied damages [] is les rights = tt
+marks_more rules base journal applied damages (entry ∷ screen) is les rights =
+    (mark_more rules base journal applied damages entry is les.0 rights.0, marks_more rules base journal applied damages screen is les.1 rights.1)
 
 -- the machine's screen has no marks
-unmarked : (hurt : List Damage) (screen : List Entry) → map shown_of (map (marked hurt) screen) ≡ map shown_of screen
-unmarked hurt [] = refl
-unmarked hurt (entry ∷ screen) = ap (λ es. shown_of entry ∷ es) (unmarked hurt screen)
+unmarked : (damages : List Damage) (screen : List Entry) → map shown_of (map (marked damages) screen) ≡ map shown_of screen
+unmarked damages [] = refl
+unmarked damages (entry ∷ screen) = ap (λ es. shown_of entry ∷ es) (unmarked damages screen)
 
 -- the machine's view is the same once damages are noted
-pub view_struck : (hurt : List Damage) (seat : Seat) → view_of (struck_seat hurt seat) ≡ view_of seat
-view_struck hurt seat =
-    ap (λ v. view_of (record seat { view = v })) (struck_is hurt seat.view)
-    ∙ ap (λ es. record (view_of seat) { screen = es }) (unmarked hurt seat.view.screen)
+pub view_marked : (damages : List Damage) (member : Member) → view_of (marked_by damages member) ≡ view_of member
+view_marked damages member =
+    ap (λ v. view_of (record member { view = v })) (damaged_is damages member.view)
+    ∙ ap (λ es. record (view_of member) { screen = es }) (unmarked damages member.view.screen)
 
-pub views_struck : (hurt : List Damage) (seats : List Seat) → views_of (map (struck_seat hurt) seats) ≡ views_of seats
-views_struck hurt [] = refl
-views_struck hurt (seat ∷ seats) =
-    ap (λ v. v ∷ views_of (map (struck_seat hurt) seats)) (view_struck hurt seat)
-    ∙ ap (λ vs. view_of seat ∷ vs) (views_struck hurt seats)
+pub views_marked : (damages : List Damage) (members : List Member) → views_of (map (marked_by damages) members) ≡ views_of members
+views_marked damages [] = refl
+views_marked damages (member ∷ members) =
+    ap (λ v. v ∷ views_of (map (marked_by damages) members)) (view_marked damages member)
+    ∙ ap (λ vs. view_of member ∷ vs) (views_marked damages members)
 
--- a seat is right after one more input, with the damages noted
-pub seated_struck : {C B : Type 0} (rules : Rules C B) (base : List ℕ) (journal : List Input) (applied : ℕ) (hurt : List Damage) (seat : Seat) → hurt ≡ damage_of rules base journal applied → IsSeated rules base journal applied seat → IsSeated rules base journal (applied + 1) (struck_seat hurt seat)
-seated_struck rules base journal applied hurt seat is s =
-    let v : Viewing = seat.view in
-    let after : IsSeated rules base journal (applied + 1) (record seat { view = record v { screen = map (marked hurt) v.screen } }) = record {
-      keeps = keeps_marked hurt v s.keeps;
-      part = s.part;
-      asked = s.asked;
+-- what is kept of a member after one more input, with the damages noted
+tracked_marked : {C B : Type 0} (rules : Rules C B) (base : List ℕ) (journal : List Input) (applied : ℕ) (damages : List Damage) (member : Member) → damages ≡ damage_of rules base journal applied → AllByRecursion (λ (e : Entry). e.version ≤ applied) member.view.screen → IsTracked rules base journal applied member → IsTracked rules base journal (applied + 1) (marked_by damages member)
+tracked_marked rules base journal applied damages member is versions s =
+    let v : Viewing = member.view in
+    let after : IsTracked rules base journal (applied + 1) (record member { view = record v { screen = map (marked damages) v.screen } }) = record {
       seen = s.seen;
-      versions = versions_more applied hurt v.screen s.versions;
-      marks = marks_more rules base journal applied hurt v.screen is s.versions s.marks;
+      marks = marks_more rules base journal applied damages v.screen is versions s.marks;
     } in
-    subst (λ w. IsSeated rules base journal (applied + 1) (record seat { view = w })) (sym (struck_is hurt v)) after
+    subst (λ w. IsTracked rules base journal (applied + 1) (record member { view = w })) (sym (damaged_is damages v)) after
 
-pub all_struck : {C B : Type 0} (rules : Rules C B) (base : List ℕ) (journal : List Input) (applied : ℕ) (hurt : List Damage) (seats : List Seat) → hurt ≡ damage_of rules base journal applied → AllByRecursion (IsSeated rules base journal applied) seats → AllByRecursion (IsSeated rules base journal (applied + 1)) (map (struck_seat hurt) seats)
-all_struck rules base journal applied hurt [] is all = tt
-all_struck rules base journal applied hurt (seat ∷ seats) is all =
-    (seated_struck rules base journal applied hurt seat is all.0, all_struck rules base journal applied hurt seats is all.1)
-
--- ids stay
-pub ids_all : (P : ℕ → Type 0) (hurt : List Damage) (seats : List Seat) → AllByRecursion (λ (s : Seat). P s.id) seats → AllByRecursion (λ (s : Seat). P s.id) (map (struck_seat hurt) seats)
-ids_all P hurt [] all = tt
-ids_all P hurt (seat ∷ seats) all = (all.0, ids_all P hurt seats all.1)
-
-pub ids_struck : (hurt : List Damage) (seats : List Seat) → Pairwise (λ a b. a.id < b.id) seats → Pairwise (λ a b. a.id < b.id) (map (struck_seat hurt) seats)
-ids_struck hurt [] pairs = tt
-ids_struck hurt (seat ∷ seats) pairs = (ids_all (λ id. seat.id < id) hurt seats pairs.0, ids_struck hurt seats pairs.1)
-
-pub count_struck : (hurt : List Damage) (seats : List Seat) → length (map (struck_seat hurt) seats) ≡ length seats
-count_struck hurt [] = refl
-count_struck hurt (seat ∷ seats) = ap suc (count_struck hurt seats)
+pub all_marked : {C B : Type 0} (rules : Rules C B) (base : List ℕ) (journal : List Input) (applied : ℕ) (damages : List Damage) (members : List Member) → damages ≡ damage_of rules base journal applied → AllByRecursion (λ (m : Member). AllByRecursion (λ (e : Entry). e.version ≤ applied) m.view.screen) members → AllByRecursion (IsTracked rules base journal applied) members → AllByRecursion (IsTracked rules base journal (applied + 1)) (map (marked_by damages) members)
+all_marked rules base journal applied damages [] is versions all = tt
+all_marked rules base journal applied damages (member ∷ members) is versions all =
+    (tracked_marked rules base journal applied damages member is versions.0 all.0, all_marked rules base journal applied damages members is versions.1 all.1)

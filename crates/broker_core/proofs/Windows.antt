@@ -2,9 +2,8 @@
 use Rattle.std.proofs.Common.{◌≡◌, ℕ, Bool, true, false, not, ◌||◌, cond, List, [], ◌∷◌, ◌++◌, filter, refl, ap, ◌∙◌, nat_eq, arith}
 use Rattle.std.specs.List.{list_any}
 use Rattle.std.proofs.lemmas.Bool.Decides.{nat_tests}
-use Rattle.document_machine.specs.State.{Sent}
+use Rattle.send_window.specs.Tiles.{Sent}
 use Rattle.view_session.specs.Viewing.{Viewing, processed}
-use Rattle.broker_core.specs.Heard.{acknowledged}
 
 -- no number takes nothing out
 none_out : (window : List Sent) → filter (λ tile. not (list_any (λ wid. nat_eq wid tile.wid) [])) window ≡ window
@@ -42,10 +41,14 @@ one_more_out wids wid (tile ∷ window) =
     ap (λ b. cond b (tile ∷ filter P window) (filter P window)) test
     ∙ go (list_any (λ w. nat_eq w tile.wid) wids) (nat_eq tile.wid wid) refl refl
 
+-- the tiles that are not so numbered
+abbrev pub without_wids : List ℕ → Viewing → Viewing
+without_wids wids v = record v { window = filter (λ tile. not (list_any (λ wid. nat_eq wid tile.wid) wids)) v.window }
+
 -- before the first number
-pub acknowledged_none : (v : Viewing) → acknowledged [] v ≡ v
-acknowledged_none v = ap (λ (ts : List Sent). record v { window = ts }) (none_out v.window)
+pub without_none : (v : Viewing) → without_wids [] v ≡ v
+without_none v = ap (λ (ts : List Sent). record v { window = ts }) (none_out v.window)
 
 -- with one number more
-pub acknowledged_more : (wids : List ℕ) (wid : ℕ) (v : Viewing) → acknowledged (wids ++ wid ∷ []) v ≡ processed wid (acknowledged wids v)
-acknowledged_more wids wid v = ap (λ (ts : List Sent). record v { window = ts }) (one_more_out wids wid v.window)
+pub without_more : (wids : List ℕ) (wid : ℕ) (v : Viewing) → without_wids (wids ++ wid ∷ []) v ≡ processed wid (without_wids wids v)
+without_more wids wid v = ap (λ (ts : List Sent). record v { window = ts }) (one_more_out wids wid v.window)

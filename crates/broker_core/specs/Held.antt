@@ -1,81 +1,52 @@
 -- What a broker keeps, and the document that it is.
-use Rattle.std.specs.Prelude.{◌≡◌, ℕ, ◌<◌, ◌≤◌, true, List, length, map, Option, None, Some}
+use Rattle.std.specs.Prelude.{◌≡◌, ℕ, ◌≤◌, List, length, Option, None, Some}
 use Rattle.std.specs.List.{AllByRecursion}
 use Rattle.kit_trait.specs.Rules.{Rules, doc}
 use Rattle.kit_trait.specs.declared.values.Input.{Input}
-use Rattle.tile_key.specs.Places.{Place, place_of_keys, IsArea, IsGroup}
-use Rattle.tile_key.specs.Visible.{visible_keys}
-use Rattle.document_machine.specs.Due.{parts_of, size_of, touched}
-use Rattle.document_machine.specs.Keys.{Pairwise}
-use Rattle.document_machine.specs.State.{View, Shown, Job, Document}
+use Rattle.tile_key.specs.Places.{Place, IsArea}
+use Rattle.document_machine.specs.Due.{parts_of, size_of, seen_keys, touched}
+use Rattle.document_machine.specs.Kept.{IsKept}
+use Rattle.document_machine.specs.State.{Job, Document}
 use Rattle.document_machine.specs.declared.limits.TheConstants.{MOST_VIEWS}
-use Rattle.view_session.specs.Keeps.{IsViewing}
-use Rattle.view_session.specs.Viewing.{Viewing, Entry}
+use Rattle.broker_core.specs.Members.{view_of, views_of}
+use Rattle.broker_core.specs.declared.members.Member.{Member}
 
--- a view with its id
-pub record Seat : Type 0 where
-  pub id : ℕ
-  pub view : Viewing
-
--- an entry of a screen, without the mark
-abbrev pub shown_of : Entry → Shown
-shown_of entry = record { key = entry.key; version = entry.version }
-
--- the machine's view: what it sees is not kept there, and its screen has no marks
-abbrev pub view_of : Seat → View
-view_of seat = record {
-  id = seat.id;
-  rights = seat.view.rights;
-  part = seat.view.part;
-  zoom = seat.view.zoom;
-  area = seat.view.area;
-  asked = seat.view.asked;
-  screen = map shown_of seat.view.screen;
-  window = seat.view.window;
-  next_wid = seat.view.next_wid;
+-- the document that a broker's parts are
+abbrev pub document_of : {S : Type 0} → (file base : List ℕ) → List Input → (applied : ℕ) → List Member → (next_view : ℕ) → List (Job S) → (next_ticket : ℕ) → Document S
+document_of file base journal applied members next_view jobs next_ticket = record {
+  file = file;
+  base = base;
+  journal = journal;
+  applied = applied;
+  views = views_of members;
+  next_view = next_view;
+  jobs = jobs;
+  next_ticket = next_ticket;
 }
 
-abbrev pub views_of : List Seat → List View
-views_of seats = map view_of seats
+-- what is kept of a view beside the machine's: the keys that it sees are those of its part, zoom and area,
+-- and an entry of its screen is stale exactly where an applied input above its version damaged its key
+pub record IsTracked {C B : Type 0} (rules : Rules C B) (base : List ℕ) (journal : List Input) (applied : ℕ) (member : Member) : Type 0 where
+  pub seen : member.view.visible ≡ seen_keys (size_of rules base) (view_of member)
+  pub marks : AllByRecursion (λ entry. entry.stale ≡ touched rules base journal entry.version entry.key applied) member.view.screen
 
--- a view keeps to its type; it stands in one of the document's parts and asks for keys of its parts; the keys
--- that it sees are those of its part, zoom and area; an entry of its screen has an applied version, and is
--- stale exactly where an applied input above its version damaged its key
-pub record IsSeated {C B : Type 0} (rules : Rules C B) (base : List ℕ) (journal : List Input) (applied : ℕ) (seat : Seat) : Type 0 where
-  pub keeps : IsViewing seat.view
-  pub part : seat.view.part < parts_of rules base
-  pub asked : AllByRecursion (λ key. key.part < parts_of rules base) seat.view.asked
-  pub seen : seat.view.visible ≡ visible_keys seat.view.part seat.view.zoom seat.view.area (size_of rules base seat.view.part)
-  pub versions : AllByRecursion (λ entry. entry.version ≤ applied) seat.view.screen
-  pub marks : AllByRecursion (λ entry. entry.stale ≡ touched rules base journal entry.version entry.key applied) seat.view.screen
-
--- a job that is out: its keys are a group and fill its area, which lies in one of the document's parts, and
--- its scene is what the kit cuts for that area of the document as it is now
-pub record IsOut {C B S : Type 0} (rules : Rules C B) (cut : C → Place → S) (base : List ℕ) (journal : List Input) (applied : ℕ) (job : Job S) : Type 0 where
-  pub number : job.number ≡ applied
-  pub group : IsGroup job.keys
-  pub area : job.area ≡ place_of_keys job.keys
+-- a job out shows the document as it is now, and its area has the form of one
+pub record IsPresent {S : Type 0} (applied : ℕ) (job : Job S) : Type 0 where
+  pub now : job.number ≡ applied
   pub form : IsArea job.area
-  pub part : job.area.part < parts_of rules base
-  pub scene_is : job.scene ≡ cut (doc rules base journal applied) job.area
 
--- the kit holds the document after the applied inputs, of the accepted ones; parts and sizes are those of the
--- loaded file; every input names one of the parts; the views, at most 64, are in the order of their ids, which
--- are below the next one
-pub record Holds {C B S : Type 0} (rules : Rules C B) (cut : C → Place → S) (IsSound : C → Type 0) (contents : C) (base : List ℕ) (journal : List Input) (applied : ℕ) (seats : List Seat) (next_view : ℕ) (jobs : List (Job S)) : Type 0 where
-  pub accepted : rules.accepts base ≡ true
-  pub level : applied ≤ length journal
-  pub contents_are : contents ≡ doc rules base journal applied
+-- what the machine says of every document, and beside it: the views are those of the members, the kit holds
+-- the document after the applied inputs, and parts and sizes are those of the loaded file
+pub record Holds {C B S : Type 0} (rules : Rules C B) (cut : C → Place → S) (IsSound : C → Type 0) (contents : C) (members : List Member) (d : Document S) : Type 0 where
+  pub kept : IsKept rules cut d
+  pub views_are : d.views ≡ views_of members
+  pub contents_are : contents ≡ doc rules d.base d.journal d.applied
   pub sound : IsSound contents
-  pub parts_are : rules.parts (rules.body contents) ≡ parts_of rules base
-  pub sizes_are : (part : ℕ) → rules.size (rules.body contents) part ≡ size_of rules base part
-  pub some_part : 1 ≤ parts_of rules base
-  pub typed : AllByRecursion (λ input. input.part < parts_of rules base) journal
-  pub few : length seats ≤ 64
-  pub ids : Pairwise (λ a b. a.id < b.id) seats
-  pub ids_below : AllByRecursion (λ seat. seat.id < next_view) seats
-  pub seated : AllByRecursion (IsSeated rules base journal applied) seats
-  pub out : AllByRecursion (IsOut rules cut base journal applied) jobs
+  pub parts_are : rules.parts (rules.body contents) ≡ parts_of rules d.base
+  pub sizes_are : (part : ℕ) → rules.size (rules.body contents) part ≡ size_of rules d.base part
+  pub some_part : 1 ≤ parts_of rules d.base
+  pub tracked : AllByRecursion (IsTracked rules d.base d.journal d.applied) members
+  pub out : AllByRecursion (IsPresent d.applied) d.jobs
 
 -- a broker that isn't spent has as many views as it may have
 abbrev pub IsFull : {S : Type 0} → Option (Document S) → Type 0

@@ -1,6 +1,5 @@
-pub mod Held
+pub mod Members
 pub mod Places
-pub mod Heard
-pub mod Serving
-pub mod Verdicts
+pub mod Held
 pub mod Hearing
+pub mod Serving

@@ -3,11 +3,11 @@ ghost use Rattle.std.specs.Prelude.{◌≡◌, ◌<◌, ◌++◌, [], length, ma
 ghost use Rattle.cool_frame.specs.declared.frame.Frame.TheVariants.{Invalidate as InvalidateFrame};
 ghost use Rattle.document_machine.specs.Outputs.{named};
 ghost use Rattle.document_machine.specs.Step.{Applies, told};
-ghost use Rattle.broker_core.specs.Held.{views_of};
-ghost use Rattle.broker_core.specs.Serving.{struck_seat};
+ghost use Rattle.broker_core.specs.Members.{views_of};
+ghost use Rattle.broker_core.specs.Serving.{marked_by};
 
 use crate::core_of::{Core, Frames, frames_only};
-use crate::seats::Seat;
+use crate::members::Member;
 use cool_base::{ListOf, Memory, ViewId};
 use cool_frame::Frame;
 use document_machine::Outs;
@@ -15,10 +15,10 @@ use kit_trait::{Damage, Kit};
 use std::alloc::Global;
 
 /// Adds the frames that tell a view of each damaged rectangle, in order.
-fn tell(frames: &mut Frames, id: u32, hurt: &[Damage]) -> Result<(), Memory>
-    ensures { OnOk result (frames.new ≡ frames.old ++ map (λ d. (named id, InvalidateFrame d.part d.rect)) hurt.now) }
+fn tell(frames: &mut Frames, id: u32, damages: &[Damage]) -> Result<(), Memory>
+    ensures { OnOk result (frames.new ≡ frames.old ++ map (λ d. (named id, InvalidateFrame d.part d.rect)) damages.now) }
 {
-    for damage in hurt {
+    for damage in damages {
         frames.push((
             ViewId(id),
             Frame::Invalidate {
@@ -31,31 +31,31 @@ fn tell(frames: &mut Frames, id: u32, hurt: &[Damage]) -> Result<(), Memory>
 }
 
 /// The frames that tell every view, in order of ids, of each damaged rectangle, in order.
-fn told(alloc: Global, seats: &[Seat], hurt: &[Damage]) -> Result<Frames, Memory>
-    ensures { IfOk result (λ frames. frames ≡ told (views_of seats.now) hurt.now) }
+fn told(alloc: Global, members: &[Member], damages: &[Damage]) -> Result<Frames, Memory>
+    ensures { IfOk result (λ frames. frames ≡ told (views_of members.now) damages.now) }
 {
     let mut frames = ListOf::new(alloc);
-    for seat in seats {
-        tell(&mut frames, seat.id, hurt)?;
+    for member in members {
+        tell(&mut frames, member.id, damages)?;
     }
     Ok(frames)
 }
 
 /// Notes the damages in the screen of every view.
-fn strike(seats: &mut Vec<Seat>, hurt: &[Damage])
-    ensures { seats.new.items ≡ map (struck_seat hurt.now) seats.old.items }
+fn mark_all(members: &mut Vec<Member>, damages: &[Damage])
+    ensures { members.new.items ≡ map (marked_by damages.now) members.old.items }
 {
-    for seat in seats.iter_mut() {
-        seat.strike(hurt);
+    for member in members.iter_mut() {
+        member.mark(damages);
     }
 }
 
-impl Seat {
+impl Member {
     /// Notes the damages in the screen of the view, one after the other.
-    fn strike(&mut self, hurt: &[Damage])
-        ensures { self.new ≡ struck_seat hurt.now self.old }
+    fn mark(&mut self, damages: &[Damage])
+        ensures { self.new ≡ marked_by damages.now self.old }
     {
-        for damage in hurt {
+        for damage in damages {
             self.view.damage(damage.part, &damage.rect);
         }
     }
@@ -72,29 +72,22 @@ impl<K: Kit> Core<K> {
         let alloc = self.allocator();
         let Core {
             mut kit,
-            file,
-            base,
-            journal,
-            applied,
-            mut seats,
-            next_view,
-            job,
-            next_ticket,
+            source,
+            mut inputs,
+            mut views,
+            jobs,
         } = self;
-        let input = journal[applied as usize];
-        let hurt = kit.input(alloc, &input)?;
-        let frames = told(alloc, seats.as_slice(), hurt.as_slice())?;
-        strike(&mut seats, hurt.as_slice());
+        let input = inputs.accepted[inputs.applied as usize];
+        let damages = kit.input(alloc, &input)?;
+        let frames = told(alloc, views.members.as_slice(), damages.as_slice())?;
+        mark_all(&mut views.members, damages.as_slice());
+        inputs.applied += 1;
         let core = Core {
             kit,
-            file,
-            base,
-            journal,
-            applied: applied + 1,
-            seats,
-            next_view,
-            job,
-            next_ticket,
+            source,
+            inputs,
+            views,
+            jobs,
         };
         Ok((core, frames_only(alloc, frames)))
     }

@@ -34,11 +34,13 @@ impl<K: Kit> Model for Broker<K> {
 }
 
 impl<K: Kit> Broker<K> {
-    /// The document of this file, without inputs and views. BadFile exactly where the kit says so.
+    /// The document of this file, without inputs and views. BadFile exactly where the file is none of the
+    /// kit's; where the kit refuses it before memory is taken, nothing else comes in its place.
     pub fn start(alloc: Global, file: &FileId, base: Bytes) -> Result<Broker<K>, LoadFault>
         ensures accepted { OnOk result (K.rules.accepts base ≡ true) }
         ensures ok { IfOk result (λ broker. broker ≡ Some (opening file.now base)) }
         ensures bad { result ≡ Err LoadFault.BadFile → K.rules.accepts base ≡ false }
+        ensures refused { K.refuses base ≡ true → result ≡ Err LoadFault.BadFile }
     {
         let core = Core::open(alloc, file, base)?;
         Ok(Broker { core: Some(core) })

@@ -39,6 +39,8 @@ impl<K: Kit> Broker<K> {
         let Some(core) = self.core.take() else {
             return Err(Memory);
         };
+        // What it keeps is what the rank falls by.
+        core.kept();
         let (core, turned) = core.turn()?;
         self.core = Some(core);
         Ok(turned)

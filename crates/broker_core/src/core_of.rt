@@ -5,7 +5,7 @@ ghost use Rattle.document_machine.specs.Kept.{IsKept};
 ghost use Rattle.document_machine.specs.Outputs.{frames_only};
 ghost use Rattle.document_machine.specs.State.{opening, find_view};
 
-use crate::seats::{Seat, seat_at};
+use crate::members::{Member, member_at};
 use bytes::Bytes;
 use cool_base::{FileId, ListOf, Memory, ViewId};
 use cool_frame::Frame;
@@ -47,31 +47,55 @@ impl<S> Model for Job<S> {
     ghost view = { λ j. record { ticket = j.ticket; number = j.number; keys = j.key ∷ []; area = j.key; scene = j.scene } };
 }
 
-/// A document: the kit holds it after `applied` of the accepted inputs. Its methods take it by value, so
-/// one that was given no memory leaves nothing behind.
+/// The file that a document was loaded from: its id and its bytes.
+#[derive(Drop)]
+pub(crate) struct Source {
+    pub(crate) file: FileId,
+    pub(crate) base: Bytes,
+}
+
+/// The accepted inputs, and how many of them are applied.
+#[derive(Drop)]
+pub(crate) struct Inputs {
+    pub(crate) accepted: Vec<Input>,
+    pub(crate) applied: u64,
+}
+
+/// The views in the order of their ids, and the id of the next view.
+#[derive(Drop)]
+pub(crate) struct Views {
+    pub(crate) members: Vec<Member>,
+    pub(crate) next: u32,
+}
+
+/// The job that is out, and the next ticket.
+#[derive(Drop)]
+pub(crate) struct Jobs<S> {
+    pub(crate) out: Option<Job<S>>,
+    pub(crate) next: u64,
+}
+
+/// A document: the kit holds it after the applied inputs. Its methods take it by value, so nothing of it
+/// is left after `Memory`.
 #[derive(Drop)]
 pub(crate) struct Core<K: Kit> {
     pub(crate) kit: K,
-    pub(crate) file: FileId,
-    pub(crate) base: Bytes,
-    pub(crate) journal: Vec<Input>,
-    pub(crate) applied: u64,
-    pub(crate) seats: Vec<Seat>,
-    pub(crate) next_view: u32,
-    pub(crate) job: Option<Job<K::Scene>>,
-    pub(crate) next_ticket: u64,
+    pub(crate) source: Source,
+    pub(crate) inputs: Inputs,
+    pub(crate) views: Views,
+    pub(crate) jobs: Jobs<K::Scene>,
 }
 
 impl<K: Kit> Model for Core<K> {
     ghost use Rattle.std.specs.Prelude.{option_to_list};
     ghost use Rattle.document_machine.specs.State.{Document};
-    ghost use Rattle.broker_core.specs.Held.{Holds, views_of};
+    ghost use Rattle.broker_core.specs.Held.{Holds, document_of};
 
     ghost Value = { Document K.Scene };
 
-    ghost view = { λ c. record { file = c.file; base = c.base; journal = c.journal.items; applied = c.applied; views = views_of c.seats.items; next_view = c.next_view; jobs = option_to_list c.job; next_ticket = c.next_ticket } };
+    ghost view = { λ c. document_of c.source.file c.source.base c.inputs.accepted.items c.inputs.applied c.views.members.items c.views.next (option_to_list c.jobs.out) c.jobs.next };
 
-    ghost invariant = { λ c. Holds K.rules K.cut K.IsSound (K.contents c.kit) c.base c.journal.items c.applied c.seats.items c.next_view (option_to_list c.job) };
+    ghost invariant = { λ c. Holds K.rules K.cut K.IsSound (K.contents c.kit) c.views.members.items (document_of c.source.file c.source.base c.inputs.accepted.items c.inputs.applied c.views.members.items c.views.next (option_to_list c.jobs.out) c.jobs.next) };
 }
 
 impl<K: Kit> Core<K> {
@@ -80,51 +104,58 @@ impl<K: Kit> Core<K> {
         ensures accepted { OnOk result (K.rules.accepts base ≡ true) }
         ensures ok { IfOk result (λ core. core ≡ opening file.now base) }
         ensures bad { result ≡ Err LoadFault.BadFile → K.rules.accepts base ≡ false }
+        ensures refused { K.refuses base ≡ true → result ≡ Err LoadFault.BadFile }
     {
         let kit = K::load(alloc, base.as_slice())?;
         Ok(Core {
             kit,
-            file: file.copy(),
-            base,
-            journal: Vec::new(alloc),
-            applied: 0,
-            seats: Vec::new(alloc),
-            next_view: 0,
-            job: None,
-            next_ticket: 1,
+            source: Source {
+                file: file.copy(),
+                base,
+            },
+            inputs: Inputs {
+                accepted: Vec::new(alloc),
+                applied: 0,
+            },
+            views: Views {
+                members: Vec::new(alloc),
+                next: 0,
+            },
+            jobs: Jobs { out: None, next: 1 },
         })
     }
 
     /// What a broker keeps holds of its document.
     pub(crate) fn kept(&self)
-        ensures { IsKept K.rules self.now }
+        ensures { IsKept K.rules K.cut self.now }
     {
-        let _applied = self.applied;
+        // A read opens the invariant, which says it.
+        let _applied = self.inputs.applied;
     }
 
     /// What the document takes its memory from.
     pub(crate) fn allocator(&self) -> Global {
-        *self.journal.allocator()
+        *self.inputs.accepted.allocator()
     }
 
     /// Whether the document has this view.
     pub(crate) fn is_live(&self, id: u32) -> bool
         ensures { result ≡ is_some (find_view self.now.views id) }
     {
-        seat_at(&self.seats, id).is_some()
+        member_at(&self.views.members, id).is_some()
     }
 
     /// How many inputs are applied.
     pub(crate) fn applied(&self) -> u64
         ensures { result ≡ self.now.applied }
     {
-        self.applied
+        self.inputs.applied
     }
 
     /// How many inputs are accepted.
     pub(crate) fn accepted(&self) -> u64
         ensures { result ≡ length self.now.journal }
     {
-        self.journal.len() as u64
+        self.inputs.accepted.len() as u64
     }
 }

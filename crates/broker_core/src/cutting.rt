@@ -1,16 +1,17 @@
 //! A job is cut.
-ghost use Rattle.std.specs.Prelude.{◌≡◌, ◌+◌, [], ◌∷◌, length, map, Some, IfOk};
-ghost use Rattle.document_machine.specs.Next.{next_pair, none_kept};
-ghost use Rattle.document_machine.specs.Step.{Cuts, given};
+ghost use Rattle.std.specs.Prelude.{◌≡◌, ◌+◌, [], ◌∷◌, length, Some, IfOk};
+ghost use Rattle.document_machine.specs.Next.{next_pair, none_kept, Cut};
+ghost use Rattle.document_machine.specs.declared.outs.Turned.TheVariants.{Worked};
+ghost use Rattle.document_machine.specs.Step.{Does, given};
 
-use crate::core_of::{Core, Job};
+use crate::core_of::{Core, Job, Jobs};
 use cool_base::{ListOf, Memory, Ticket};
 use document_machine::Outs;
 use kit_trait::{Kit, PaintJob, Scene};
 use std::alloc::Global;
 use tile_key::{Area, TileKey, single};
 
-/// The number behind this one; `Memory` where there is none.
+/// The number after this one; `Memory` where there is none.
 fn next_number(number: u64) -> Result<u64, Memory>
     ensures { IfOk result (λ next. next ≡ number + 1) }
 {
@@ -44,43 +45,40 @@ impl<K: Kit> Core<K> {
         requires none_out { self.jobs ≡ [] }
         requires level { self.applied ≡ length self.journal }
         requires next { next_pair K.rules none_kept self ≡ Some next }
-        ensures cut { IfOk result (λ r. Cuts K.rules K.cut self r.1 r.0) }
-        ensures first { IfOk result (λ r. map (λ job. job.group) r.1.jobs ≡ (next.1 ∷ []) ∷ []) }
+        ensures { IfOk result (λ r. Does K.rules K.cut self (Cut next.0 next.1) (Worked r.1) r.0) }
     {
         let alloc = self.allocator();
         let Core {
             mut kit,
-            file,
-            base,
-            journal,
-            applied,
-            seats,
-            next_view,
-            job: _none,
-            next_ticket: ticket,
+            source,
+            inputs,
+            views,
+            jobs,
         } = self;
         let key = next.1;
+        let ticket = jobs.next;
         let next_ticket = next_number(ticket)?;
         let area = Area::of_key(&key);
+        // A read of the area tells its form.
         let _width = area.width();
         let scene = kit.scene(alloc, &area)?;
         let job = Job {
             ticket,
-            number: applied,
+            number: inputs.applied,
             key,
             scene,
         };
         let outs = given(alloc, &job)?;
+        let jobs = Jobs {
+            out: Some(job),
+            next: next_ticket,
+        };
         let core = Core {
             kit,
-            file,
-            base,
-            journal,
-            applied,
-            seats,
-            next_view,
-            job: Some(job),
-            next_ticket,
+            source,
+            inputs,
+            views,
+            jobs,
         };
         Ok((core, outs))
     }

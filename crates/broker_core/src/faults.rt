@@ -5,7 +5,7 @@ use thiserror::Error;
 /// Why a view did not join.
 #[derive(Clone, Copy, Debug, PartialEq, Eq, Error)]
 pub enum JoinFault {
-    /// The document has 64 views.
+    /// The document has `MOST_VIEWS` views.
     #[error("the document has 64 views")]
     ViewsFull,
     /// No memory was left.

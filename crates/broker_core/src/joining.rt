@@ -7,7 +7,7 @@ ghost use Rattle.document_machine.specs.Step.{Joins, Leaves};
 
 use crate::core_of::{Core, Frames, frames_only};
 use crate::faults::JoinFault;
-use crate::seats::{Seat, seat_at};
+use crate::members::{Member, member_at};
 use cool_base::{ListOf, Memory, ViewId};
 use cool_frame::Frame;
 use document_machine::{MOST_VIEWS, Outs, Rights};
@@ -24,7 +24,7 @@ pub(crate) fn one_frame(alloc: Global, id: u32, frame: Frame) -> Result<Frames, 
     Ok(frames)
 }
 
-/// The id behind this one; `Memory` where there is none.
+/// The id after this one; `Memory` where there is none.
 fn next_id(id: u32) -> Result<u32, Memory>
     ensures { IfOk result (λ next. next ≡ id + 1) }
 {
@@ -53,7 +53,7 @@ impl<K: Kit> Core<K> {
     pub(crate) fn views(&self) -> usize
         ensures { result ≡ length self.now.views }
     {
-        self.seats.len()
+        self.views.members.len()
     }
 
     /// The document gets one more view, with the next id, and the view its status.
@@ -65,32 +65,25 @@ impl<K: Kit> Core<K> {
         let alloc = self.allocator();
         let Core {
             kit,
-            file,
-            base,
-            journal,
-            applied,
-            mut seats,
-            next_view: id,
-            job,
-            next_ticket,
+            source,
+            inputs,
+            mut views,
+            jobs,
         } = self;
-        let next_view = next_id(id)?;
+        let id = views.next;
+        let next = next_id(id)?;
         let frame = status(&kit, id, rights.can_write);
         let frames = one_frame(alloc, id, frame)?;
         let size = kit.size(0);
         let view = View::new(alloc, rights, &size)?;
-        view.kept();
-        seats.push(Seat { id, view })?;
+        views.members.push(Member { id, view })?;
+        views.next = next;
         let core = Core {
             kit,
-            file,
-            base,
-            journal,
-            applied,
-            seats,
-            next_view,
-            job,
-            next_ticket,
+            source,
+            inputs,
+            views,
+            jobs,
         };
         Ok((core, ViewId(id), frames_only(alloc, frames)))
     }
@@ -102,29 +95,21 @@ impl<K: Kit> Core<K> {
     {
         let Core {
             kit,
-            file,
-            base,
-            journal,
-            applied,
-            mut seats,
-            next_view,
-            job,
-            next_ticket,
+            source,
+            inputs,
+            mut views,
+            jobs,
         } = self;
-        let Some(i) = seat_at(&seats, id) else {
+        let Some(i) = member_at(&views.members, id) else {
             unreachable!()
         };
-        let _ = seats.remove(i);
+        let _ = views.members.remove(i);
         Core {
             kit,
-            file,
-            base,
-            journal,
-            applied,
-            seats,
-            next_view,
-            job,
-            next_ticket,
+            source,
+            inputs,
+            views,
+            jobs,
         }
     }
 }

@@ -9,15 +9,15 @@
 mod applying;
 mod broker;
 mod broker_work;
+mod changing;
 mod core_of;
 mod cutting;
 mod faults;
+mod hearing;
 mod joining;
-mod message;
+mod members;
 mod painting;
 mod resting;
-mod saying;
-mod seats;
 mod turning;
 
 pub use broker::Broker;

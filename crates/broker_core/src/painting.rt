@@ -1,13 +1,12 @@
 //! A painted job comes back.
 ghost use Rattle.std.specs.Prelude.{◌≡◌, ◌++◌, true, false, map, IfOk, OnOk};
-ghost use Rattle.std.specs.List.{flat_map, AllByRecursion};
+ghost use Rattle.std.specs.List.{flat_map};
 ghost use Rattle.document_machine.specs.State.{find_job};
 ghost use Rattle.document_machine.specs.Step.{Paints};
-ghost use Rattle.view_session.specs.Keeps.{IsViewing};
 ghost use Rattle.broker_core.specs.Serving.{takes, offered, frames_for, Awaits, Ignores};
 
-use crate::core_of::{Core, Frames, frames_only};
-use crate::seats::Seat;
+use crate::core_of::{Core, Frames, Jobs, frames_only};
+use crate::members::Member;
 use bytes::Bytes;
 use cool_base::{ListOf, Memory, ViewId};
 use cool_frame::Frame;
@@ -16,7 +15,7 @@ use kit_trait::{Done, Kit};
 use std::alloc::Global;
 use tile_key::TileKey;
 
-impl Seat {
+impl Member {
     /// Whether the view takes a painted tile of the key in this version: it is no step back, the key is
     /// due, and there is room.
     fn takes(&self, key: &TileKey, version: u64) -> bool
@@ -40,14 +39,12 @@ impl Seat {
         version: u64,
         rgba: &Bytes,
     ) -> Result<(), Memory>
-        ensures seat { OnOk result (self.new ≡ offered key.now version self.old) }
+        ensures member { OnOk result (self.new ≡ offered key.now version self.old) }
         ensures frames { OnOk result (frames.new ≡ frames.old ++ frames_for key.now version rgba.now self.old) }
-        ensures keeps { OnOk result (IsViewing self.new.view) }
     {
         if self.takes(key, version) {
             self.send(frames, key, version, rgba)?;
         }
-        self.view.kept();
         Ok(())
     }
 
@@ -61,7 +58,7 @@ impl Seat {
         rgba: &Bytes,
     ) -> Result<(), Memory>
         requires { takes key.now version self.old.view ≡ true }
-        ensures seat { OnOk result (self.new ≡ offered key.now version self.old) }
+        ensures member { OnOk result (self.new ≡ offered key.now version self.old) }
         ensures frames { OnOk result (frames.new ≡ frames.old ++ frames_for key.now version rgba.now self.old) }
     {
         if !self.view.can_number() {
@@ -85,18 +82,17 @@ impl Seat {
 /// those that take it.
 fn offer(
     alloc: Global,
-    seats: &mut Vec<Seat>,
+    members: &mut Vec<Member>,
     key: &TileKey,
     version: u64,
     rgba: &Bytes,
 ) -> Result<Frames, Memory>
-    ensures seats { OnOk result (seats.new.items ≡ map (offered key.now version) seats.old.items) }
-    ensures frames { IfOk result (λ frames. frames ≡ flat_map (frames_for key.now version rgba.now) seats.old.items) }
-    ensures keeps { OnOk result (AllByRecursion (λ seat. IsViewing seat.view) seats.new.items) }
+    ensures members { OnOk result (members.new.items ≡ map (offered key.now version) members.old.items) }
+    ensures frames { IfOk result (λ frames. frames ≡ flat_map (frames_for key.now version rgba.now) members.old.items) }
 {
     let mut frames = ListOf::new(alloc);
-    for seat in seats.iter_mut() {
-        seat.offer(&mut frames, key, version, rgba)?;
+    for member in members.iter_mut() {
+        member.offer(&mut frames, key, version, rgba)?;
     }
     Ok(frames)
 }
@@ -107,7 +103,7 @@ impl<K: Kit> Core<K> {
         ensures yes { result ≡ true → Awaits done.now.scene (find_job self.now.jobs done.now.ticket.0) }
         ensures no { result ≡ false → Ignores done.now.scene (find_job self.now.jobs done.now.ticket.0) }
     {
-        match &self.job {
+        match &self.jobs.out {
             None => false,
             Some(job) => job.ticket == done.ticket.0 && job.scene == done.scene,
         }
@@ -134,27 +130,21 @@ impl<K: Kit> Core<K> {
         let alloc = self.allocator();
         let Core {
             kit,
-            file,
-            base,
-            journal,
-            applied,
-            mut seats,
-            next_view,
-            job,
-            next_ticket,
+            source,
+            inputs,
+            mut views,
+            jobs,
         } = self;
-        let Some(job) = job else { unreachable!() };
-        let frames = offer(alloc, &mut seats, &job.key, job.number, &done.pixels.rgba)?;
+        let Jobs { out, next } = jobs;
+        let Some(job) = out else { unreachable!() };
+        let rgba = &done.pixels.rgba;
+        let frames = offer(alloc, &mut views.members, &job.key, job.number, rgba)?;
         let core = Core {
             kit,
-            file,
-            base,
-            journal,
-            applied,
-            seats,
-            next_view,
-            job: None,
-            next_ticket,
+            source,
+            inputs,
+            views,
+            jobs: Jobs { out: None, next },
         };
         Ok((core, frames_only(alloc, frames)))
     }

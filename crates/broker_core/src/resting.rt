@@ -7,11 +7,11 @@ ghost use Rattle.document_machine.specs.State.{find_view};
 ghost use Rattle.broker_core.specs.Serving.{is_still};
 
 use crate::core_of::Core;
-use crate::seats::{Seat, seat_at};
+use crate::members::{Member, member_at};
 use cool_base::Wids;
 use kit_trait::Kit;
 
-impl Seat {
+impl Member {
     /// Whether nothing is left to do for the view.
     fn is_still(&self) -> bool
         ensures { result ≡ is_still self.now.view }
@@ -21,11 +21,11 @@ impl Seat {
 }
 
 /// Whether nothing is left to do for each view.
-fn are_still(seats: &[Seat]) -> bool
-    ensures { result ≡ list_all (λ seat. is_still seat.view) seats.now }
+fn are_still(members: &[Member]) -> bool
+    ensures { result ≡ list_all (λ member. is_still member.view) members.now }
 {
-    for seat in seats {
-        if !seat.is_still() {
+    for member in members {
+        if !member.is_still() {
             return false;
         }
     }
@@ -38,20 +38,20 @@ impl<K: Kit> Core<K> {
         ensures free { result ≡ true → self.now.jobs ≡ [] }
         ensures busy { result ≡ false → self.now.jobs ≢ [] }
     {
-        self.job.is_none()
+        self.jobs.out.is_none()
     }
 
     /// Whether a turn would be Idle, no job is out and every window is empty.
     pub(crate) fn is_quiet(&self) -> bool
         ensures { result ≡ is_quiet K.rules self.now }
     {
-        if self.applied != self.journal.len() as u64 {
+        if self.inputs.applied != self.inputs.accepted.len() as u64 {
             return false;
         }
-        if self.job.is_some() {
+        if self.jobs.out.is_some() {
             return false;
         }
-        are_still(self.seats.as_slice())
+        are_still(self.views.members.as_slice())
     }
 
     /// The numbers of the tiles that the view has not acknowledged, in order.
@@ -59,9 +59,9 @@ impl<K: Kit> Core<K> {
         requires { IsSome (find_view self.now.views id) }
         ensures { ForSome (find_view self.now.views id) (λ view. map (λ wid. wid.0) result.items ≡ map (λ tile. tile.wid) view.window) }
     {
-        match seat_at(&self.seats, id) {
+        match member_at(&self.views.members, id) {
             None => unreachable!(),
-            Some(i) => self.seats[i].view.wids(),
+            Some(i) => self.views.members[i].view.wids(),
         }
     }
 }

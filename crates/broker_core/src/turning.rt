@@ -1,19 +1,17 @@
 //! A turn: the next input is applied, or else the pair that is next is served.
 ghost use Rattle.std.specs.Prelude.{◌≡◌, ◌≤◌, [], length, nat_lt, None, Some, IfOk};
-ghost use Rattle.document_machine.specs.Next.{next_pair, none_kept, IsFirst};
-ghost use Rattle.document_machine.specs.Event.{Turned as TurnMade};
-ghost use Rattle.document_machine.specs.Outputs.{outs_of};
-ghost use Rattle.document_machine.specs.Step.{Step, TurnsTo};
-ghost use Rattle.broker_core.specs.Serving.{next_due, next_seated};
+ghost use Rattle.document_machine.specs.Next.{next_pair, none_kept, pick};
+ghost use Rattle.document_machine.specs.Step.{Does};
+ghost use Rattle.broker_core.specs.Serving.{next_due, next_member};
 
 use crate::core_of::Core;
-use crate::seats::Seat;
+use crate::members::Member;
 use cool_base::Memory;
 use document_machine::Turned;
 use kit_trait::Kit;
 use tile_key::TileKey;
 
-impl Seat {
+impl Member {
     /// The first key, in key order, that the view is due, where it has room.
     fn next_due(&self) -> Option<TileKey>
         ensures { result ≡ next_due self.now.view }
@@ -26,12 +24,12 @@ impl Seat {
 }
 
 /// The first view, in order, that has room and is due a key, with its first such key in key order.
-fn next_seated(seats: &[Seat]) -> Option<(u32, TileKey)>
-    ensures { result ≡ next_seated seats.now }
+fn next_member(members: &[Member]) -> Option<(u32, TileKey)>
+    ensures { result ≡ next_member members.now }
 {
-    for seat in seats {
-        if let Some(key) = seat.next_due() {
-            return Some((seat.id, key));
+    for member in members {
+        if let Some(key) = member.next_due() {
+            return Some((member.id, key));
         }
     }
     None
@@ -43,7 +41,7 @@ impl<K: Kit> Core<K> {
         ensures behind { result ≡ nat_lt self.now.applied (length self.now.journal) }
         ensures level { self.now.applied ≤ length self.now.journal }
     {
-        self.applied < self.journal.len() as u64
+        self.inputs.applied < self.inputs.accepted.len() as u64
     }
 
     /// The pair of a view and a key that is served next.
@@ -51,15 +49,13 @@ impl<K: Kit> Core<K> {
         requires { self.now.jobs ≡ [] }
         ensures { result ≡ next_pair K.rules none_kept self.now }
     {
-        next_seated(self.seats.as_slice())
+        next_member(self.views.members.as_slice())
     }
 
-    /// One turn. Idle exactly where there is nothing to do.
+    /// One turn: the work that is picked. Idle exactly where there is nothing to do.
     pub(crate) fn turn(self) -> Result<(Core<K>, Turned<K::Scene>), Memory>
         requires { self.jobs ≡ [] }
-        ensures step { IfOk result (λ r. Step K.rules K.cut self TurnMade (outs_of r.1) r.0) }
-        ensures turn { IfOk result (λ r. TurnsTo K.rules K.cut self r.1 r.0) }
-        ensures first { IfOk result (λ r. self.applied ≡ length self.journal → IsFirst K.rules none_kept self r.1) }
+        ensures { IfOk result (λ r. Does K.rules K.cut self (pick K.rules none_kept self) r.1 r.0) }
     {
         if self.is_behind() {
             let (core, outs) = self.apply()?;

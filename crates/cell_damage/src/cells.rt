@@ -11,8 +11,8 @@ use crate::stretches::Stretch;
 use cool_base::Rect;
 use kit_trait::Damage;
 
-/// Adds to `damage`, which is empty and has room for `MOST_RECTANGLES`, the damage of the part in which
-/// these cells are damaged, each a row and a column. It takes no memory.
+/// Adds to `damage`, which is empty and has room for `MOST_RECTANGLES`, the damage of the part in
+/// which these cells are damaged, each a row and a column. It takes no memory.
 #[tactic(auto, unfolding(crate::specs::Cells::damage_of, crate::specs::Rectangles::damage_in))]
 pub fn damage_of(mut damage: Vec<Damage>, part: u32, cells: &[(u32, u32)]) -> Vec<Damage>
     requires none { damage.items ≡ [] }

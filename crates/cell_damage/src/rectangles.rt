@@ -6,8 +6,8 @@ use crate::limits::MOST_RECTANGLES;
 use cool_base::Rect;
 use kit_trait::Damage;
 
-/// Adds to `damage`, which is empty and has room for `MOST_RECTANGLES`, the damage of the part in which
-/// these rectangles are damaged. It takes no memory.
+/// Adds to `damage`, which is empty and has room for `MOST_RECTANGLES`, the damage of the part in
+/// which these rectangles are damaged. It takes no memory.
 #[tactic(auto, unfolding(crate::specs::Rectangles::damage_in))]
 pub fn damage_in(mut damage: Vec<Damage>, part: u32, rects: &[Rect]) -> Vec<Damage>
     requires none { damage.items ≡ [] }

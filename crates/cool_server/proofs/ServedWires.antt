@@ -15,7 +15,7 @@ use Rattle.http_write.specs.Texts.{response_bytes}
 use Rattle.http_write.specs.Writes.{Writes}
 use Rattle.wopi_host.specs.Hosts.{HostAnswers, HostStays}
 use Rattle.edge.specs.Edges.{IsNew}
-use Rattle.cool_server.specs.Hosting.{Hosting, Responds, Serves, Refused, Answered, CutShort, RunsOut, WhileReading, WhileAnswering, BeforeWriting}
+use Rattle.cool_server.specs.Hosting.{Hosting, Serves, Refused, Answered, CutShort, RunsOut, WhileReading, WhileAnswering, BeforeWriting}
 
 -- a count that rose is above 0
 risen : (before after : ℕ) → Rose before after → 0 < after

@@ -13,7 +13,7 @@ code_of_fault NotText = 2
 
 -- the line that says how the program is called
 abbrev pub usage : List ℕ
-usage = codes "usage: coolwsd replay <patch or sheet>\n"
+usage = codes "usage: coolwsd replay <patch or sheet>, or coolwsd host --port <n> --folder <dir>\n"
 
 -- the usage was written; or its sink failed, and a front of it was
 abbrev pub TellsUsage : (before now : Option (List ℕ)) (faults faults_now : ℕ) → Type 0

@@ -17,7 +17,8 @@ pub const WRONG_WORDS: u8 = 2;
 pub const NO_MEMORY: u8 = 6;
 
 /// What standard error is told where the words are none of the forms.
-const USAGE: &str = "usage: coolwsd replay <patch or sheet>\n";
+const USAGE: &str =
+    "usage: coolwsd replay <patch or sheet>, or coolwsd host --port <n> --folder <dir>\n";
 
 /// Why the words of the command line can't be had.
 #[derive(Clone, Copy, Debug, PartialEq, Eq)]

@@ -1,5 +1,5 @@
-//! A keeper of a folder that is stopped at each of its steps, seen by the files that stay. The crate
-//! has these tests alone.
+//! A keeper of a folder that is stopped at each of its steps, seen by the files that stay. The
+//! crate has these tests alone.
 #![tactic(auto)]
 
 #[cfg(test)]

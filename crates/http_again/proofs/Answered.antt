@@ -10,7 +10,7 @@ use Rattle.http_wire.specs.Messages.{Kind, Front, message_said, IsAnswer, ReadsM
 use Rattle.http_laws.proofs.Fronts.{Laws, one_front, front_stays}
 use Rattle.http_again.specs.Given.{IsGiven, GivesFront, IsItself}
 
--- the bytes say this message, whether the wire ends behind them or not
+-- the bytes say this message, whether the wire ends after them or not
 pub record Say {P M : Type 0} (k : Kind P M) (m : M) (whole : List ℕ) : Type 0 where
   pub front : Front k whole
   pub said : (ended : Bool) → message_said front ended ≡ Some (Ok m)

@@ -24,47 +24,47 @@ use Rattle.http_again.proofs.Answered.{Say}
 fits : (a b : ℕ) → a ≤ b → nat_le a b ≡ true
 fits a b less = grind (arith, nat_tests)
 
--- a body of its length, whatever is behind it
-sized : (body behind : List ℕ) (ended : Bool) → length body ≤ body_limit → body_says (body_of (length body)) (body ++ behind) ended ≡ Some (Ok body)
-sized body behind ended within =
-    by_length (length body) (body ++ behind) ended
+-- a body of its length, whatever is after it
+sized : (body after : List ℕ) (ended : Bool) → length body ≤ body_limit → body_says (body_of (length body)) (body ++ after) ended ≡ Some (Ok body)
+sized body after ended within =
+    by_length (length body) (body ++ after) ended
     ∙ (λ i. if fits (length body) body_limit within i
-    then (if fits (length body) (length (body ++ behind)) (omega (arith, length-append body behind)) i
-    then Some (Ok (take-append_seam body behind i))
+    then (if fits (length body) (length (body ++ after)) (omega (arith, length-append body after)) i
+    then Some (Ok (take-append_seam body after i))
     else (if ended then Some (Err CutOff) else None))
     else Some (Err BodyTooLong))
 
--- no body, whatever is behind it
-empty : (body behind : List ℕ) (ended : Bool) → body ≡ [] → body_says no_body (body ++ behind) ended ≡ Some (Ok body)
-empty body behind ended none =
-    by_length 0 (body ++ behind) ended
+-- no body, whatever is after it
+empty : (body after : List ℕ) (ended : Bool) → body ≡ [] → body_says no_body (body ++ after) ended ≡ Some (Ok body)
+empty body after ended none =
+    by_length 0 (body ++ after) ended
     ∙ (λ i. if fits 0 body_limit (omega arith) i
-    then (if fits 0 (length (body ++ behind)) (omega arith) i then Some (Ok []) else (if ended then Some (Err CutOff) else None))
+    then (if fits 0 (length (body ++ after)) (omega arith) i then Some (Ok []) else (if ended then Some (Err CutOff) else None))
     else Some (Err BodyTooLong))
     ∙ ap (λ xs. Some (Ok xs)) (sym none)
 
-asked_says : (method : Method) (body behind : List ℕ) (ended : Bool) → IsAsked method body → length body ≤ body_limit
-    → body_says (start_of (framing_told method body)) (body ++ behind) ended ≡ Some (Ok body)
-asked_says Get body behind ended asked within = empty body behind ended asked
-asked_says Post body behind ended asked within = sized body behind ended within
-asked_says Other body behind ended asked within = absurd asked
+asked_says : (method : Method) (body after : List ℕ) (ended : Bool) → IsAsked method body → length body ≤ body_limit
+    → body_says (start_of (framing_told method body)) (body ++ after) ended ≡ Some (Ok body)
+asked_says Get body after ended asked within = empty body after ended asked
+asked_says Post body after ended asked within = sized body after ended within
+asked_says Other body after ended asked within = absurd asked
 
-told_says : (bodiless : Bool) (body behind : List ℕ) (ended : Bool) → (bodiless ≡ true → body ≡ []) → length body ≤ body_limit
-    → body_says (start_of (if bodiless then Empty else Sized (length body))) (body ++ behind) ended ≡ Some (Ok body)
-told_says true body behind ended due within = empty body behind ended (due refl)
-told_says false body behind ended due within = sized body behind ended within
+told_says : (bodiless : Bool) (body after : List ℕ) (ended : Bool) → (bodiless ≡ true → body ≡ []) → length body ≤ body_limit
+    → body_says (start_of (if bodiless then Empty else Sized (length body))) (body ++ after) ended ≡ Some (Ok body)
+told_says true body after ended due within = empty body after ended (due refl)
+told_says false body after ended due within = sized body after ended within
 
-within_limit : (head body behind : List ℕ) → length head ≤ head_limit → length ((head ++ body) ++ behind) ≤ head_limit + length (body ++ behind)
-within_limit head body behind small = omega (arith, small, length-append (head ++ body) behind, length-append head body, length-append body behind)
+within_limit : (head body after : List ℕ) → length head ≤ head_limit → length ((head ++ body) ++ after) ≤ head_limit + length (body ++ after)
+within_limit head body after small = omega (arith, small, length-append (head ++ body) after, length-append head body, length-append body after)
 
-pub request_says : (host : List ℕ) (r : Request) (behind : List ℕ) → IsReadable host r → length (request_head host r) ≤ head_limit → Say requests r (request_bytes host r ++ behind)
-request_says host r behind is small = record {
-  front = Headed (request_parts r) (r.body ++ behind) (request_again host r behind is) (within_limit (request_head host r) r.body behind small);
-  said = λ ended. ap (λ s. with_body requests (request_parts r) s) (asked_says r.method r.body behind ended is.asked is.body);
+pub request_says : (host : List ℕ) (r : Request) (after : List ℕ) → IsReadable host r → length (request_head host r) ≤ head_limit → Say requests r (request_bytes host r ++ after)
+request_says host r after is small = record {
+  front = Headed (request_parts r) (r.body ++ after) (request_again host r after is) (within_limit (request_head host r) r.body after small);
+  said = λ ended. ap (λ s. with_body requests (request_parts r) s) (asked_says r.method r.body after ended is.asked is.body);
 }
 
-pub response_says : (r : Response) (behind : List ℕ) → IsAnswer r → length (response_head r) ≤ head_limit → Say responses r (response_bytes r ++ behind)
-response_says r behind is small = record {
-  front = Headed (response_parts r) (r.body ++ behind) (response_again r behind is) (within_limit (response_head r) r.body behind small);
-  said = λ ended. ap (λ s. with_body responses (response_parts r) s) (told_says (is_bodiless r.status) r.body behind ended is.bodiless is.body);
+pub response_says : (r : Response) (after : List ℕ) → IsAnswer r → length (response_head r) ≤ head_limit → Say responses r (response_bytes r ++ after)
+response_says r after is small = record {
+  front = Headed (response_parts r) (r.body ++ after) (response_again r after is) (within_limit (response_head r) r.body after small);
+  said = λ ended. ap (λ s. with_body responses (response_parts r) s) (told_says (is_bodiless r.status) r.body after ended is.bodiless is.body);
 }

@@ -11,7 +11,8 @@ ghost use Rattle.http_message.specs.declared.Response.{Response};
 ghost use Rattle.wire_body.specs.declared.faults.HttpFault.{HttpFault};
 ghost use Rattle.http_wire.specs.Messages.{head_limit, IsAnswer, ReadsMessage};
 ghost use Rattle.http_wire.specs.Kinds.{requests, responses};
-ghost use Rattle.http_write.specs.Texts.{request_head, request_bytes, response_head, response_bytes};
+ghost use Rattle.http_write.specs.Texts.{request_head, request_bytes};
+ghost use Rattle.http_write.specs.Texts.{response_head, response_bytes};
 ghost use Rattle.http_write.specs.Again.{IsReadable, IsAnswer as IsTold};
 ghost use Rattle.http_again.specs.Given.{IsGiven, GivesFront, IsItself};
 
@@ -19,11 +20,13 @@ ghost use Rattle.http_again.specs.Given.{IsGiven, GivesFront, IsItself};
 /// answers, unless memory ran out or a read failed: of the bytes that the call received, and of the
 /// talks of its wire as its contract names them.
 pub fn requests_are_answered()
-    ensures bytes { (host : List ℕ) (r : Request) (after bytes : List ℕ) (ended : Bool) (result : Result Request HttpFault)
+    ensures bytes { (host : List ℕ) (r : Request) (after bytes : List ℕ)
+        (ended : Bool) (result : Result Request HttpFault)
         → IsReadable host r → length (request_head host r) ≤ head_limit
         → IsGiven (request_bytes host r ++ after) bytes ended
         → IsAnswer requests bytes ended result → IsItself r result }
-    ensures talks { (host : List ℕ) (r : Request) (after : List ℕ) (old new : Talk) (result : Result Request HttpFault)
+    ensures talks { (host : List ℕ) (r : Request) (after : List ℕ)
+        (old new : Talk) (result : Result Request HttpFault)
         → IsReadable host r → length (request_head host r) ≤ head_limit
         → GivesFront (request_bytes host r ++ after) old new
         → ReadsMessage requests (Some old) (Some new) result → IsItself r result }
@@ -31,11 +34,13 @@ pub fn requests_are_answered()
 
 /// The same of a response.
 pub fn responses_are_answered()
-    ensures bytes { (r : Response) (after bytes : List ℕ) (ended : Bool) (result : Result Response HttpFault)
+    ensures bytes { (r : Response) (after bytes : List ℕ)
+        (ended : Bool) (result : Result Response HttpFault)
         → IsTold r → length (response_head r) ≤ head_limit
         → IsGiven (response_bytes r ++ after) bytes ended
         → IsAnswer responses bytes ended result → IsItself r result }
-    ensures talks { (r : Response) (after : List ℕ) (old new : Talk) (result : Result Response HttpFault)
+    ensures talks { (r : Response) (after : List ℕ)
+        (old new : Talk) (result : Result Response HttpFault)
         → IsTold r → length (response_head r) ≤ head_limit
         → GivesFront (response_bytes r ++ after) old new
         → ReadsMessage responses (Some old) (Some new) result → IsItself r result }

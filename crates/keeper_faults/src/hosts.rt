@@ -38,8 +38,9 @@ fn host_over(rt: &impl Abort, alloc: Global, fails_at: u64) -> Result<Host<Faili
     Ok(Host::new(alloc, keeper)?)
 }
 
-// Each row is the call that fails, what a put and a get after it are answered, and how many calls of
-// the keeper they made: a put asks for the file and keeps it, a get asks for it.
+// Each row is the call that fails, what a put and a get after it are answered, how many calls of
+// the keeper they made, and how many bytes it has then: a put asks for the file and keeps it, a get
+// asks for it.
 #[test]
 fn the_answer_is_500_where_the_keeper_fails(rt: HostRuntime) -> Result<(), Fail> {
     let alloc = rt.alloc();

@@ -238,7 +238,7 @@ try_more part known after waiting i left left' position held h is known_is left_
     by None (Some v) f t = try_found part known waiting i left position v held h is t
     by None None f t = try_waits part known waiting i left position held h is t
 
--- behind the last try
+-- after the last try
 pub swept : (part : Part) (known : Known) (waiting : List Position) (i : ℕ) (left : List Position) → length waiting ≤ i → i ≤ length waiting → Held part known waiting i left → IsSwept part known waiting left
 swept part known waiting i left h k held =
     let all : i ≡ length waiting = omega arith in
@@ -312,7 +312,7 @@ pub find_first : (part : Part) (formulas positions waiting : List Position) (kno
 find_first part formulas positions waiting known covered none is =
     (subst (IsSound part) (sym none) (sound_start part), subst (λ (k : Known). Covers part k waiting) (sym none) (subst (Covers part []) (sym is) (covers_more part [] positions formulas covered)))
 
--- behind a sweep that found nothing
+-- after a sweep that found nothing
 pub find_last : (part : Part) (known : Known) (taken waiting left : List Position) (count number : ℕ) → IsSwept part known taken left → taken ≡ waiting → count ≡ length waiting → number ≡ length left → number ≡ count → AreFound part known
 find_last part known taken waiting left count number done is counted numbered same =
     let still : length left ≡ length taken = sym numbered ∙ same ∙ counted ∙ ap length (sym is) in

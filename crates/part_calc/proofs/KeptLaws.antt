@@ -1,5 +1,5 @@
 -- What is kept of a part stays right.
-use Rattle.std.proofs.Common.{◌≡◌, ◌≢◌, ◌↔◌, ℕ, ◌<◌, Bool, true, false, cond, List, [], ◌∷◌, refl, ap, sym, ◌∙◌, subst, arith}
+use Rattle.std.proofs.Common.{◌≡◌, ◌≢◌, ◌↔◌, ℕ, ◌<◌, Bool, true, false, cond, List, [], ◌∷◌, length, refl, ap, sym, ◌∙◌, subst, arith}
 use Rattle.std.specs.Prelude.{Result, Ok, Err, IfOk, OnOk, OnErr}
 use Rattle.std.specs.BTreeMap.{is_at, insert_entry}
 use Rattle.std.specs.List.{AllByRecursion, Contains}
@@ -17,22 +17,23 @@ use Rattle.part_calc.specs.Contents.{is_formula}
 use Rattle.part_calc.specs.Parts.{Part, text_at, with_text}
 use Rattle.part_calc.specs.Shown.{shown_at, changed_cells}
 use Rattle.part_calc.specs.Kept.{IsShown, IsEntry, IsPart}
+use Rattle.part_calc.specs.Text.{part_lines}
 use Rattle.part_calc.proofs.PositionLaws.{exact_positions, at_other}
 use Rattle.part_calc.proofs.TextLaws.{empty_content, text_same, text_other}
 use Rattle.part_calc.proofs.ChangeLaws.{changed_iff, changed_ordered}
 
 -- a part without cells
-empty_kept : (shown : List (Position × List ℕ)) → IsPart [] × IsShown [] shown
-unfolding text_at IsStrictlySortedBy
-empty_kept shown = (record { ordered = tt; entries = tt }, λ p is. absurd (both_ways false refl (ap is_formula (sym empty_content) ∙ is)))
+empty_kept : (shown : List (Position × List ℕ)) → IsPart [] × IsShown [] shown × (0 ≡ length (part_lines 0 []))
+unfolding text_at IsStrictlySortedBy part_lines
+empty_kept shown = (record { ordered = tt; entries = tt }, λ p is. absurd (both_ways false refl (ap is_formula (sym empty_content) ∙ is)), refl)
 
 -- a part without cells is one
 pub none_is_part : (part : Part) → part ≡ [] → IsPart part
 unfolding IsStrictlySortedBy
 none_is_part part none = subst IsPart (sym none) (record { ordered = tt; entries = tt })
 
-pub none_kept : (part : Part) (shown : List (Position × List ℕ)) → part ≡ [] → IsPart part × IsShown part shown
-none_kept part shown none = subst (λ (s : Part). IsPart s × IsShown s shown) (sym none) (empty_kept shown)
+pub none_kept : (part : Part) (shown : List (Position × List ℕ)) → part ≡ [] → IsPart part × IsShown part shown × (0 ≡ length (part_lines 0 part))
+none_kept part shown none = subst (λ (s : Part). IsPart s × IsShown s shown × (0 ≡ length (part_lines 0 s))) (sym none) (empty_kept shown)
 
 -- entries keep to what they are
 remove_keeps : (P : Position × List ℕ → Type 0) (test : Position → Bool) (part : Part) → AllByRecursion P part → AllByRecursion P (remove_entry test part)
@@ -66,11 +67,12 @@ put_kept inside after at cell raw part row column valid utf8 is put sorted = rec
 }
 
 -- an edit
-pub set_kept : (inside after : Part) (at : Position) (cell raw : List ℕ) (shown : List (Position × List ℕ)) → IsPart inside → at.0 < 4096 → at.1 < 256 → IsRaw raw → IsUtf8 raw → cell ≡ raw → after ≡ with_text inside at cell → IsStrictlySortedBy position_cmp (keys_of after)
-    → IsShown (with_text inside at cell) shown → IsPart after × IsShown after shown
-set_kept inside after at cell raw shown part row column valid utf8 is put sorted kept = (
+pub set_kept : (inside after : Part) (at : Position) (cell raw : List ℕ) (shown : List (Position × List ℕ)) (kept : ℕ) → IsPart inside → at.0 < 4096 → at.1 < 256 → IsRaw raw → IsUtf8 raw → cell ≡ raw → after ≡ with_text inside at cell → IsStrictlySortedBy position_cmp (keys_of after)
+    → IsShown (with_text inside at cell) shown → kept ≡ length (part_lines 0 (with_text inside at raw)) → IsPart after × IsShown after shown × (kept ≡ length (part_lines 0 after))
+set_kept inside after at cell raw shown kept part row column valid utf8 is put sorted shows long = (
   put_kept inside after at cell raw part row column valid utf8 is put sorted,
-  subst (λ (s : Part). IsShown s shown) (sym put) kept,
+  subst (λ (s : Part). IsShown s shown) (sym put) shows,
+  long ∙ ap (λ (r : List ℕ). length (part_lines 0 (with_text inside at r))) (sym is) ∙ ap (λ (s : Part). length (part_lines 0 s)) (sym put),
 )
 
 -- what it answers

@@ -167,5 +167,45 @@ text_fits part cells h kept =
     let few = cells_bound cells kept in
     omega (arith, lines, few)
 
+-- ---- the lines of a part of another number
+
+longer_line : (n d : ℕ) (e : Position × List ℕ) → length (decimal n) ≡ d + 1 → length (cell_line n e) ≡ length (cell_line 0 e) + d
+longer_line n d e is =
+    let here = line_length n e.0 e.1 in
+    let there = line_length 0 e.0 e.1 in
+    let zero_digits : 1 ≡ length (decimal 0) = one_digit 0 (omega arith) in
+    omega (arith, is, here, there, zero_digits)
+
+-- where the number has one digit the lines are as long as those of part 0
+one_digit_lines : (n : ℕ) (part : Part) → length (decimal n) ≡ 1 → length (part_lines n part) ≡ length (part_lines 0 part)
+unfolding part_lines
+one_digit_lines n [] is = refl
+one_digit_lines n (e ∷ part) is =
+    let first = longer_line n 0 e is in
+    let rest = one_digit_lines n part is in
+    let here = length-append (cell_line n e) (flat_map (cell_line n) part) in
+    let there = length-append (cell_line 0 e) (flat_map (cell_line 0) part) in
+    omega (arith, first, rest, here, there)
+
+-- where it has two they have a byte more each
+two_digit_lines : (n : ℕ) (part : Part) → length (decimal n) ≡ 2 → length (part_lines n part) ≡ length (part_lines 0 part) + length part
+unfolding part_lines
+two_digit_lines n [] is = refl
+two_digit_lines n (e ∷ part) is =
+    let first = longer_line n 1 e is in
+    let rest = two_digit_lines n part is in
+    let here = length-append (cell_line n e) (flat_map (cell_line n) part) in
+    let there = length-append (cell_line 0 e) (flat_map (cell_line 0) part) in
+    omega (arith, first, rest, here, there)
+
+pub low_number : (n : ℕ) (part : Part) (kept : ℕ) → n < 10 → kept ≡ length (part_lines 0 part) → kept ≡ length (part_lines n part)
+low_number n part kept h is = is ∙ sym (one_digit_lines n part (sym (one_digit n h)))
+
+pub high_number : (n : ℕ) (part : Part) (kept count : ℕ) → 10 ≤ n → n < 16 → kept ≡ length (part_lines 0 part) → count ≡ length part → kept + count ≡ length (part_lines n part)
+high_number n part kept count low high is many =
+    let digits : 1 + 1 ≡ length (decimal n) = more_digits n 1 low (omega (arith, high)) (one_digit (n / 10) (omega (arith, high))) in
+    let lines = two_digit_lines n part (omega (arith, digits)) in
+    omega (arith, is, many, lines)
+
 pub few_digits : (n d : ℕ) → n < 2 ^ 64 → d ≡ length (decimal n) → d ≤ 20
 few_digits n d h is = let short = length-decimal-le 20 n (omega arith) (omega (arith, h)) h in omega (arith, short, is)

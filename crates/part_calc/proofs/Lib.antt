@@ -9,3 +9,4 @@ pub mod ChangeLaws
 pub mod KeptLaws
 pub mod LengthLaws
 pub mod EditLengths
+pub mod DependantLaws

@@ -41,7 +41,7 @@ is_ready part known p = list_all (λ r. is_some (seen_at part known r)) (reads_a
 unfoldable pub attempted : Part → Known → Position → Option Value
 attempted part known p = if is_ready part known p then Some (step_at part p (look_at part known)) else None
 
--- what is known, and what waits, behind a try at a cell: it was found before, it is found now, or it waits
+-- what is known, and what waits, after a try at a cell: it was found before, it is found now, or it waits
 abbrev pub known_after : Option Value → Option Value → Known → Position → Known
 known_after (Some v) tried known p = known
 known_after None (Some v) known p = insert_entry position_cmp known p v

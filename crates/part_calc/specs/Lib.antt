@@ -4,3 +4,4 @@ pub mod Shown
 pub mod Finding
 pub mod Kept
 pub mod Text
+pub mod Dependants

@@ -23,6 +23,6 @@ mod recalculation;
 mod shown;
 
 pub use draft::PartDraft;
-pub use laws::{circular_cells_never_end, values_are_determined, values_follow};
+pub use laws::{circular_cells_never_end, other_cells_stay, values_are_determined, values_follow};
 pub use lengths::{digits, line_len_at};
 pub use part::Part;

@@ -12,7 +12,7 @@ ghost use Rattle.part_calc.specs.Text.{part_lines};
 ghost use Rattle.sheet_cells.specs.declared.limits.TheConstants.{COLUMNS, MOST_PARTS, ROWS};
 
 use crate::contents::Cell;
-use crate::lengths::lines_len;
+use crate::lengths::{edited_len, lines_len, raw_at};
 use crate::lines::write_lines;
 use crate::recalculation::{old_text, recalculate};
 use crate::shown::Shown;
@@ -28,13 +28,16 @@ use std::marker::Model;
 pub struct Part {
     cells: BTreeMap<(u32, u32), Cell>,
     shown: Shown,
+    // How many bytes the part's lines have, as those of part 0.
+    kept: u64,
 }
 
 impl Model for Part {
-    ghost use Rattle.std.specs.Prelude.{List, ℕ};
+    ghost use Rattle.std.specs.Prelude.{◌≡◌, List, ℕ, length};
     ghost use Rattle.std.specs.Coded.{coded×, coded_list, coded_ℕ};
     ghost use Rattle.formula_base.specs.Ranges.{Position};
     ghost use Rattle.part_calc.specs.Kept.{IsPart, IsShown};
+    ghost use Rattle.part_calc.specs.Text.{part_lines};
 
     ghost Value = { List (Position × List ℕ) };
 
@@ -42,7 +45,7 @@ impl Model for Part {
 
     ghost view = { λ part. part.cells.entries };
 
-    ghost invariant = { λ part. IsPart part.cells.entries × IsShown part.cells.entries part.shown.entries };
+    ghost invariant = { λ part. IsPart part.cells.entries × IsShown part.cells.entries part.shown.entries × (part.kept ≡ length (part_lines 0 part.cells.entries)) };
 }
 
 impl Part {
@@ -54,6 +57,7 @@ impl Part {
         Part {
             cells: BTreeMap::new(alloc),
             shown: BTreeMap::new(alloc),
+            kept: 0,
         }
     }
 
@@ -63,7 +67,8 @@ impl Part {
         requires shown { IsShown cells.entries shown.entries }
         ensures { result ≡ cells.entries }
     {
-        Part { cells, shown }
+        let kept = lines_len(&cells);
+        Part { cells, shown, kept }
     }
 
     /// Gives the cell the raw text, and answers the cells whose shown text differs from what it was.
@@ -87,9 +92,11 @@ impl Part {
         ensures err { OnErr result (self.new ≡ self.old) }
     {
         let cell = Cell::of(alloc, raw)?;
+        let kept = edited_len(&self.cells, self.kept, at, raw);
         let found = recalculate(alloc, &self.cells, &self.shown, at, &cell)?;
         put(&mut self.cells, at, cell)?;
         self.shown = found.shown;
+        self.kept = kept;
         Ok(found.changed)
     }
 
@@ -101,24 +108,24 @@ impl Part {
     }
 
     /// The cell's raw text, empty where it has none.
-    #[tactic(auto, unfolding(crate::specs::Parts::text_at))]
     pub fn raw(&self, at: (u32, u32)) -> &str
         ensures { result.now ≡ text_at self.now at }
     {
-        match self.cells.get(&at) {
-            Some(cell) => cell.raw(),
-            None => "",
-        }
+        raw_at(&self.cells, at)
     }
 
     /// How many bytes the part's lines have in the text of a file, as the part of this number: below
-    /// 2^31. The number is below `MOST_PARTS`.
+    /// 2^31. The number is below `MOST_PARTS`. It takes no time for the cells: the length is kept.
     pub fn text_len(&self, number: u32) -> u64
         requires { number < MOST_PARTS }
         ensures length { result ≡ length (part_lines number self.now) }
         ensures small { result < 2 ^ 31 }
     {
-        lines_len(&self.cells, number)
+        if number < 10 {
+            self.kept
+        } else {
+            self.kept + self.cells.len() as u64
+        }
     }
 
     /// Adds the part's lines in the text of a file, as those of the part of this number.

@@ -19,7 +19,7 @@ use script_lines::{Stop, write_whole};
 use std::alloc::Global;
 use std::collections::VecDeque;
 
-/// One event, and behind it one turn of the document, if there is one.
+/// One event, and after it one turn of the document, if there is one.
 fn event_turn<K: Kit>(
     alloc: Global,
     broker: Option<Broker<K>>,

@@ -110,8 +110,8 @@ impl Book {
         self.parts[at.part as usize].raw((at.row, at.col))
     }
 
-    /// How many bytes the text of the book's file has: below 2^37. It takes time linear in the book's
-    /// cells.
+    /// How many bytes the text of the book's file has: below 2^37. No cell is looked at: each part keeps
+    /// the length of its lines.
     pub fn text_len(&self) -> u64
         ensures length { result ≡ length (file_text self.now) }
         ensures small { result < 2 ^ 37 }
@@ -120,8 +120,8 @@ impl Book {
         digits(count) + 19 + lines_len(self.parts.as_slice())
     }
 
-    /// How many bytes the text of the book's file would have, if the cell had this raw text. It takes
-    /// time linear in the book's cells.
+    /// How many bytes the text of the book's file would have, if the cell had this raw text. No other
+    /// cell is looked at.
     pub fn text_len_with(&self, at: &CellRef, raw: &str) -> u64
         requires cell { IsCell (length self.now) at.now }
         requires valid { IsRaw raw.now }

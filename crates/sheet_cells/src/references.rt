@@ -38,7 +38,9 @@ pub fn leading_letters(text: &[u8]) -> usize
     ensures count { result ≡ prefix_len is_name_letter text.now }
     ensures within { result ≤ length text.now }
 {
-    text.iter().take_while(|byte| is_name_letter(**byte)).count()
+    text.iter()
+        .take_while(|byte| is_name_letter(**byte))
+        .count()
 }
 
 // Whether each byte is a letter.

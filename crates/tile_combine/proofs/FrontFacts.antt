@@ -1,11 +1,11 @@
 -- How the first group of some keys is found, a key at a time.
 use Rattle.std.proofs.Common.{◌≡◌, ℕ, zero, suc, ◌+◌, ◌-◌, ◌≤◌, ◌<◌, arith, Bool, true, false, List, [], ◌∷◌, length, take, drop, get_or, refl, ap, sym, ◌∙◌, if◌then◌else◌, length-take, drop_of_length-le, add-one}
-use Rattle.tile_key.specs.Places.{Place, IsRun, IsGroup, next_place, no_place}
+use Rattle.tile_key.specs.Places.{Place, IsRun, IsGroup, no_place}
 use Rattle.tile_combine.specs.Runs.{follows}
 use Rattle.tile_combine.specs.Front.{following, front_of}
 use Rattle.tile_combine.proofs.SameFacts.{follows_is}
 
-drop_here : {X : Type 0} (xs : List X) (i : ℕ) (d : X) → i < length xs → drop i xs ≡ get_or xs i d ∷ drop (suc i) xs
+pub drop_here : {X : Type 0} (xs : List X) (i : ℕ) (d : X) → i < length xs → drop i xs ≡ get_or xs i d ∷ drop (suc i) xs
 drop_here [] i d low = absurd (omega (arith, low))
 drop_here (x ∷ xs) zero d low = refl
 drop_here (x ∷ xs) (suc i) d low = drop_here xs i d (omega (arith, low))

@@ -1,10 +1,10 @@
 -- The groups of some keys are the first group and the groups of the keys behind it.
-use Rattle.std.proofs.Common.{◌≡◌, ℕ, zero, suc, ◌+◌, ◌≤◌, ◌<◌, arith, Bool, true, false, nat_lt, List, [], ◌∷◌, ◌++◌, length, take, drop, refl, ap, sym, ◌∙◌, if◌then◌else◌, append_assoc, append-nil, length-append, length-take, length-take-le, inl, inr}
+use Rattle.std.proofs.Common.{◌≡◌, ℕ, zero, suc, ◌+◌, ◌≤◌, ◌<◌, arith, Bool, true, false, List, [], ◌∷◌, ◌++◌, length, take, drop, refl, ap, sym, ◌∙◌, append_assoc, append-nil, length-append, length-take-le, inl, inr}
 use Rattle.std.proofs.lemmas.Grind.{common_steps}
 use Rattle.std.specs.List.{flat_map}
 use Rattle.std.proofs.lemmas.Bool.{lt-ltb, cases_lt}
 use Rattle.tile_key.specs.Places.{Place}
-use Rattle.tile_combine.specs.Runs.{follows, joined, runs, pieces, eights, groups_of}
+use Rattle.tile_combine.specs.Runs.{follows, runs, pieces, eights, groups_of}
 use Rattle.tile_combine.specs.Front.{following, front_of}
 use Rattle.tile_combine.proofs.FrontFacts.{few, within}
 
@@ -38,19 +38,19 @@ front_is (suc most) key (other ∷ others) =
     let next = front_is most other others in
     let go : (b : Bool) → follows key other ≡ b → IsFront (suc most) key (other ∷ others) = elim [
       | true ↦ λ on. record {
-          left = next.left;
-          others = next.others;
-          whole = rw (next.whole, on) refl;
-          behind = rw on next.behind;
-          ends = λ low. next.ends (omega (arith, rw on at low));
-        }
+        left = next.left;
+        others = next.others;
+        whole = rw (next.whole, on) refl;
+        behind = rw on next.behind;
+        ends = λ low. next.ends (omega (arith, rw on at low));
+      }
       | false ↦ λ off. record {
-          left = [];
-          others = ((other ∷ take (following most other others) others) ++ next.left) ∷ next.others;
-          whole = rw (next.whole, off) refl;
-          behind = rw off next.whole;
-          ends = λ low. refl;
-        }
+        left = [];
+        others = ((other ∷ take (following most other others) others) ++ next.left) ∷ next.others;
+        whole = rw (next.whole, off) refl;
+        behind = rw off next.whole;
+        ends = λ low. refl;
+      }
     ] in go (follows key other) refl
 
 -- few keys are one piece

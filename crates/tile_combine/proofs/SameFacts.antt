@@ -1,6 +1,5 @@
 -- Places that compare equal are one.
-use Rattle.std.proofs.Common.{◌≡◌, ℕ, Bool, true, ◌&&◌, nat_eq, arith}
-use Rattle.std.proofs.lemmas.Bool.{and_parts}
+use Rattle.std.proofs.Common.{◌≡◌, true, arith}
 use Rattle.std.proofs.lemmas.Bool.Decides.{nat_tests}
 use Rattle.tile_key.specs.Places.{Place, same_place, next_place}
 use Rattle.tile_combine.specs.Runs.{follows}

@@ -1,6 +1,6 @@
 -- The pictures of a group's keys as parts of the group's picture.
 use Rattle.std.specs.Prelude.{◌≡◌, ℕ, zero, suc, ◌+◌, ◌*◌, List, [], ◌∷◌, ◌++◌, length, take, drop}
-use Rattle.tile_key.specs.Places.{Place, place_of_keys}
+use Rattle.tile_key.specs.Places.{Place}
 use Rattle.kit_trait.specs.declared.values.Pixels.{Pixels}
 use Rattle.kit_trait.specs.Pictures.{Colour, picture}
 

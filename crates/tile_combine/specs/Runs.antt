@@ -1,5 +1,5 @@
 -- Keys in key order, their runs, and the groups of these.
-use Rattle.std.specs.Prelude.{ℕ, Bool, nat_lt, List, [], ◌∷◌, ◌++◌, length, if◌then◌else◌}
+use Rattle.std.specs.Prelude.{Bool, nat_lt, List, [], ◌∷◌, ◌++◌, length, if◌then◌else◌}
 use Rattle.std.specs.List.{fold, flat_map}
 use Rattle.std.specs.BTreeSet.{insert_key}
 use Rattle.tile_key.specs.Places.{Place, key_order, same_place, next_place}

@@ -9,8 +9,8 @@ pub(crate) const PUT: &[u8] =
 pub(crate) const CHUNKED: &[u8] =
     b"HTTP/1.1 200 OK\r\nTransfer-Encoding: Chunked\r\n\r\n2;a=b\r\nhe\r\n3\r\nllo\r\n0\r\nA: b\r\n\r\n";
 
-// A wire that gives its bytes one at a time, or takes them one at a time where they are the ones that
-// are sent, and fails behind the first `good` of them.
+// A wire that gives its bytes one at a time, or takes them one at a time where they are the ones
+// that are sent, and fails after the first `good` of them.
 #[derive(Drop)]
 pub(crate) struct FailingWire {
     pub(crate) bytes: &'static [u8],

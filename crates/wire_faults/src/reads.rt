@@ -5,7 +5,7 @@ use outside::{MemoryWire, WireFault};
 use std::alloc::Global;
 use std::test::Fail;
 
-// Behind how many bytes at least the wire may fail, and the request is read.
+// How many bytes the wire must give at least before it fails, so that no read fault is answered.
 fn request_needs(alloc: Global) -> usize {
     for good in 0..PUT.len() {
         let mut wire = FailingWire::new(PUT, good);

@@ -1,7 +1,9 @@
 //! The response to an action.
-ghost use Rattle.std.specs.Prelude.{◌≡◌, length, List, [], IfOk, unwrap_or, string_bytes, Option, None, Some};
+ghost use Rattle.std.specs.Prelude.{◌≡◌, length, List, [], IfOk, unwrap_or, string_bytes, Option};
+ghost use Rattle.std.specs.Prelude.{None, Some};
 ghost use Rattle.std.specs.Option.{option_copied};
-ghost use Rattle.wopi_host.specs.Hosts.{bare, with_content, with_current, info_for, response_for, user_of};
+ghost use Rattle.wopi_host.specs.Hosts.{bare, with_content, with_current, info_for, response_for};
+ghost use Rattle.wopi_host.specs.Hosts.{user_of};
 
 use crate::table::Action;
 use bytes::Bytes;

@@ -1,5 +1,6 @@
 //! The host.
-ghost use Rattle.std.specs.Prelude.{◌≡◌, ℕ, List, [], Option, Some, None, IfOk, OnOk, OnErr, unwrap_or};
+ghost use Rattle.std.specs.Prelude.{◌≡◌, ℕ, List, [], Option, Some, None, IfOk, OnOk, OnErr};
+ghost use Rattle.std.specs.Prelude.{unwrap_or};
 ghost use Rattle.std.specs.Option.{option_copied};
 ghost use Rattle.wopi_host.specs.Targets.{named_at, path_of, target_right};
 ghost use Rattle.wopi_host.specs.Table.{is_lock_text};
@@ -10,7 +11,7 @@ ghost use Rattle.wopi_host.specs.Kept.{asking};
 
 use crate::answers::{bare_response, respond, text_or_empty};
 use crate::keepers::{Keeper, KeeperFault};
-use crate::marks::{Book, Lock, count_put, erase_lock, lock_at, make_room, puts_of, write_lock};
+use crate::marks::{Book, Lock, count_put, erase_lock, lock_at, make_entry, puts_of, write_lock};
 use crate::table::{Action, action_by_operation, asked_operation};
 use crate::targets::{Resource, resource_of, writer};
 use bytes::Bytes;
@@ -96,7 +97,7 @@ fn put_lock(
     ensures err { OnErr result (SamePages (marks_in book.old) (marks_in book.new)) }
 {
     let id = text_or_empty(alloc, id)?;
-    make_room(alloc, book, file)?;
+    make_entry(alloc, book, file)?;
     let lock = Lock {
         id,
         end: end_of(now),
@@ -110,7 +111,7 @@ fn drop_lock(alloc: Global, book: &mut Book, file: &FileId) -> Result<(), Memory
     ensures ok { OnOk result (SetsLock (marks_in book.old) file.now None (marks_in book.new)) }
     ensures err { OnErr result (SamePages (marks_in book.old) (marks_in book.new)) }
 {
-    make_room(alloc, book, file)?;
+    make_entry(alloc, book, file)?;
     write_lock(book, file, None);
     Ok(())
 }
@@ -118,9 +119,10 @@ fn drop_lock(alloc: Global, book: &mut Book, file: &FileId) -> Result<(), Memory
 impl<Q: Keeper + Drop> Host<Q> {
     ghost use Rattle.std.specs.Prelude.{◌≡◌, ℕ, List, [], Some, None, IfOk, OnOk, OnErr};
     ghost use Rattle.wopi_host.specs.Hosts.{CountsPut, ActsAt, AnswersAt, TableAnswers, IsOrdinary};
-    ghost use Rattle.wopi_host.specs.Kept.{files_of, pages_of, host_at, StaysAt, FailsByKeeper, asking};
+    ghost use Rattle.wopi_host.specs.Kept.{files_of, pages_of, host_at, StaysAt, FailsByKeeper};
+    ghost use Rattle.wopi_host.specs.Kept.{asking};
 
-    // Replaces the content and counts the put. There is room for the count before the keeper is
+    // Replaces the content and counts the put. There is an entry for the count before the keeper is
     // asked.
     #[tactic(auto, using(crate::proofs::Same::same_files))]
     fn replace(&mut self, file: &FileId, content: &Bytes) -> Result<(), KeeperFault>
@@ -133,7 +135,7 @@ impl<Q: Keeper + Drop> Host<Q> {
         if puts_of(&self.book, file) == u64::MAX {
             return Err(KeeperFault::Memory);
         }
-        if make_room(self.alloc, &mut self.book, file).is_err() {
+        if make_entry(self.alloc, &mut self.book, file).is_err() {
             return Err(KeeperFault::Memory);
         }
         self.keeper.keep(self.alloc, file, content)?;
@@ -259,10 +261,11 @@ impl<Q: Keeper + Drop> Host<Q> {
     ghost use Rattle.outside.specs.Causes.{HasCause};
     ghost use Rattle.http_message.specs.Statuses.{HasDueBody};
     ghost use Rattle.wopi_host.specs.Hosts.{HostAnswers, host_failed};
-    ghost use Rattle.wopi_host.specs.Kept.{keeper_of, files_of, pages_of, host_at, StaysAt, FailsByKeeper};
+    ghost use Rattle.wopi_host.specs.Kept.{keeper_of, files_of, pages_of, host_at, StaysAt};
+    ghost use Rattle.wopi_host.specs.Kept.{FailsByKeeper};
 
-    /// A host over the keeper: no file has a lock and each has 0 puts. Later calls take their memory
-    /// from `alloc` too.
+    /// A host over the keeper: no file has a lock and each has 0 puts. Later calls take their
+    /// memory from `alloc` too.
     pub fn new(alloc: Global, keeper: Q) -> Result<Host<Q>, Memory>
         ensures keeper { IfOk result (λ host. keeper_of host ≡ keeper) }
         ensures pages { IfOk result (λ host. (id : List ℕ) → pages_of host id ≡ unmarked) }

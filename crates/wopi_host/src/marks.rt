@@ -62,10 +62,10 @@ pub fn puts_of(book: &Book, file: &FileId) -> u64
     }
 }
 
-/// Makes room for the file's marks, so that they can be written without taking memory.
+/// Makes an entry for the file's marks, so that they can be written without taking memory.
 #[tactic(auto, using(std::proofs::lemmas::Map::Text::text_keys))]
-pub fn make_room(alloc: Global, book: &mut Book, file: &FileId) -> Result<(), Memory>
-    ensures room { OnOk result (IsSome (get_by_text book.new file.now)) }
+pub fn make_entry(alloc: Global, book: &mut Book, file: &FileId) -> Result<(), Memory>
+    ensures made { OnOk result (IsSome (get_by_text book.new file.now)) }
     ensures same { SamePages (marks_in book.old) (marks_in book.new) }
 {
     if book.contains_key(file.text()) {

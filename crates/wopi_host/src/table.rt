@@ -2,7 +2,10 @@
 ghost use Rattle.std.specs.Prelude.{◌≡◌, ◌&&◌, not, option_map};
 ghost use Rattle.std.specs.Option.{option_copied};
 ghost use Rattle.std.specs.List.{list_all};
-ghost use Rattle.wopi_host.specs.Table.{file_operation, contents_operation, posted, gotten, operation_of, wants_right, wants_id, is_printable, is_lock_text, is_lock_id, held_for, table, by_id, by_right, by_operation};
+ghost use Rattle.wopi_host.specs.Table.{file_operation, contents_operation, posted, gotten};
+ghost use Rattle.wopi_host.specs.Table.{operation_of, wants_right, wants_id, is_printable};
+ghost use Rattle.wopi_host.specs.Table.{is_lock_text, is_lock_id, held_for, table, by_id};
+ghost use Rattle.wopi_host.specs.Table.{by_right, by_operation};
 
 use http_message::Method;
 

@@ -1,9 +1,12 @@
 //! What a request's target names.
-ghost use Rattle.std.specs.Prelude.{◌≡◌, ◌≤◌, ◌<◌, ◌==◌, IfSome, position, length, take, drop, codes, nat_eq, true, ◌&&◌};
+ghost use Rattle.std.specs.Prelude.{◌≡◌, ◌≤◌, ◌<◌, ◌==◌, IfSome, position, length, take, drop};
+ghost use Rattle.std.specs.Prelude.{codes, nat_eq, true, ◌&&◌};
 ghost use Rattle.std.specs.Option.{option_copied};
 ghost use Rattle.std.specs.List.{starts_with};
 ghost use Rattle.cool_base.specs.Words.{file_id};
-ghost use Rattle.wopi_host.specs.Targets.{first_at, word_of, path_of, query_of, contents_by, named_by, named_at, named_view, token_from, right_of, target_right};
+ghost use Rattle.wopi_host.specs.Targets.{first_at, word_of, path_of, query_of, contents_by};
+ghost use Rattle.wopi_host.specs.Targets.{named_by, named_at, named_view, token_from, right_of};
+ghost use Rattle.wopi_host.specs.Targets.{target_right};
 
 use cool_base::FileId;
 

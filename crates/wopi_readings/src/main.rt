@@ -1,11 +1,12 @@
 //! Reads lines about a host of files and its client, and prints what each call answers. A word that
 //! isn't there is `-`. One host over a keeper in memory serves all lines.
 //!
-//! - `GET NOW TARGET OVERRIDE LOCK OLD BODY`, also `POST` and `OTHER`: the response, as status, lock and
-//!   body.
-//! - `file NAME CONTENT`, `content NAME`, `lock NAME NOW`, `free NAME`: the host's own calls; the lock
-//!   that is set is `x`.
-//! - `request OPERATION`: what the client sends for `check`, `get`, `lock`, `refresh`, `unlock`, `put`.
+//! - `GET NOW TARGET OVERRIDE LOCK OLD BODY`, also `POST` and `OTHER`: the response, as status,
+//!   lock and body.
+//! - `file NAME CONTENT`, `content NAME`, `lock NAME NOW`, `free NAME`: the host's own calls; the
+//!   lock that is set is `x`.
+//! - `request OPERATION`: what the client sends for `check`, `get`, `lock`, `refresh`, `unlock` and
+//!   `put`.
 //! - `understand OPERATION STATUS LOCK BODY`: what the client reads in that response.
 #![tactic(auto)]
 

@@ -4,4 +4,4 @@ use Rattle.document_machine.specs.Outputs.{named}
 use Rattle.broker_core.proofs.applying.tell.Given as goal
 
 abbrev pub invariant-loop-damage : goal.invariant-loop-damage
-invariant-loop-damage l = l.frames ≡ l.initial.frames ++ map (λ d. (named l.id, Invalidate d.part d.rect)) (take l.damage-index l.hurt)
+invariant-loop-damage l = l.frames ≡ l.initial.frames ++ map (λ d. (named l.id, Invalidate d.part d.rect)) (take l.damage-index l.damages)

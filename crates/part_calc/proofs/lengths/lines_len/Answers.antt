@@ -5,15 +5,15 @@ use Rattle.part_calc.proofs.lengths.lines_len.Goals as goal
 
 pub overflow_add-total : goal.overflow_add-total
 overflow_add-total c =
-    let told = lines_step c.args.number c.loop-position.total c.line_len-total.result (c.in-Some.position.now, c.in-Some.cell.now) c.loop-position.position-iterator c.next.new.self c.args.cells.now.entries c.loop-position.invariant c.in-Some.ensures.steps
-    (c.line_len-total.ensures.length ∙ ap (λ (raw : List ℕ). length (cell_line c.args.number (c.in-Some.position.now, raw))) c.raw.ensures) in
+    let told = lines_step 0 c.loop-position.total c.line_len-total.result (c.in-Some.position.now, c.in-Some.cell.now) c.loop-position.position-iterator c.next.new.self c.args.cells.now.entries c.loop-position.invariant c.in-Some.ensures.steps
+    (c.line_len-total.ensures.length ∙ ap (λ (raw : List ℕ). length (cell_line 0 (c.in-Some.position.now, raw))) c.raw.ensures) in
     let short = c.requires in
     omega (arith, told, short)
 
 pub loop-position-preserved : goal.loop-position-preserved
 loop-position-preserved c =
-    lines_step c.args.number c.loop-position.total c.line_len-total.result (c.in-Some.position.now, c.in-Some.cell.now) c.loop-position.position-iterator c.next.new.self c.args.cells.now.entries c.loop-position.invariant c.in-Some.ensures.steps
-    (c.line_len-total.ensures.length ∙ ap (λ (raw : List ℕ). length (cell_line c.args.number (c.in-Some.position.now, raw))) c.raw.ensures)
+    lines_step 0 c.loop-position.total c.line_len-total.result (c.in-Some.position.now, c.in-Some.cell.now) c.loop-position.position-iterator c.next.new.self c.args.cells.now.entries c.loop-position.invariant c.in-Some.ensures.steps
+    (c.line_len-total.ensures.length ∙ ap (λ (raw : List ℕ). length (cell_line 0 (c.in-Some.position.now, raw))) c.raw.ensures)
 
 pub returns : goal.returns
-returns c = lines_end c.args.number c.loop-position.total c.loop-position.position-iterator c.args.cells.now.entries c.loop-position.invariant c.in-None.ensures.steps.0
+returns c = lines_end 0 c.loop-position.total c.loop-position.position-iterator c.args.cells.now.entries c.loop-position.invariant c.in-None.ensures.steps.0

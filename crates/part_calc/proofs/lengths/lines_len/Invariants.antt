@@ -3,4 +3,4 @@ use Rattle.part_calc.specs.Text.{part_lines}
 use Rattle.part_calc.proofs.lengths.lines_len.Given as goal
 
 abbrev pub invariant-loop-position : goal.invariant-loop-position
-invariant-loop-position l = l.total + length (part_lines l.number l.position-iterator) ≡ length (part_lines l.number l.cells.entries)
+invariant-loop-position l = l.total + length (part_lines 0 l.position-iterator) ≡ length (part_lines 0 l.cells.entries)

@@ -1,4 +1,4 @@
-use Rattle.std.proofs.Common.{rules, sym, ◌∙◌, ap, ◌++◌, ◌∷◌, []}
+use Rattle.std.proofs.Common.{rules, ◌∙◌, ap, ◌++◌, ◌∷◌, []}
 use Rattle.tile_combine.proofs.RunFacts.{group_more}
 use Rattle.tile_combine.proofs.groups.combine.Goals as goal
 

@@ -1,4 +1,4 @@
-use Rattle.std.proofs.Common.{◌≡◌, ◌≤◌, ◌-◌, length}
+use Rattle.std.proofs.Common.{◌≤◌, ◌-◌, length}
 use Rattle.tile_combine.proofs.FrontFacts.{IsCounted}
 use Rattle.tile_combine.proofs.groups.front_of.Given as goal
 

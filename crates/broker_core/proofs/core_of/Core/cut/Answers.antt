@@ -1,27 +1,42 @@
-use Rattle.std.proofs.Common.{ap, subst, ◌∙◌}
-use Rattle.tile_key.specs.Places.{IsArea}
+use Rattle.std.proofs.Common.{◌≡◌, ◌∙◌, [], length, sym, ap, subst, Some}
 use Rattle.std.specs.Prelude.{option_to_list}
-use Rattle.broker_core.proofs.Steps.{part_by, holds_cut, cuts_by}
+use Rattle.document_machine.specs.State.{Document}
+use Rattle.broker_core.specs.Held.{document_of}
+use Rattle.tile_key.specs.Places.{IsArea}
+use Rattle.document_machine.specs.Next.{Cut, next_pair, none_kept}
+use Rattle.document_machine.specs.Step.{Does}
+use Rattle.document_machine.specs.declared.outs.Turned.TheVariants.{Worked}
+use Rattle.broker_core.proofs.Steps.{part_by, cut_once, cuts_by, holds_cut}
 use Rattle.broker_core.proofs.core_of.Core.cut.Goals as goal
 
 pub scene-requires : goal.scene-requires
 scene-requires g c =
-    rw c.of_key-area.ensures
-    (part_by g.K.Kit.rules g.K.Kit.cut g.K.Kit.IsSound (g.K.Kit.contents c.self.inside.kit) c.self.inside.file c.self.inside.base c.self.inside.journal.items c.self.inside.applied c.self.inside.seats.items c.self.inside.next_view (option_to_list c.self.inside.job) c.self.inside.next_ticket c.args.next.0 c.args.next.1 c.args.self
-    c.self.invariant c.self.view_is c.requires.none_out c.requires.next)
+    let i = c.self.inside in
+    let d : Document _ = document_of i.source.file i.source.base i.inputs.accepted.items i.inputs.applied i.views.members.items i.views.next (option_to_list i.jobs.out) i.jobs.next in
+    let none : d.jobs ≡ [] = subst (λ (o : Document _). o.jobs ≡ []) (sym c.self.view_is) c.requires.none_out in
+    let next : next_pair g.K.Kit.rules none_kept d ≡ Some c.args.next = ap (λ (o : Document _). next_pair g.K.Kit.rules none_kept o) c.self.view_is ∙ c.requires.next in
+    rw c.of_key-area.ensures (part_by g.K.Kit.rules g.K.Kit.cut g.K.Kit.IsSound (g.K.Kit.contents i.kit) i.views.members.items d c.args.next.0 c.args.next.1 c.self.invariant none next)
 
-pub returns-clause-cut : goal.returns-clause-cut
-returns-clause-cut g c =
-    cuts_by g.K.Kit.rules g.K.Kit.cut g.K.Kit.IsSound (g.K.Kit.contents c.self.inside.kit) c.self.inside.file c.self.inside.base c.self.inside.journal.items c.self.inside.applied c.self.inside.seats.items c.self.inside.next_view (option_to_list c.self.inside.job) c.self.inside.next_ticket c.in_ok-next_ticket.next_ticket c.args.next.0 c.args.next.1 c.in_ok-scene.scene c.in_ok-outs.outs c.args.self
-    c.self.invariant c.self.view_is c.requires.none_out c.requires.level c.requires.next
-    (c.in_ok-scene.ensures.cut ∙ ap (g.K.Kit.cut (g.K.Kit.contents c.self.inside.kit)) c.of_key-area.ensures) c.in_ok-next_ticket.ensures c.in_ok-outs.ensures
+pub returns : goal.returns
+returns g c =
+    let i = c.self.inside in
+    let d : Document _ = document_of i.source.file i.source.base i.inputs.accepted.items i.inputs.applied i.views.members.items i.views.next (option_to_list i.jobs.out) i.jobs.next in
+    let none : d.jobs ≡ [] = subst (λ (o : Document _). o.jobs ≡ []) (sym c.self.view_is) c.requires.none_out in
+    let level : d.applied ≡ length d.journal = subst (λ (o : Document _). o.applied ≡ length o.journal) (sym c.self.view_is) c.requires.level in
+    let next : next_pair g.K.Kit.rules none_kept d ≡ Some c.args.next = ap (λ (o : Document _). next_pair g.K.Kit.rules none_kept o) c.self.view_is ∙ c.requires.next in
+    rw c.in_ok-next_ticket.ensures
+    (subst (λ (o : Document _). Does g.K.Kit.rules g.K.Kit.cut o (Cut c.args.next.0 c.args.next.1) (Worked c.in_ok-outs.outs) (cut_once d c.args.next.1 c.in_ok-scene.scene)) c.self.view_is
+    (cuts_by g.K.Kit.rules g.K.Kit.cut g.K.Kit.IsSound (g.K.Kit.contents i.kit) i.views.members.items d c.args.next.0 c.args.next.1 c.in_ok-scene.scene c.in_ok-outs.outs
+    c.self.invariant none level next (c.in_ok-scene.ensures.cut ∙ ap (g.K.Kit.cut (g.K.Kit.contents i.kit)) c.of_key-area.ensures) c.in_ok-outs.ensures))
 
 pub invariant_of-core : goal.invariant_of-core
 invariant_of-core g c =
     let i = c.self.inside in
-    holds_cut g.K.Kit.rules g.K.Kit.cut g.K.Kit.IsSound (g.K.Kit.contents i.kit) (g.K.Kit.contents c.scene.new.self) i.base i.journal.items i.applied i.seats.items i.next_view (option_to_list i.job) i.next_ticket c.args.next.1 c.in_ok-scene.scene
-    c.self.invariant c.in_ok-scene.ensures.kept
-    (subst IsArea c.of_key-area.ensures c.width-width.ensures.form)
-    (part_by g.K.Kit.rules g.K.Kit.cut g.K.Kit.IsSound (g.K.Kit.contents i.kit) i.file i.base i.journal.items i.applied i.seats.items i.next_view (option_to_list i.job) i.next_ticket c.args.next.0 c.args.next.1 c.args.self
-    c.self.invariant c.self.view_is c.requires.none_out c.requires.next)
-    (c.in_ok-scene.ensures.cut ∙ ap (g.K.Kit.cut (g.K.Kit.contents i.kit)) c.of_key-area.ensures)
+    let d : Document _ = document_of i.source.file i.source.base i.inputs.accepted.items i.inputs.applied i.views.members.items i.views.next (option_to_list i.jobs.out) i.jobs.next in
+    let none : d.jobs ≡ [] = subst (λ (o : Document _). o.jobs ≡ []) (sym c.self.view_is) c.requires.none_out in
+    let level : d.applied ≡ length d.journal = subst (λ (o : Document _). o.applied ≡ length o.journal) (sym c.self.view_is) c.requires.level in
+    let next : next_pair g.K.Kit.rules none_kept d ≡ Some c.args.next = ap (λ (o : Document _). next_pair g.K.Kit.rules none_kept o) c.self.view_is ∙ c.requires.next in
+    rw c.in_ok-next_ticket.ensures
+    (holds_cut g.K.Kit.rules g.K.Kit.cut g.K.Kit.IsSound (g.K.Kit.contents i.kit) (g.K.Kit.contents c.scene.new.self) i.views.members.items d c.args.next.0 c.args.next.1 c.in_ok-scene.scene
+    c.self.invariant none level next (c.in_ok-scene.ensures.cut ∙ ap (g.K.Kit.cut (g.K.Kit.contents i.kit)) c.of_key-area.ensures) c.in_ok-scene.ensures.kept
+    (subst IsArea c.of_key-area.ensures c.width-width.ensures.form))

@@ -3,8 +3,8 @@ use Rattle.part_calc.proofs.part.Part.set.Goals as goal
 
 pub invariant_of-self-2 : goal.invariant_of-self-2
 invariant_of-self-2 c =
-    set_kept c.self.inside.cells.entries c.put.new.cells.entries c.args.at c.in_ok-cell.cell c.args.raw.now c.in_ok-found.found.shown.entries
-    c.self.invariant.0 c.requires.row c.requires.column c.requires.valid c.utf8.raw c.in_ok-cell.ensures c.in_ok-put.ensures.ok c.in_ok-put.ensures.ordered c.in_ok-found.ensures.shown
+    set_kept c.self.inside.cells.entries c.put.new.cells.entries c.args.at c.in_ok-cell.cell c.args.raw.now c.in_ok-found.found.shown.entries c.edited_len-kept.result
+    c.self.invariant.0 c.requires.row c.requires.column c.requires.valid c.utf8.raw c.in_ok-cell.ensures c.in_ok-put.ensures.ok c.in_ok-put.ensures.ordered c.in_ok-found.ensures.shown c.edited_len-kept.ensures
 
 pub returns-clause-exactly : goal.returns-clause-exactly
 returns-clause-exactly c =
