@@ -1,16 +1,14 @@
 -- An operation whose wire fails, and one that leaves the host as it is.
-use Rattle.std.proofs.Common.{◌≡◌, ◌≤◌, ◌<◌, ◌+◌, ◌-◌, ◌^◌, min, ℕ, Bool, true, false, nat_lt, Some}
+use Rattle.std.proofs.Common.{◌≡◌, ◌≤◌, ◌<◌, ◌-◌, ℕ, Bool, true, false, nat_lt}
 use Rattle.std.proofs.Common.{List}
-use Rattle.std.proofs.Common.{Err, Result, inl, inr, refl, sym, subst, arith}
-use Rattle.outside.specs.Causes.{HasCause, Rose}
-use Rattle.outside.specs.Stores.{store_failed}
+use Rattle.std.proofs.Common.{Err, inl, inr, refl, sym, subst, arith}
+use Rattle.outside.specs.Causes.{Rose}
 use Rattle.outside.specs.declared.faults.WireFault.TheVariants.{WriteFault}
 use Rattle.outside.specs.declared.faults.StoreFault.{StoreFault}
 use Rattle.outside.specs.declared.faults.StoreFault.TheVariants.{Wire, Memory}
 use Rattle.outside.specs.declared.errands.Errand.{Errand}
 use Rattle.wopi_client.specs.declared.asks.Ask.{Ask}
-use Rattle.wopi_client.specs.declared.asks.Told.{Told}
-use Rattle.wopi_host.specs.Hosts.{HostAt, HostStays, TableAnswers, HostAnswers, host_failed}
+use Rattle.wopi_host.specs.Hosts.{HostAt, HostStays}
 use Rattle.wopi_host.proofs.Answered.{host_same}
 use Rattle.host_store.specs.Exchanges.{Exchanges, is_loss}
 use Rattle.host_store.specs.Calls.{StoreAt, AskedIf, AsksOnce, Fetches, Puts}

@@ -1,7 +1,7 @@
 -- What comes of a wire that gives what was sent over it.
-use Rattle.std.proofs.Common.{◌≡◌, ◌≤◌, ◌∙◌, ℕ, Bool, true, false, ◌||◌, List, [], ◌++◌, length}
+use Rattle.std.proofs.Common.{◌≡◌, ◌∙◌, ℕ, Bool, true, false, ◌||◌, List, [], ◌++◌, length}
 use Rattle.std.proofs.Common.{take}
-use Rattle.std.proofs.Common.{drop, Some, Ok, Result, refl, sym, ap, subst, append-nil, arith}
+use Rattle.std.proofs.Common.{drop, Some, Ok, refl, sym, ap, subst, append-nil, arith}
 use Rattle.std.proofs.lemmas.List.{drop_all}
 use Rattle.std.proofs.lemmas.List.{take-append-drop}
 use Rattle.http_message.specs.declared.Response.{Response}

@@ -15,7 +15,6 @@ use Rattle.wopi_client.specs.declared.asks.Told.{Told}
 use Rattle.wopi_host.specs.Hosts.{HostAt, HostStays}
 use Rattle.host_store.specs.Exchanges.{Exchanges}
 use Rattle.host_store.specs.declared.notes.Noted.{Noted}
-use Rattle.host_store.specs.declared.notes.Noted.TheVariants as Noted
 
 -- What a store has: its host, the moment, how many of the next wires fail, and its count of faults.
 pub record StoreAt : Type 0 where

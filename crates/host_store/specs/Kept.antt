@@ -1,5 +1,5 @@
 -- What is seen of a store over a host.
-use Rattle.std.specs.Prelude.{ℕ, ◌≡◌, Option, Some}
+use Rattle.std.specs.Prelude.{◌≡◌, Option, Some}
 use Rattle.wopi_host.specs.declared.hosts.Host.{Host}
 use Rattle.wopi_host.specs.declared.keepers.MemoryKeeper.{MemoryKeeper}
 use Rattle.wopi_host.specs.Hosts.{HostAt, Pages}

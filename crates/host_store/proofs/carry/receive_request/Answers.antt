@@ -1,4 +1,4 @@
-use Rattle.std.proofs.Common.{[], refl, Ok, Result, rules}
+use Rattle.std.proofs.Common.{[], refl, Ok, rules}
 use Rattle.host_store.specs.Exchanges.{host_name}
 use Rattle.host_store.proofs.Carried.{front_of}
 use Rattle.host_store.proofs.carry.receive_request.Goals as goal
