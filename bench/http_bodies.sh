@@ -7,7 +7,7 @@ here=$(cd "$(dirname "$0")/.." && pwd)
 work=$(mktemp -d)
 trap 'rm -rf "$work"' EXIT
 mkdir -p "$work/crates/body_bench/src"
-for crate in cool_base outside http_message http_head wire_body http_wire; do
+for crate in cool_base outside http_message http_head wire_body http_write http_wire; do
     cp -r "$here/crates/$crate" "$work/crates/$crate"
     grep "^$crate:" "$here/crates.txt" >> "$work/crates.txt"
 done

@@ -18,7 +18,7 @@ use Rattle.http_head.specs.declared.parts.RequestParts.{RequestParts}
 use Rattle.http_head.specs.declared.parts.Scan.{Scan}
 use Rattle.http_head.specs.declared.parts.Scan.TheVariants.{NoHead}
 use Rattle.http_head.specs.Corners.{behind_blank, starts_plain, ends_in, is_request_fine}
-use Rattle.http_head.specs.Requests.{is_plain, ReadsPlain, request_lines, request_said, request_judged, scan_said, CanEndRequest, NeverRequest, BeginsRequest, IsNoRequest, ScansRequest}
+use Rattle.http_head.specs.Requests.{is_plain, ReadsPlain, request_fields, request_said, request_judged, scan_said, CanEndRequest, NeverRequest, BeginsRequest, IsNoRequest, ScansRequest}
 use Rattle.http_head.proofs.Tails.{no_blank, behind_blank-at, starts_plain-front, starts_plain-word, starts_plain-last, ends_in-append, ends_in-none, ends_behind-more, plain_behind-front}
 use Rattle.http_head.proofs.Texts.{plain_is_text}
 use Rattle.http_head.proofs.Cuts.{two_cuts}
@@ -252,7 +252,7 @@ pub judged_scans : (bytes : List ℕ) (headers : List HeaderSpan) (spans : Reque
 judged_scans bytes headers spans h room within at =
     let count = ap length at.fields in
     let few : length h.fields ≤ 64 = omega (arith, count, length-map (take spans.headers headers) (header_bytes bytes), length-map h.fields name_and_value, length-take spans.headers headers, room) in
-    let same : request_judged (span_bytes bytes spans.method) (span_bytes bytes spans.path) (map (header_bytes bytes) (take spans.headers headers)) spans.len ≡ request_judged h.method h.target (request_lines h) spans.len =
+    let same : request_judged (span_bytes bytes spans.method) (span_bytes bytes spans.path) (map (header_bytes bytes) (take spans.headers headers)) spans.len ≡ request_judged h.method h.target (request_fields h) spans.len =
     λ i. request_judged (at.method i) (at.path i) (at.fields i) spans.len in
     subst (ScansRequest bytes) (sym same) (judged_by few (is_plain h.target) refl)
   where

@@ -1,13 +1,13 @@
 -- A length that is written in digits is read as that length.
-use Rattle.std.proofs.Common.{◌≡◌, ℕ, ◌+◌, ◌<◌, ◌≤◌, ◌^◌, ◌&&◌, Bool, true, false, List, length, refl, arith, sym, ap, nat_le, nat_lt, le-leb, lt-ltb, rules}
-use Rattle.std.specs.Prelude.{if◌then◌else◌, decimal}
+use Rattle.std.proofs.Common.{◌≡◌, ℕ, ◌<◌, ◌^◌, true, length, refl, arith, nat_le, nat_lt, le-leb, lt-ltb, rules}
+use Rattle.std.specs.Prelude.{decimal}
 use Rattle.std.specs.List.{list_all}
 use Rattle.std.specs.Char.{is_ascii_digit}
 use Rattle.std.specs.Str.Parse.{digits_value}
 use Rattle.std.proofs.lemmas.Fmt.{digits_decimal, digits_value-decimal, decimal_nonempty, length-decimal-le}
 use Rattle.std.proofs.lemmas.Str.Parse.{IsDigitsTest, IsNumeralModel, numerals_by_value}
-use Rattle.cool_base.specs.Numbers.{is_decimal, decimal_value}
-use Rattle.http_head.specs.declared.framing.Said.TheVariants.{Length, Wrong}
+use Rattle.cool_base.specs.Numbers.{decimal_value}
+use Rattle.http_head.specs.declared.framing.Said.TheVariants.{Length}
 use Rattle.http_head.specs.Framings.{length_said}
 
 tells_digits : IsDigitsTest (λ ds. list_all is_ascii_digit ds ≡ true)

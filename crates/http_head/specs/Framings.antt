@@ -29,22 +29,22 @@ same_length a b = if a == b then Length a else Wrong
 
 -- what two say together: two lengths that differ are wrong, and so are a length beside a coding and
 -- two codings, which together are `chunked, chunked`
-abbrev pub joined : Said → Said → Said
-joined Nothing b = b
-joined Wrong b = Wrong
-joined (Length a) Nothing = Length a
-joined (Length a) (Length b) = same_length a b
-joined (Length a) Chunks = Wrong
-joined (Length a) Wrong = Wrong
-joined Chunks Nothing = Chunks
-joined Chunks (Length b) = Wrong
-joined Chunks Chunks = Wrong
-joined Chunks Wrong = Wrong
+abbrev pub said_together : Said → Said → Said
+said_together Nothing b = b
+said_together Wrong b = Wrong
+said_together (Length a) Nothing = Length a
+said_together (Length a) (Length b) = same_length a b
+said_together (Length a) Chunks = Wrong
+said_together (Length a) Wrong = Wrong
+said_together Chunks Nothing = Chunks
+said_together Chunks (Length b) = Wrong
+said_together Chunks Chunks = Wrong
+said_together Chunks Wrong = Wrong
 
 -- what the lines say together
 abbrev pub lines_said : List (List ℕ × List ℕ) → Said
 lines_said [] = Nothing
-lines_said (line ∷ lines) = joined (line_said line) (lines_said lines)
+lines_said (line ∷ lines) = said_together (line_said line) (lines_said lines)
 
 -- the body of a request, which has none where nothing is said; None where what is said is wrong
 abbrev pub request_framing : Said → Option Framing

@@ -19,8 +19,8 @@ abbrev pub method_named : List ℕ → Method
 method_named name = if bytes_eq name (codes "GET") then Get else (if bytes_eq name (codes "POST") then Post else Other)
 
 -- the names and values of a head's lines
-abbrev pub request_lines : RequestHead → List (List ℕ × List ℕ)
-request_lines h = map name_and_value h.fields
+abbrev pub request_fields : RequestHead → List (List ℕ × List ℕ)
+request_fields h = map name_and_value h.fields
 
 -- what method, target and lines say, with this framing of the body
 abbrev pub request_with : (method target : List ℕ) (lines : List (List ℕ × List ℕ)) → Framing → RequestParts
@@ -39,7 +39,7 @@ request_by method target lines = option_map (request_with method target lines) (
 
 -- what a head says; None where what it says of the body is wrong
 abbrev pub request_said : RequestHead → Option RequestParts
-request_said h = request_by h.method h.target (request_lines h)
+request_said h = request_by h.method h.target (request_fields h)
 
 -- each byte is from 33 to 126
 abbrev pub is_plain : List ℕ → Bool

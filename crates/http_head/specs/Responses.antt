@@ -11,8 +11,8 @@ use Rattle.http_head.specs.Lines.{text_named}
 use Rattle.http_head.specs.Framings.{lines_said, response_framing}
 
 -- the names and values of a head's lines
-abbrev pub response_lines : ResponseHead → List (List ℕ × List ℕ)
-response_lines h = map name_and_value h.fields
+abbrev pub response_fields : ResponseHead → List (List ℕ × List ℕ)
+response_fields h = map name_and_value h.fields
 
 -- what status and lines say, with this framing of the body
 abbrev pub response_with : (status : ℕ) (lines : List (List ℕ × List ℕ)) → Framing → ResponseParts
@@ -28,7 +28,7 @@ response_by status lines = option_map (response_with status lines) (response_fra
 
 -- what a head says; None where what it says of the body is wrong
 abbrev pub response_said : ResponseHead → Option ResponseParts
-response_said h = response_by (status_code h) (response_lines h)
+response_said h = response_by (status_code h) (response_fields h)
 
 -- the bytes are a whole head of at most 64 lines that says this, and then rest
 abbrev pub ReadsResponseHead : List ℕ → ResponseParts → List ℕ → Type 0

@@ -7,7 +7,7 @@ ghost use Rattle.httparse.specs.Spans.{IsHeaderWithin, header_bytes};
 ghost use Rattle.http_head.specs.Lines.{is_named, value_of, has_line, is_shown, shown, text_named};
 ghost use Rattle.http_head.specs.Framings.{lines_said};
 
-use crate::framing::{Said, joined, line_said};
+use crate::framing::{Said, line_said, said_together};
 use cool_base::{Memory, TextOf};
 use httparse::spans::HeaderSpan;
 use std::alloc::Global;
@@ -59,7 +59,7 @@ fn shown(alloc: Global, value: &[u8]) -> Result<TextOf, Memory>
     let text = String::from_utf8(value.to_vec(alloc)?);
     match text {
         Ok(text) => Ok(TextOf::of(text)),
-        Err(_) => Ok(TextOf::of(String::new(alloc))),
+        Err(_) => unreachable!(),
     }
 }
 
@@ -87,7 +87,7 @@ pub(crate) fn lines_said(bytes: &[u8], lines: &[HeaderSpan]) -> Said
     let Some((first, rest)) = lines.split_first() else {
         return Said::Nothing;
     };
-    joined(
+    said_together(
         line_said(first.name.of(bytes), first.value.of(bytes)),
         lines_said(bytes, rest),
     )

@@ -1,6 +1,6 @@
 // What the lines of a head say of the body.
 ghost use Rattle.std.specs.Prelude.{◌≡◌};
-ghost use Rattle.http_head.specs.Framings.{length_said, coding_said, line_said, same_length, joined, request_framing, said_framing, framing_for, response_framing};
+ghost use Rattle.http_head.specs.Framings.{length_said, coding_said, line_said, same_length, said_together, request_framing, said_framing, framing_for, response_framing};
 
 use crate::fields::is_named;
 use cool_base::read_number;
@@ -68,7 +68,7 @@ fn same_length(a: u64, b: u64) -> Said
 }
 
 fn with_length(a: u64, second: Said) -> Said
-    ensures { result ≡ joined (Said.Length a) second }
+    ensures { result ≡ said_together (Said.Length a) second }
 {
     match second {
         Said::Nothing => Said::Length(a),
@@ -79,7 +79,7 @@ fn with_length(a: u64, second: Said) -> Said
 }
 
 fn with_chunks(second: Said) -> Said
-    ensures { result ≡ joined Said.Chunks second }
+    ensures { result ≡ said_together Said.Chunks second }
 {
     match second {
         Said::Nothing => Said::Chunks,
@@ -89,8 +89,8 @@ fn with_chunks(second: Said) -> Said
     }
 }
 
-pub(crate) fn joined(first: Said, second: Said) -> Said
-    ensures { result ≡ joined first second }
+pub(crate) fn said_together(first: Said, second: Said) -> Said
+    ensures { result ≡ said_together first second }
 {
     match first {
         Said::Nothing => second,

@@ -40,7 +40,7 @@ fn target_text(alloc: Global, target: &[u8]) -> Result<TextOf, Memory>
 {
     match String::from_utf8(target.to_vec(alloc)?) {
         Ok(text) => Ok(TextOf::of(text)),
-        Err(_) => Ok(TextOf::of(String::new(alloc))),
+        Err(_) => unreachable!(),
     }
 }
 

@@ -1,4 +1,5 @@
 -- What is written is read again.
+use Rattle.wire_body.specs.Bodies.{body_limit}
 use Rattle.std.proofs.Common.{◌≡◌, ℕ, ◌≤◌, Bool, true, false, ◌&&◌, nat_lt, nat_le, le-leb, List, [], ◌∷◌, ◌++◌, reverse, length, refl, sym, ap, ◌∙◌, subst, arith, append_assoc, Option, Some, None}
 use Rattle.std.specs.Prelude.{if◌then◌else◌, codes, decimal, option_and_then}
 use Rattle.std.specs.List.{list_all}
@@ -16,7 +17,7 @@ use Rattle.http_message.specs.declared.Method.TheVariants.{Get, Post, Other}
 use Rattle.http_message.specs.declared.Request.{Request}
 use Rattle.http_message.specs.declared.Response.{Response}
 use Rattle.http_head.specs.Lines.{is_shown, shown, value_of, has_line}
-use Rattle.http_head.specs.Framings.{lines_said, request_framing, response_framing, said_framing, length_said, joined}
+use Rattle.http_head.specs.Framings.{lines_said, request_framing, response_framing, said_framing, length_said, said_together}
 use Rattle.http_message.specs.Statuses.{is_bodiless}
 use Rattle.http_head.specs.declared.framing.Framing.{Framing}
 use Rattle.http_head.specs.declared.framing.Framing.TheVariants.{Empty, Sized}
@@ -158,10 +159,10 @@ optional_line : (name : List ℕ) (text : Option (List ℕ)) → is_token name �
 optional_line name None token clean = no_line
 optional_line name (Some text) token clean = one_line name text token clean
 
-sized_line : (body : List ℕ) → length body ≤ 67108864 → are_headers (length_line body ∷ []) ≡ true
+sized_line : (body : List ℕ) → length body ≤ body_limit → are_headers (length_line body ∷ []) ≡ true
 sized_line body small = one_line (codes "Content-Length") (decimal (length body)) length_name (digits_are_clean (decimal (length body)) (written_digits (length body) (omega arith)))
 
-method_line : (method : Method) (body : List ℕ) → length body ≤ 67108864 → are_headers (length_lines method body) ≡ true
+method_line : (method : Method) (body : List ℕ) → length body ≤ body_limit → are_headers (length_lines method body) ≡ true
 method_line Get body small = no_line
 method_line Post body small = sized_line body small
 method_line Other body small = no_line
@@ -181,7 +182,7 @@ request_lines_sent host r is =
     let first = one_line (codes "Host") host host_name (word_is_clean host is.to_host) in
     more_lines ((codes "Host", host) ∷ []) _ first (more_lines ((codes "Connection", codes "close") ∷ []) _ close tail)
 
-status_line : (status : ℕ) (body : List ℕ) → length body ≤ 67108864 → are_headers (size_lines status body) ≡ true
+status_line : (status : ℕ) (body : List ℕ) → length body ≤ body_limit → are_headers (size_lines status body) ≡ true
 status_line status body small = by (is_bodiless status)
   where
     by : (b : Bool) → are_headers (if b then [] else (length_line body ∷ [])) ≡ true
@@ -264,7 +265,7 @@ request_said_again host r is = by r.method is.asked
     by Get asked = parts_said (codes "GET") r.target ((codes "Host", host) ∷ (codes "Connection", codes "close") ∷ rest_of r.lock r.over r.old_lock) Get r.lock r.over r.old_lock Empty refl (ap request_framing (rest_says_nothing r.lock r.over r.old_lock)) (lock_in_rest r.lock r.over r.old_lock) (over_in_rest r.lock r.over r.old_lock) (old_in_rest r.lock r.over r.old_lock) is.lock is.over
     by Post asked =
         let size : length_said (decimal (length r.body)) ≡ Length (length r.body) = length_written (length r.body) (let small = is.body in omega arith) in
-        let said : joined (length_said (decimal (length r.body))) (lines_said (rest_of r.lock r.over r.old_lock)) ≡ Length (length r.body) = λ i. joined (size i) (rest_says_nothing r.lock r.over r.old_lock i) in
+        let said : said_together (length_said (decimal (length r.body))) (lines_said (rest_of r.lock r.over r.old_lock)) ≡ Length (length r.body) = λ i. said_together (size i) (rest_says_nothing r.lock r.over r.old_lock i) in
         parts_said (codes "POST") r.target ((codes "Host", host) ∷ (codes "Connection", codes "close") ∷ (length_line r.body ∷ rest_of r.lock r.over r.old_lock)) Post r.lock r.over r.old_lock (Sized (length r.body)) refl (ap request_framing said) (lock_in_rest r.lock r.over r.old_lock) (over_in_rest r.lock r.over r.old_lock) (old_in_rest r.lock r.over r.old_lock) is.lock is.over
     by Other asked = absurd asked
 
@@ -335,11 +336,11 @@ answer_said status lines lock framing framed has_lock clean =
 pub response_said_again : (r : Response) → IsAnswer r → response_by r.status (response_lines r) ≡ Some (response_parts r)
 response_said_again r is = answer_said r.status (response_lines r) r.lock (if is_bodiless r.status then Empty else Sized (length r.body)) (framed (is_bodiless r.status)) (has_lock (is_bodiless r.status)) is.lock
   where
-    framed : (b : Bool) → option_and_then (λ f. Some (if b then Empty else f)) (said_framing (joined Nothing (lines_said ((if b then [] else (length_line r.body ∷ [])) ++ optional (codes "X-WOPI-Lock") r.lock)))) ≡ Some (if b then Empty else Sized (length r.body))
+    framed : (b : Bool) → option_and_then (λ f. Some (if b then Empty else f)) (said_framing (said_together Nothing (lines_said ((if b then [] else (length_line r.body ∷ [])) ++ optional (codes "X-WOPI-Lock") r.lock)))) ≡ Some (if b then Empty else Sized (length r.body))
     framed true = ap (λ s. option_and_then (λ f. Some Empty) (said_framing s)) (lock_says_nothing r.lock)
     framed false =
         let size : length_said (decimal (length r.body)) ≡ Length (length r.body) = length_written (length r.body) (let small = is.body in omega arith) in
-        λ i. option_and_then (λ f. Some f) (said_framing (joined (size i) (lock_says_nothing r.lock i)))
+        λ i. option_and_then (λ f. Some f) (said_framing (said_together (size i) (lock_says_nothing r.lock i)))
 
     has_lock : (b : Bool) → value_of (codes "x-wopi-lock") ((if b then [] else (length_line r.body ∷ [])) ++ optional (codes "X-WOPI-Lock") r.lock) ≡ r.lock
     has_lock true = lock_alone r.lock

@@ -1,4 +1,5 @@
 -- Which requests and responses are read again from what is written of them.
+use Rattle.wire_body.specs.Bodies.{body_limit}
 use Rattle.std.specs.Prelude.{ℕ, ◌≡◌, ◌≤◌, Bool, true, not, ◌&&◌, ◌==◌, nat_lt, List, [], ◌∷◌, reverse, length, Option, Some, None, if◌then◌else◌}
 use Rattle.std.specs.List.{list_all}
 use Rattle.std.specs.Char.{is_ascii_graphic}
@@ -50,7 +51,7 @@ pub record IsReadable (host : List ℕ) (r : Request) : Type 0 where
   pub target : is_word r.target ≡ true
   pub lock : is_clean_or_none r.lock ≡ true
   pub over : is_clean_or_none r.over ≡ true
-  pub body : length r.body ≤ 67108864
+  pub body : length r.body ≤ body_limit
 
 -- what its head says
 abbrev pub request_parts : Request → RequestParts
@@ -62,7 +63,7 @@ pub record IsAnswer (r : Response) : Type 0 where
   pub high : r.status ≤ 999
   pub lock : is_clean_or_none r.lock ≡ true
   pub bodiless : is_bodiless r.status ≡ true → r.body ≡ []
-  pub body : length r.body ≤ 67108864
+  pub body : length r.body ≤ body_limit
 
 -- what its head says
 abbrev pub response_parts : Response → ResponseParts

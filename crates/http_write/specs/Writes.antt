@@ -11,9 +11,9 @@ abbrev pub SaysSome : Option Talk → List ℕ → Option Talk → Type 0
 SaysSome old bytes new = (done : List ℕ) × (rest : List ℕ) × (bytes ≡ done ++ rest) × Says old done new
 
 -- the bytes were sent; a fault is a write's, and then a front of them was sent
-abbrev pub Sends : Option Talk → List ℕ → Result (Unit {0}) WireFault → Option Talk → Type 0
-Sends old bytes (Ok done) new = Says old bytes new
-Sends old bytes (Err fault) new = (fault ≡ WriteFault) × SaysSome old bytes new
+abbrev pub SendsWhole : Option Talk → List ℕ → Result (Unit {0}) WireFault → Option Talk → Type 0
+SendsWhole old bytes (Ok done) new = Says old bytes new
+SendsWhole old bytes (Err fault) new = (fault ≡ WriteFault) × SaysSome old bytes new
 
 -- the same where memory may be wanting, before the first byte is sent
 abbrev pub Writes : Option Talk → List ℕ → Result (Unit {0}) HttpFault → Option Talk → Type 0

@@ -3,7 +3,7 @@ ghost use Rattle.std.specs.Prelude.{◌≡◌, true, [], ◌++◌, Err};
 ghost use Rattle.outside.specs.Causes.{HasCause};
 ghost use Rattle.http_message.specs.Statuses.{HasDueBody};
 ghost use Rattle.http_write.specs.Texts.{request_bytes, response_bytes};
-ghost use Rattle.http_write.specs.Writes.{Sends, Writes};
+ghost use Rattle.http_write.specs.Writes.{SendsWhole, Writes};
 
 use crate::heads::{request_head, response_head};
 use crate::sends::send_all;
