@@ -1,4 +1,5 @@
 pub mod SpanLaws
 pub mod GatherLaws
 pub mod ExprLaws
+pub mod BlockLaws
 pub mod Turns

@@ -4,7 +4,7 @@
 //! - `Value`, `CellFault`, `Name` (`values`): what a cell can have as its value.
 //! - `Expr` (`expressions`): a formula that was read.
 //! - `eval`, `Lookup` (`evaluation`): the value of an expression, given the values of cells.
-//! - `reads` (`naming`): the cells that an expression names.
+//! - `reads`, `blocks` (`naming`): the cells that an expression names, each alone, and as blocks.
 #![tactic(auto)]
 
 mod arithmetic;
@@ -17,5 +17,5 @@ mod values;
 
 pub use evaluation::{Lookup, eval};
 pub use expressions::{Argument, Comparison, Expr, Function, Link, Operator};
-pub use naming::reads;
+pub use naming::{Block, blocks, reads};
 pub use values::{CellFault, Name, Value};
