@@ -10,3 +10,4 @@ pub mod KeptLaws
 pub mod LengthLaws
 pub mod EditLengths
 pub mod DependantLaws
+pub mod ReaderLaws

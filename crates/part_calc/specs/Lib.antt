@@ -5,3 +5,4 @@ pub mod Finding
 pub mod Kept
 pub mod Text
 pub mod Dependants
+pub mod Readers

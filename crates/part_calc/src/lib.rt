@@ -19,6 +19,7 @@ mod lines;
 mod order;
 mod part;
 mod positions;
+mod readers;
 mod recalculation;
 mod shown;
 

@@ -7,6 +7,7 @@ ghost use Rattle.sheet_cells.specs.Cells.{IsRaw};
 ghost use Rattle.formula_base.specs.Ranges.{Position, position_cmp};
 ghost use Rattle.part_calc.specs.Kept.{IsPart, IsShown};
 ghost use Rattle.part_calc.specs.Parts.{text_at, with_text};
+ghost use Rattle.part_calc.specs.Readers.{readers_of};
 ghost use Rattle.part_calc.specs.Shown.{shown_at, changed_cells};
 ghost use Rattle.part_calc.specs.Text.{part_lines};
 ghost use Rattle.sheet_cells.specs.declared.limits.TheConstants.{COLUMNS, MOST_PARTS, ROWS};
@@ -14,6 +15,7 @@ ghost use Rattle.sheet_cells.specs.declared.limits.TheConstants.{COLUMNS, MOST_P
 use crate::contents::Cell;
 use crate::lengths::{edited_len, lines_len, raw_at};
 use crate::lines::write_lines;
+use crate::readers::readers;
 use crate::recalculation::{old_text, recalculate};
 use crate::shown::Shown;
 use cool_base::{ListOf, Memory};
@@ -112,6 +114,14 @@ impl Part {
         ensures { result.now ≡ text_at self.now at }
     {
         raw_at(&self.cells, at)
+    }
+
+    /// The cells whose formula names the cell, each once, by rows and then columns. No range is listed cell
+    /// by cell.
+    pub fn readers(&self, alloc: Global, at: (u32, u32)) -> Result<Vec<(u32, u32)>, Memory>
+        ensures { IfOk result (λ readers. readers.items ≡ readers_of self.now at) }
+    {
+        readers(alloc, &self.cells, at)
     }
 
     /// How many bytes the part's lines have in the text of a file, as the part of this number: below

@@ -4,7 +4,8 @@ ghost use Rattle.std.specs.List.Sorted.{IsStrictlySortedBy};
 ghost use Rattle.sheet_cells.specs.Cells.{IsCell, IsRaw};
 ghost use Rattle.sheet_cells.specs.declared.cells.CellRef.{CellRef};
 ghost use Rattle.formula_base.specs.Ranges.{position_cmp};
-ghost use Rattle.sheet_calc.specs.Books.{IsBook, text_of, shown_of, with_cell, changed_in, IsAmong};
+ghost use Rattle.part_calc.specs.Readers.{readers_of};
+ghost use Rattle.sheet_calc.specs.Books.{IsBook, position_of, part_at, text_of, shown_of, with_cell, changed_in, IsAmong};
 ghost use Rattle.sheet_calc.specs.FileText.{all_lines, file_text};
 ghost use Rattle.sheet_cells.specs.declared.limits.TheConstants.{MOST_PARTS};
 
@@ -108,6 +109,16 @@ impl Book {
         ensures { result.now ≡ text_of self.now at.now }
     {
         self.parts[at.part as usize].raw((at.row, at.col))
+    }
+
+    /// The cells of its part whose formula names the cell, each a row and a column, once, by rows and
+    /// then columns. It takes time for the texts of the part's formulas, and none for the cells of ranges.
+    pub fn readers(&self, at: &CellRef) -> Result<Vec<(u32, u32)>, Memory>
+        requires { IsCell (length self.now) at.now }
+        ensures { IfOk result (λ readers. readers.items ≡ readers_of (part_at self.now at.now.part) (position_of at.now)) }
+    {
+        let alloc = *self.parts.allocator();
+        self.parts[at.part as usize].readers(alloc, (at.row, at.col))
     }
 
     /// How many bytes the text of the book's file has: below 2^37. No cell is looked at: each part keeps
