@@ -27,7 +27,9 @@ const MOST_LOST: u32 = 1_000;
 pub struct RealEdge<'a, R> {
     rt: &'a R,
     listener: Option<TcpListener>,
+    nets: u64,
     wires: u64,
+    stores: u64,
     keepers: u64,
     faults: u64,
 }
@@ -38,7 +40,9 @@ impl<'a, R> RealEdge<'a, R> {
         RealEdge {
             rt,
             listener: None,
+            nets: 0,
             wires: 0,
+            stores: 0,
             keepers: 0,
             faults: 0,
         }
@@ -83,6 +87,7 @@ where
         ensures sound { IfOk result (λ wire. wire.faults ≡ 0) }
         ensures wires { self.new.wires ≡ self.old.wires }
         ensures keepers { self.new.keepers ≡ self.old.keepers }
+        ensures others { (self.new.nets ≡ self.old.nets) × (self.new.stores ≡ self.old.stores) }
         ensures faults { self.new.faults ≡ self.old.faults }
     {
         if self.listener.is_none() {
@@ -120,9 +125,9 @@ where
       opened = None;
       closed = None;
       moments = None;
-      nets_out = 0;
+      nets_out = e.nets;
       wires_out = e.wires;
-      stores_out = 0;
+      stores_out = e.stores;
       keepers_out = e.keepers;
     } };
 
@@ -168,13 +173,17 @@ where
         }
     }
 
-    fn close_net(&mut self, _net: NoNet) {}
+    fn close_net(&mut self, _net: NoNet) {
+        self.nets -= 1;
+    }
 
     fn close_wire(&mut self, _wire: TimedWire<'a, R>) {
         self.wires -= 1;
     }
 
-    fn close_store(&mut self, _store: NoStore) {}
+    fn close_store(&mut self, _store: NoStore) {
+        self.stores -= 1;
+    }
 
     fn close_keeper(&mut self, _keeper: FolderKeeper<'a, R>) {
         self.keepers -= 1;
