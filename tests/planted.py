@@ -3,8 +3,9 @@
 
 Of each program for tests that has data (crates/NAME/stdin and stdout) letters and digits of single lines of `stdin`
 are changed, one at a time, until what the program then writes differs from `stdout`. Of each golden script a letter or
-digit of the script is changed, or else its words, until the transcript or the status differs. A program or a script of
-which no such change is noticed is a failure: its data would tell nothing.
+digit of the script is changed, or else its words, or else a line `end` is put before its first line, until the
+transcript or the status differs. A program or a script of which no such change is noticed is a failure: its data would
+tell nothing.
 
     tests/planted.py           all
     tests/planted.py NAME..    these programs and scripts
@@ -87,7 +88,7 @@ def watch_script(name):
     if is_noticed(name, [program] + words, script, wanted):
         return True
     others = ["replay", "sheet"] if words == ["replay", "patch"] else ["replay", "patch"]
-    return answer([program] + others, script) != wanted
+    return answer([program] + others, script) != wanted or answer([program] + words, b"end\n" + script) != wanted
 
 
 def main(names):
