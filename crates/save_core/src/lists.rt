@@ -17,12 +17,25 @@ fn is_of(save: &Save, view: ViewId) -> bool
     }
 }
 
+// How many of the saves are the view's.
+fn count_of(saves: &[Save], view: ViewId) -> usize
+    ensures { result ≡ length (filter (is_of view) saves.now) }
+{
+    let mut count = 0;
+    for save in saves {
+        if is_of(save, view) {
+            count += 1;
+        }
+    }
+    count
+}
+
 /// Whether the view has as many saves as it may have.
 pub(crate) fn is_full(saves: &[Save], view: Option<ViewId>) -> bool
     ensures { result ≡ is_full view saves.now }
 {
     match view {
-        Some(view) => MOST_SAVES <= saves.iter().filter(|save| is_of(save, view)).count(),
+        Some(view) => MOST_SAVES <= count_of(saves, view),
         None => false,
     }
 }

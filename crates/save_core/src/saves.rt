@@ -86,12 +86,7 @@ impl Saves {
     /// Serves the ready saves where so many inputs are applied and the content holds them: those that
     /// need no put are answered, for the others one put of the content begins, with the token of the
     /// first of them.
-    pub fn start(
-        &mut self,
-        applied: u64,
-        file: &FileId,
-        content: Bytes,
-    ) -> Result<Started, Memory>
+    pub fn start(&mut self, applied: u64, file: &FileId, content: Bytes) -> Result<Started, Memory>
         requires { is_ready applied self.old ≡ true }
         ensures serves { OnOk result (self.new ≡ served applied file.now content self.old) }
         ensures errand { IfOk result (λ started. started.errand ≡ errand_for applied file.now content self.old) }
