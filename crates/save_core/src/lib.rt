@@ -6,11 +6,14 @@
 //! call is a plain function of the same name in the past or present tense: `wait` makes `waits`,
 //! `start` makes `served`, `answer` makes `answered`, `keep_final` makes `token_kept` and `wait_final`
 //! makes `final_waits`.
+//! What stands over any run of them (specs/Runs) is a law (`laws`).
 #![tactic(auto)]
 
+mod laws;
 mod lists;
 mod saves;
 mod values;
 
+pub use laws::stored_answers_hold;
 pub use saves::Saves;
 pub use values::{MOST_SAVES, Put, Save, SaveAnswer, SaveFault, Started};
