@@ -14,7 +14,8 @@ pub fn stored_answers_hold()
         → AreAcknowledged (after_all events opening) put (answers ticket (Some receipt) (after_all events opening)) (answered ticket (Some receipt) (after_all events opening)) }
 {}
 
-/// Over any run of the calls, where a token is kept and no final save is unanswered, there is room for one.
+/// Over any run of the calls, where a token is kept and no final save is unanswered, there is room for
+/// one.
 pub fn final_saves_have_room()
     ensures { (events : List Event) → is_some (after_all events opening).last_token ≡ true → list_any is_final (after_all events opening).saves ≡ false
         → (after_all events opening).has_room ≡ true }
