@@ -4,9 +4,9 @@
 //!
 //! `Saves` is the type that matters. Contracts see it as a `Saving` (specs/Saving), in which each
 //! call is a plain function of the same name in the past or present tense: `wait` makes `waits`,
-//! `start` makes `served`, `answer` makes `answered`, `keep_final` makes `token_kept` and `wait_final`
-//! makes `final_waits`.
-//! What stands over any run of them (specs/Runs) is a law (`laws`).
+//! `start` makes `served`, `answer` makes `answered`, `keep_final` makes `token_kept` and
+//! `wait_final` makes `final_waits`. What stands over any run of them (specs/Runs) is a law
+//! (`laws`).
 #![tactic(auto)]
 
 mod laws;

@@ -53,10 +53,10 @@ impl Saves {
         })
     }
 
-    /// A save waits whose view, where it has one, is to be answered: with this mark, which is how many
-    /// inputs the stored content must hold. With `skip` it needs no put where nothing is new.
-    /// `SavesFull` exactly where the view has `MOST_SAVES` saves that are not answered, judged before
-    /// memory is taken.
+    /// A save waits whose view, where it has one, is to be answered: with this mark, which is how
+    /// many inputs the stored content must hold. With `skip` it needs no put where nothing is new.
+    /// `SavesFull` exactly where the view has `MOST_SAVES` saves that are not answered, judged
+    /// before memory is taken.
     pub fn wait(
         &mut self,
         view: Option<ViewId>,
@@ -83,9 +83,9 @@ impl Saves {
         Ok(())
     }
 
-    /// Serves the ready saves where so many inputs are applied and the content holds them: those that
-    /// need no put are answered, for the others one put of the content begins, with the token of the
-    /// first of them.
+    /// Serves the ready saves where so many inputs are applied and the content holds them: those
+    /// that need no put are answered, for the others one put of the content begins, with the token
+    /// of the first of them.
     pub fn start(&mut self, applied: u64, file: &FileId, content: Bytes) -> Result<Started, Memory>
         requires { is_ready applied self.old ≡ true }
         ensures serves { OnOk result (self.new ≡ served applied file.now content self.old) }
@@ -128,8 +128,8 @@ impl Saves {
     }
 
     /// Takes the store's answer for the errand of this ticket: a receipt, or none where the store
-    /// answered a fault. Where the ticket is the put's and the receipt is for its file and content, the
-    /// put goes, and each bound save is answered; else nothing changes.
+    /// answered a fault. Where the ticket is the put's and the receipt is for its file and content,
+    /// the put goes, and each bound save is answered; else nothing changes.
     pub fn answer(
         &mut self,
         ticket: Ticket,
