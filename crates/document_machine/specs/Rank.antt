@@ -1,10 +1,11 @@
 -- How much a document has left to do.
-use Rattle.std.specs.Prelude.{⊤, ℕ, ◌+◌, ◌-◌, ◌*◌, ◌<◌, Bool, ◌&&◌, length, Option, None, Some}
+use Rattle.std.specs.Prelude.{⊤, ℕ, ◌+◌, ◌-◌, ◌*◌, ◌<◌, Bool, not, ◌&&◌, length, Option, None, Some}
 use Rattle.std.specs.List.{list_any, count_by, sum_by}
 use Rattle.kit_trait.specs.Rules.{Rules}
 use Rattle.tile_key.specs.Places.{Place}
 use Rattle.document_machine.specs.Due.{is_due, keys}
 use Rattle.document_machine.specs.Keys.{is_among}
+use Rattle.document_machine.specs.Held.{Held}
 use Rattle.document_machine.specs.State.{Document}
 use Rattle.document_machine.specs.declared.outs.Turned.{Turned}
 use Rattle.document_machine.specs.declared.outs.Turned.TheVariants.{Worked, Idle}
@@ -25,10 +26,15 @@ is_due_somewhere rules d key = list_any (λ view. is_due rules d view key && is_
 abbrev pub jobs_due : {C B S : Type 0} → Rules C B → Document S → ℕ
 jobs_due rules d = count_by (λ job. list_any (is_due_somewhere rules d) job.keys) d.jobs
 
--- what each input that isn't applied, and each due pair, has to come to; the jobs out that have a due pair
--- are still to be taken off
+-- how many saves wait that no put is for yet
+abbrev pub unbound_saves : {S : Type 0} → Document S → ℕ
+unbound_saves d = count_by (λ save. not save.bound) d.saving.saves
+
+-- what each input that isn't applied, each due pair, and each save that no put is for has to come to; the
+-- jobs out that have a due pair are still to be taken off
 abbrev pub still_to_come : {C B S : Type 0} → Rules C B → Document S → ℕ
-still_to_come rules d = (length d.journal - d.applied) * (2 * pairs rules d + 1) + 2 * due_pairs rules d
+still_to_come rules d =
+    (length d.journal - d.applied) * (2 * pairs rules d + 1) + 2 * due_pairs rules d + unbound_saves d
 
 -- the rank: what is to come less the jobs out that have a due pair. It is never below 0, as two jobs out
 -- share no key
@@ -41,8 +47,8 @@ IsLower rules new old = still_to_come rules new + jobs_due rules old < still_to_
 
 -- a turn that did a work lowered the rank, of a broker that can be spent: only a broker that isn't makes
 -- one, and it isn't spent after it
-abbrev pub Lowers : {C B S : Type 0} → Rules C B → Option (Document S) → Turned S → Option (Document S) → Type 0
-Lowers rules (Some old) (Worked outs) (Some new) = IsLower rules new old
+abbrev pub Lowers : {C B S : Type 0} → Rules C B → Option (Held S) → Turned S → Option (Held S) → Type 0
+Lowers rules (Some old) (Worked outs) (Some new) = IsLower rules new.document old.document
 Lowers rules (Some old) Idle (Some new) = ⊤
 Lowers rules (Some old) turned None = ⊥
 Lowers rules None turned new = ⊥
