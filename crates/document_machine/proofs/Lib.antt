@@ -3,3 +3,4 @@ pub mod Lists
 pub mod Present
 pub mod Journal
 pub mod Turns
+pub mod Rows

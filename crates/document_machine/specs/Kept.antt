@@ -53,11 +53,6 @@ ShareNone earlier later = AllByRecursion (λ key. is_among earlier.keys key ≡ 
 abbrev pub AreApart : {S : Type 0} → List (Job S) → Type 0
 AreApart jobs = Pairwise ShareNone jobs
 
--- no job out of the screen's key has a lower number than its version
-abbrev pub IsShownKept : {S : Type 0} → List (Job S) → Shown → Type 0
-IsShownKept jobs shown =
-    AllByRecursion (λ job. is_among job.keys shown.key ≡ true → shown.version ≤ job.number) jobs
-
 -- a save that the put under way is for has a mark of at most that put's number, and is for none without a put
 abbrev pub IsBoundKept : Option Put → Save → Type 0
 IsBoundKept None save = save.bound ≡ false
@@ -88,8 +83,8 @@ pub record IsSavingKept {C B S : Type 0} (rules : Rules C B) (d : Document S) : 
 
 -- the file is one of the kit's; no more inputs are applied than accepted, and each names one of the parts;
 -- the views are not too many, in the order of their ids, which are below the next one; the jobs out are
--- not too many, no key is in two of them, and their tickets rise and are below the next one; no screen is
--- ahead of a job out; and so for what is known of the saves
+-- not too many, no key is in two of them, and their tickets rise and are below the next one; and what holds
+-- of saves holds of its own
 pub record IsKept {C B S : Type 0} (rules : Rules C B) (cut : C → Place → S) (d : Document S) : Type 0 where
   pub accepted : rules.accepts d.base ≡ true
   pub level : d.applied ≤ length d.journal
@@ -103,7 +98,6 @@ pub record IsKept {C B S : Type 0} (rules : Rules C B) (cut : C → Place → S)
   pub jobs_few : length d.jobs ≤ MOST_JOBS
   pub tickets : Pairwise (λ a b. a.ticket < b.ticket) d.jobs
   pub tickets_below : AllByRecursion (λ job. job.ticket < d.next_ticket) d.jobs
-  pub not_ahead : AllByRecursion (λ view. AllByRecursion (IsShownKept d.jobs) view.screen) d.views
   pub saving : IsSavingKept rules d
 
 -- a kept tile is of a key of the document's parts, in a version that is applied
@@ -117,8 +111,14 @@ pub record IsPresentKept {S : Type 0} (d : Document S) (tile : KeptTile) : Type 
   pub free : is_out d.jobs tile.key ≡ false
   pub not_ahead : AllByRecursion (λ view. AllByRecursion (λ shown. shown.key ≡ tile.key → shown.version ≤ tile.version) view.screen) d.views
 
+-- no job out of the key on a screen has a lower number than the version there. A broker keeps this, and the
+-- machine need not: it may send a present tile of a key while an older job of it is out
+abbrev pub IsNotAhead : {S : Type 0} → List (Job S) → Shown → Type 0
+IsNotAhead jobs shown =
+    AllByRecursion (λ job. is_among job.keys shown.key ≡ true → shown.version ≤ job.number) jobs
+
 -- the document is as every document is; the kept tiles are not too many, each key is kept once, and what
--- holds of a present one holds of each
+-- holds of a kept one, and of a present one, holds of each; no screen is ahead of a job out
 pub record IsHeld {C B S : Type 0} (rules : Rules C B) (cut : C → Place → S) (held : Held S) : Type 0 where
   pub document : IsKept rules cut held.document
   pub kept_few : length held.kept ≤ MOST_KEPT
@@ -126,3 +126,4 @@ pub record IsHeld {C B S : Type 0} (rules : Rules C B) (cut : C → Place → S)
   pub kept_each : AllByRecursion (IsTileKept rules held.document) held.kept
   pub kept_present :
     AllByRecursion (λ tile. is_current rules held.document tile.version tile.key ≡ true → IsPresentKept held.document tile) held.kept
+  pub not_ahead : AllByRecursion (λ view. AllByRecursion (IsNotAhead held.document.jobs) view.screen) held.document.views
