@@ -9,6 +9,7 @@ use Rattle.cool_message.specs.declared.message.ClientMessage.TheVariants.{Key, S
 use Rattle.cool_message.specs.declared.message.KeyKind.TheVariants.{Input as Down}
 use Rattle.kit_trait.specs.Patch.{patch_rules}
 use Rattle.outside.specs.declared.errands.Errand.{Errand}
+use Rattle.outside.specs.declared.errands.Receipt.{Receipt}
 use Rattle.outside.specs.declared.faults.StoreFault.TheVariants.{Denied}
 use Rattle.save_core.specs.Saving.{Saving, answered, answers, errand_for, is_ready, served, unmodified}
 use Rattle.tile_key.specs.Places.{Place, Scale, tile_at}
@@ -32,8 +33,12 @@ small = record { pixel_w = 8; pixel_h = 8; twip_w = 240; twip_h = 240; nviewid =
 looker : View
 looker = record writer { zoom = small; area = record { x = 0; y = 0; w = 720; h = 240 } }
 
-at : ℕ → Place
-at x = tile_at 0 small x 0
+tile_of : ℕ → Place
+tile_of x = tile_at 0 small x 0
+
+-- a tile that is kept as the document was loaded
+kept_at : ℕ → KeptTile
+kept_at x = record { key = tile_of x; version = 0 }
 
 -- a document that one view has joined
 one_view : View → Document ℕ
@@ -41,40 +46,47 @@ one_view view = record (opening (codes "d") []) { views = view ∷ []; next_view
 
 -- a job out of one key
 out : ℕ → Job ℕ
-out x = record { ticket = 1; number = 0; keys = at x ∷ []; area = at x; scene = 0 }
+out x = record { ticket = 1; number = 0; keys = tile_of x ∷ []; area = tile_of x; scene = 0 }
 
 -- three tiles side by side are cut as one job
-cuts_three : pick patch_rules none_kept (one_view looker) ≡ Cut 0 (at 0 ∷ at 240 ∷ at 480 ∷ [])
-unfolding one_view looker writer small at visible_keys rows_of row_of
+cuts_three : pick patch_rules none_kept (one_view looker) ≡ Cut 0 (tile_of 0 ∷ tile_of 240 ∷ tile_of 480 ∷ [])
+unfolding one_view looker writer small tile_of visible_keys rows_of row_of
 cuts_three = refl
 
 -- a group ends before a key that is out, and begins behind it
-cuts_one : pick patch_rules none_kept (record (one_view looker) { jobs = out 240 ∷ [] }) ≡ Cut 0 (at 0 ∷ [])
-unfolding one_view looker writer small at out visible_keys rows_of row_of
+cuts_one : pick patch_rules none_kept (record (one_view looker) { jobs = out 240 ∷ [] }) ≡ Cut 0 (tile_of 0 ∷ [])
+unfolding one_view looker writer small tile_of out visible_keys rows_of row_of
 cuts_one = refl
 
-cuts_behind : pick patch_rules none_kept (record (one_view looker) { jobs = out 0 ∷ [] }) ≡ Cut 0 (at 240 ∷ at 480 ∷ [])
-unfolding one_view looker writer small at out visible_keys rows_of row_of
+cuts_behind : pick patch_rules none_kept (record (one_view looker) { jobs = out 0 ∷ [] })
+    ≡ Cut 0 (tile_of 240 ∷ tile_of 480 ∷ [])
+unfolding one_view looker writer small tile_of out visible_keys rows_of row_of
 cuts_behind = refl
 
 -- what is kept is sent, and a group ends before it
-sends_first : pick patch_rules (kept_version (record { key = at 0; version = 0 } ∷ []) ) (one_view looker) ≡ Send 0 (at 0) 0
-unfolding one_view looker writer small at visible_keys rows_of row_of
+sends_first : pick patch_rules (kept_version (kept_at 0 ∷ [])) (one_view looker) ≡ Send 0 (tile_of 0) 0
+unfolding one_view looker writer small tile_of visible_keys rows_of row_of kept_at
 sends_first = refl
 
-cuts_before : pick patch_rules (kept_version (record { key = at 480; version = 0 } ∷ [])) (one_view looker) ≡ Cut 0 (at 0 ∷ at 240 ∷ [])
-unfolding one_view looker writer small at visible_keys rows_of row_of
+cuts_before : pick patch_rules (kept_version (kept_at 480 ∷ [])) (one_view looker)
+    ≡ Cut 0 (tile_of 0 ∷ tile_of 240 ∷ [])
+unfolding one_view looker writer small tile_of visible_keys rows_of row_of kept_at
 cuts_before = refl
 
 -- a kept tile that is used is the first, and a painted one takes the place of its key's older one
-uses : map (λ (tile : KeptTile). tile.key) (with_kept (record { key = at 0; version = 0 } ∷ record { key = at 240; version = 0 } ∷ []) (at 240) 0) ≡ at 240 ∷ at 0 ∷ []
-unfolding small at
-uses = refl
+used_first : map (λ (tile : KeptTile). tile.key) (with_kept (kept_at 0 ∷ kept_at 240 ∷ []) (tile_of 240) 0)
+    ≡ tile_of 240 ∷ tile_of 0 ∷ []
+unfolding small tile_of kept_at
+used_first = refl
 
-keeps_two : with_painted patch_rules (one_view looker) 0 (at 0 ∷ at 240 ∷ []) (record { key = at 240; version = 0 } ∷ [])
-    ≡ record { key = at 240; version = 0 } ∷ record { key = at 0; version = 0 } ∷ []
-unfolding one_view looker writer small at
+keeps_two : with_painted patch_rules (one_view looker) 0 (tile_of 0 ∷ tile_of 240 ∷ []) (kept_at 240 ∷ [])
+    ≡ kept_at 240 ∷ kept_at 0 ∷ []
+unfolding one_view looker writer small tile_of kept_at
 keeps_two = refl
+
+-- the store took the content
+receipt : Receipt
+receipt = record { file = []; content = [] }
 
 -- the document once its view said a message
 said : ClientMessage → Document ℕ → Document ℕ
@@ -97,7 +109,8 @@ unfolding typed said letter one_view writer
 then_the_save = refl
 
 -- its put is of the document after one input, with the view's token
-put_of_one : option_map (λ (errand : Errand). (errand.number, errand.token)) (errand_for 1 [] [] typed.saving) ≡ Some (1, 7 ∷ [])
+put_of_one : option_map (λ (errand : Errand). (errand.number, errand.token)) (errand_for 1 [] [] typed.saving)
+    ≡ Some (1, 7 ∷ [])
 unfolding typed said letter one_view writer
 put_of_one = refl
 
@@ -108,13 +121,14 @@ no_second_put = refl
 
 -- the receipt's number is stored, and the view is told; a fault is told with its code; a receipt of another
 -- content changes nothing
-stores_one : (answered 1 (Some (record { file = []; content = [] })) (served 1 [] [] typed.saving)).stored ≡ 0 ∷ 1 ∷ []
-unfolding typed said letter one_view writer
+stores_one : (answered 1 (Some receipt) (served 1 [] [] typed.saving)).stored ≡ 0 ∷ 1 ∷ []
+unfolding typed said letter one_view writer receipt
 stores_one = refl
 
-tells_stored : ending_frames (writer ∷ []) (Ok (record { file = []; content = [] })) (answers 1 (Some (record { file = []; content = [] })) (served 1 [] [] typed.saving))
+tells_stored : ending_frames (writer ∷ []) (Ok receipt)
+    (answers 1 (Some receipt) (served 1 [] [] typed.saving))
     ≡ (named 0, SaveDone 1 true) ∷ []
-unfolding typed said letter one_view writer
+unfolding typed said letter one_view writer receipt
 tells_stored = refl
 
 tells_fault : ending_frames (writer ∷ []) (Err Denied) (answers 1 None (served 1 [] [] typed.saving))
@@ -134,7 +148,8 @@ other_content = refl
 unmodified_save : Document ℕ
 unmodified_save = said (Save true true) (one_view writer)
 
-answers_unmodified : unmodified_frames unmodified_save.views 0 (unmodified 0 unmodified_save.saving) ≡ (named 0, SaveDone 0 false) ∷ []
+answers_unmodified : unmodified_frames unmodified_save.views 0 (unmodified 0 unmodified_save.saving)
+    ≡ (named 0, SaveDone 0 false) ∷ []
 unfolding unmodified_save said one_view writer
 answers_unmodified = refl
 
@@ -143,16 +158,20 @@ unfolding unmodified_save said one_view writer
 puts_nothing = refl
 
 -- a view that may not write saves nothing
-refuses_reader : message_effect (limits_of patch_rules (one_view writer)) (opening_view 0 (record { can_write = false; token = [] })) UnoSave
-    ≡ refuses (opening_view 0 (record { can_write = false; token = [] })) (codes "uno") ReadOnly
-unfolding one_view writer
+reader : View
+reader = opening_view 0 (record { can_write = false; token = [] })
+
+refuses_reader : message_effect (limits_of patch_rules (one_view reader)) reader UnoSave
+    ≡ refuses reader (codes "uno") ReadOnly
+unfolding one_view reader
 refuses_reader = refl
 
 -- the last view leaves behind an input that isn't stored: a final save waits for it, with its token
 edited : Document ℕ
 edited = record (said (letter 65) (one_view writer)) { applied = 1 }
 
-final_save : (saving_left edited 0).saves ≡ record { view = None; mark = 1; skip = false; token = 7 ∷ []; bound = false } ∷ []
+final_save : (saving_left edited 0).saves
+    ≡ record { view = None; mark = 1; skip = false; token = 7 ∷ []; bound = false } ∷ []
 unfolding edited said letter one_view writer
 final_save = refl
 
@@ -177,6 +196,7 @@ lost_then : is_lost (left_alone (answered 1 None (served 1 [] [] (saving_left ed
 unfolding left_alone edited said letter one_view writer
 lost_then = refl
 
-stored_then : is_lost (left_alone (answered 1 (Some (record { file = []; content = [] })) (served 1 [] [] (saving_left edited 0)))) ≡ false
-unfolding left_alone edited said letter one_view writer
+stored_then : is_lost (left_alone (answered 1 (Some receipt) (served 1 [] [] (saving_left edited 0))))
+    ≡ false
+unfolding left_alone edited said letter one_view writer receipt
 stored_then = refl

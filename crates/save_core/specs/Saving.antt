@@ -1,6 +1,6 @@
 -- What a document knows of its saves: what is stored, which saves wait, and the put under way.
-use Rattle.std.specs.Prelude.{ℕ, ◌+◌, ◌-◌, ◌×◌, ◌<◌, ◌≡◌, Bool, true, false, not, ◌&&◌, ◌||◌, nat_eq, nat_le, List, [], ◌∷◌, ◌++◌, length, filter, map, find, slice_get, Option, None, Some, is_some, is_none, unwrap_or, ForSome, if◌then◌else◌}
-use Rattle.std.specs.Option.{option_map}
+use Rattle.std.specs.Prelude.{ℕ, ◌+◌, ◌-◌, ◌<◌, ◌≡◌, Bool, true, false, not, ◌&&◌, ◌||◌, nat_eq, nat_le, List, [], ◌∷◌, ◌++◌, length, filter, map, find, slice_get, Option, None, Some, is_some, is_none, unwrap_or, if◌then◌else◌}
+use Rattle.std.specs.Option.{option_map, ForSome}
 use Rattle.std.specs.List.{list_any, filter_map}
 use Rattle.std.specs.Str.{bytes_eq}
 use Rattle.cool_base.specs.declared.ids.ViewId.{ViewId}
@@ -30,13 +30,14 @@ opening = record { stored = 0 ∷ []; saves = []; put = None; last_token = None;
 abbrev pub last_stored : Saving → ℕ
 last_stored s = unwrap_or (slice_get s.stored (length s.stored - 1)) 0
 
--- the save is one of this view's
-abbrev pub is_of : ViewId → Save → Bool
-is_of view save = is_view view save.view
-
+-- whether this is the view's id
 abbrev pub is_view : ViewId → Option ViewId → Bool
 is_view view None = false
 is_view view (Some other) = nat_eq other.0 view.0
+
+-- the save is one of this view's
+abbrev pub is_of : ViewId → Save → Bool
+is_of view save = is_view view save.view
 
 -- the view has as many saves that are not answered as it may have; saves without a view are never too many
 abbrev pub is_full : Option ViewId → List Save → Bool
@@ -138,11 +139,15 @@ ended (Some put) stored s =
 abbrev pub answered : ℕ → Option Receipt → Saving → Saving
 answered ticket receipt s = ended (answered_put ticket receipt s.put) (is_some receipt) s
 
+-- what a save is answered whose put ended: how many inputs the content holds, and whether it was stored
+abbrev pub answer_of : (number : ℕ) (stored : Bool) → Save → SaveAnswer
+answer_of number stored save = record { view = save.view; number = number; stored = stored }
+
 -- what each bound save is answered when the put ends, in order
 abbrev pub endings : Option Put → (stored : Bool) → List Save → List SaveAnswer
 endings None stored saves = []
 endings (Some put) stored saves =
-    map (λ save. record { view = save.view; number = put.number; stored = stored }) (filter (λ save. save.bound) saves)
+    map (answer_of put.number stored) (filter (λ save. save.bound) saves)
 
 -- what the saves are answered by the store's answer
 abbrev pub answers : ℕ → Option Receipt → Saving → List SaveAnswer
@@ -152,13 +157,14 @@ answers ticket receipt s = endings (answered_put ticket receipt s.put) (is_some 
 abbrev pub token_kept : List ℕ → Saving → Saving
 token_kept token s = record s { last_token = Some token; has_room = true }
 
--- a save without a view waits, with the token kept
-abbrev pub final_waits : ℕ → Saving → Saving
-final_waits mark s = final_with mark s.last_token s
-
+-- a save without a view waits with this token, where one is kept, and the room for it is used
 abbrev pub final_with : ℕ → Option (List ℕ) → Saving → Saving
 final_with mark None s = s
 final_with mark (Some token) s = record (waits None mark false token s) { has_room = false }
+
+-- a save without a view waits, with the token kept
+abbrev pub final_waits : ℕ → Saving → Saving
+final_waits mark s = final_with mark s.last_token s
 
 -- some save that is not answered has this mark
 abbrev pub has_mark : ℕ → Saving → Bool
