@@ -125,5 +125,5 @@ pub record IsHeld {C B S : Type 0} (rules : Rules C B) (cut : C → Place → S)
   pub kept_once : Pairwise (λ a b. a.key ≢ b.key) held.kept
   pub kept_each : AllByRecursion (IsTileKept rules held.document) held.kept
   pub kept_present :
-    AllByRecursion (λ tile. is_current rules held.document tile.version tile.key ≡ true → IsPresentKept held.document tile) held.kept
+      AllByRecursion (λ tile. is_current rules held.document tile.version tile.key ≡ true → IsPresentKept held.document tile) held.kept
   pub not_ahead : AllByRecursion (λ view. AllByRecursion (IsNotAhead held.document.jobs) view.screen) held.document.views

@@ -82,14 +82,14 @@ input_effect limits view command what =
     else refuses view command ReadOnly
 
 -- a save waits
-abbrev pub saves : View → (skip : Bool) → Effect
-saves view skip = record (becomes view) { save = Some skip }
+abbrev pub awaits : View → (skip : Bool) → Effect
+awaits view skip = record (becomes view) { save = Some skip }
 
 -- a save is refused where the view may not write, and then where too many of its saves are not answered
 abbrev pub saving_effect : Limits → View → (command : List ℕ) → (skip : Bool) → Effect
 saving_effect limits view command skip =
     if view.rights.can_write then
-    (if is_full (Some (named view.id)) limits.saves then refuses view command SavesFull else saves view skip)
+    (if is_full (Some (named view.id)) limits.saves then refuses view command SavesFull else awaits view skip)
     else refuses view command ReadOnly
 
 -- a key that goes down is an input; one that is let go changes nothing

@@ -7,7 +7,6 @@ use Rattle.cool_frame.specs.declared.frame.Frame.TheVariants.{Error, SaveDone}
 use Rattle.cool_frame.specs.declared.kind.ErrorKind.TheVariants.{SaveFailed}
 use Rattle.kit_trait.specs.Rules.{Rules, doc}
 use Rattle.outside.specs.Stores.{code_of}
-use Rattle.outside.specs.declared.errands.Errand.{Errand}
 use Rattle.outside.specs.declared.errands.Receipt.{Receipt}
 use Rattle.outside.specs.declared.faults.StoreFault.{StoreFault}
 use Rattle.save_core.specs.Saving.{Saving, answered, answers, errand_for, final_waits, has_mark, is_ready, last_stored, served, unmodified}
@@ -39,18 +38,26 @@ abbrev pub unmodified_frames : List View → ℕ → List ViewId → List (ViewI
 unmodified_frames views number ids =
     map (λ id. (id, SaveDone number false)) (filter (λ (id : ViewId). is_live views id.0) ids)
 
+-- what goes out where the ready saves are served: the answers to those that need no put, and the errand of
+-- the put, where one begins
+abbrev pub served_outs : {C B S : Type 0} → Rules C B → Document S → Outs S
+served_outs rules d =
+    record {
+      frames = unmodified_frames d.views d.applied (unmodified d.applied d.saving);
+      jobs = [];
+      errands = option_to_list (errand_for d.applied d.file (text_at rules d d.applied) d.saving);
+    }
+
+-- what is known of the saves once the ready ones are served
+abbrev pub saving_served : {C B S : Type 0} → Rules C B → Document S → Saving
+saving_served rules d = served d.applied d.file (text_at rules d d.applied) d.saving
+
 -- a turn serves the ready saves: those that need no put are answered, and for the others one put begins, of
 -- the document as it is now
 pub record Serves {C B S : Type 0} (rules : Rules C B) (old : Document S) (outs : Outs S) (new : Document S) : Type 0 where
   pub ready : has_ready_save old ≡ true
-  pub outs_are : outs ≡ record {
-    frames = unmodified_frames old.views old.applied (unmodified old.applied old.saving);
-    jobs = [];
-    errands = option_to_list (errand_for old.applied old.file (text_at rules old old.applied) old.saving);
-  }
-  pub new_is : new ≡ record old {
-    saving = served old.applied old.file (text_at rules old old.applied) old.saving
-  }
+  pub outs_are : outs ≡ served_outs rules old
+  pub new_is : new ≡ record old { saving = saving_served rules old }
 
 -- the receipt of a store's answer, where it is one
 abbrev pub receipt_of : Result Receipt StoreFault → Option Receipt
