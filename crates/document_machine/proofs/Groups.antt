@@ -1,5 +1,5 @@
 -- The keys that a job is cut for are a group.
-use Rattle.std.proofs.Common.{◌≡◌, ℕ, zero, suc, ◌≤◌, Bool, true, false, cond, List, [], ◌∷◌, length, Option, refl, arith}
+use Rattle.std.proofs.Common.{ℕ, zero, suc, ◌≤◌, Bool, true, false, cond, [], ◌∷◌, length, Option, refl, arith}
 use Rattle.kit_trait.specs.Rules.{Rules}
 use Rattle.tile_key.specs.Places.{Place, IsGroup, IsRun, next_place}
 use Rattle.document_machine.specs.Next.{group_at, joins_group, right_of}

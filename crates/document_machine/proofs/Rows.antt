@@ -1,7 +1,6 @@
 -- Small cases, computed on the definitions: groups, saves, the final save, what is kept.
-use Rattle.std.proofs.Common.{◌≡◌, ℕ, true, false, List, [], ◌∷◌, None, Some, refl}
-use Rattle.std.specs.Prelude.{codes, map, option_map, Result, Ok, Err}
-use Rattle.cool_base.specs.Points.{Rectangle}
+use Rattle.std.proofs.Common.{◌≡◌, ℕ, true, false, [], ◌∷◌, None, Some, refl}
+use Rattle.std.specs.Prelude.{codes, map, option_map, Ok, Err}
 use Rattle.cool_frame.specs.declared.frame.Frame.TheVariants.{Error, SaveDone}
 use Rattle.cool_frame.specs.declared.kind.ErrorKind.TheVariants.{ReadOnly, SaveFailed}
 use Rattle.cool_message.specs.declared.message.ClientMessage.{ClientMessage}
@@ -17,11 +16,10 @@ use Rattle.tile_key.specs.Visible.{visible_keys, rows_of, row_of}
 use Rattle.document_machine.specs.Done.{is_done, is_lost}
 use Rattle.document_machine.specs.Held.{KeptTile, kept_version, with_kept, with_painted}
 use Rattle.document_machine.specs.Message.{heard, limits_of, message_effect, refuses}
-use Rattle.document_machine.specs.Next.{Serve, Apply, Send, Cut, Rest, none_kept, pick}
+use Rattle.document_machine.specs.Next.{Serve, Apply, Send, Cut, none_kept, pick}
 use Rattle.document_machine.specs.Outputs.{named}
-use Rattle.document_machine.specs.Saves.{ending_frames, receipt_of, saving_left, unmodified_frames}
-use Rattle.document_machine.specs.State.{View, Job, Document, first_zoom, no_area, opening, opening_view}
-use Rattle.document_machine.specs.declared.rights.Rights.{Rights}
+use Rattle.document_machine.specs.Saves.{ending_frames, saving_left, unmodified_frames}
+use Rattle.document_machine.specs.State.{View, Job, Document, opening, opening_view}
 
 -- a view that may write, and one that sees three tiles of 8 by 8 pixels side by side
 writer : View
@@ -109,10 +107,13 @@ unfolding typed said letter one_view writer
 then_the_save = refl
 
 -- its put is of the document after one input, with the view's token
-put_of_one : option_map (λ (errand : Errand). (errand.number, errand.token)) (errand_for 1 [] [] typed.saving)
-    ≡ Some (1, 7 ∷ [])
+put_of_one : option_map (λ (errand : Errand). errand.number) (errand_for 1 [] [] typed.saving) ≡ Some 1
 unfolding typed said letter one_view writer
 put_of_one = refl
+
+its_token : option_map (λ (errand : Errand). errand.token) (errand_for 1 [] [] typed.saving) ≡ Some (7 ∷ [])
+unfolding typed said letter one_view writer
+its_token = refl
 
 -- while the put is under way no other begins
 no_second_put : is_ready 2 (served 1 [] [] typed.saving) ≡ false

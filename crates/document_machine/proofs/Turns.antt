@@ -1,9 +1,9 @@
 -- A turn that does a work is a turn of the machine, and a move of a broker is a step of it.
-use Rattle.std.proofs.Common.{◌≡◌, Some, refl, inl, inr}
+use Rattle.std.proofs.Common.{refl, inl, inr}
 use Rattle.kit_trait.specs.Rules.{Rules}
 use Rattle.tile_key.specs.Places.{Place}
 use Rattle.document_machine.specs.Event.{Event, Joined, Left, Said, Turned, Painted, PutAnswered}
-use Rattle.document_machine.specs.Goes.{DoesNext, Moves, next_work}
+use Rattle.document_machine.specs.Goes.{Moves, next_work}
 use Rattle.document_machine.specs.Held.{Held}
 use Rattle.document_machine.specs.Next.{Work, Serve, Apply, Send, Cut, Rest}
 use Rattle.document_machine.specs.Outputs.{outs_of}

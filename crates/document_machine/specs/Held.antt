@@ -1,5 +1,5 @@
 -- A document with the tiles that are kept of it, as contracts see a broker.
-use Rattle.std.specs.Prelude.{◌≡◌, ◌≢◌, ℕ, Bool, not, ◌⊎◌, List, [], ◌∷◌, filter, take, Option, None, Some, if◌then◌else◌}
+use Rattle.std.specs.Prelude.{◌≡◌, ◌≢◌, ℕ, not, ◌⊎◌, List, [], ◌∷◌, filter, take, Option, None, Some, if◌then◌else◌}
 use Rattle.kit_trait.specs.Rules.{Rules}
 use Rattle.tile_key.specs.Places.{Place, same_place}
 use Rattle.document_machine.specs.Due.{is_current}

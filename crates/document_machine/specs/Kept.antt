@@ -1,6 +1,6 @@
 -- What holds of every document that the machine reaches, and of every document that a broker keeps with its
 -- tiles. That the pixels of a kept tile are the picture of its version is the broker's own.
-use Rattle.std.specs.Prelude.{◌≡◌, ◌≢◌, ⊤, ℕ, ◌<◌, ◌≤◌, true, false, List, [], length, filter, slice_get, Option, None, Some, is_none}
+use Rattle.std.specs.Prelude.{◌≡◌, ◌≢◌, ⊤, ℕ, ◌<◌, ◌≤◌, true, false, List, [], length, filter, slice_get, Option, None, Some}
 use Rattle.std.specs.List.{AllByRecursion}
 use Rattle.kit_trait.specs.Rules.{Rules, doc}
 use Rattle.save_core.specs.Saving.{has_mark, is_of, last_stored}

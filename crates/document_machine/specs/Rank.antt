@@ -6,7 +6,7 @@ use Rattle.tile_key.specs.Places.{Place}
 use Rattle.document_machine.specs.Due.{is_due, is_wanted, has_room, keys}
 use Rattle.document_machine.specs.Keys.{is_among}
 use Rattle.document_machine.specs.Held.{Held}
-use Rattle.document_machine.specs.State.{Job, Document}
+use Rattle.document_machine.specs.State.{Document}
 use Rattle.document_machine.specs.declared.limits.TheConstants.{MOST_JOBS}
 use Rattle.document_machine.specs.declared.outs.Turned.{Turned}
 use Rattle.document_machine.specs.declared.outs.Turned.TheVariants.{Worked, Idle}
@@ -69,7 +69,7 @@ jobs_wanted rules d = count_by (λ job. list_any (is_wanted rules d) job.keys) d
 
 -- how many jobs out are of fewer inputs than are applied
 abbrev pub old_jobs : {S : Type 0} → Document S → ℕ
-old_jobs d = count_by (λ (job : Job S). nat_lt job.number d.applied) d.jobs
+old_jobs d = count_by (λ job. nat_lt job.number d.applied) d.jobs
 
 -- what the jobs out have to come to: a cut lowers it, since its job is wanted, and so does a painted result
 -- that no view takes
