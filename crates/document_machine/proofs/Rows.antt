@@ -1,6 +1,6 @@
 -- Small cases, computed on the definitions: groups, saves, the final save, what is kept.
 use Rattle.std.proofs.Common.{◌≡◌, ℕ, true, false, [], ◌∷◌, None, Some, refl}
-use Rattle.std.specs.Prelude.{codes, map, option_map, Ok, Err}
+use Rattle.std.specs.Prelude.{nat_lt, codes, map, option_map, Ok, Err}
 use Rattle.cool_frame.specs.declared.frame.Frame.TheVariants.{Error, SaveDone}
 use Rattle.cool_frame.specs.declared.kind.ErrorKind.TheVariants.{ReadOnly, SaveFailed}
 use Rattle.cool_message.specs.declared.message.ClientMessage.{ClientMessage}
@@ -18,6 +18,8 @@ use Rattle.document_machine.specs.Held.{KeptTile, kept_version, with_kept, with_
 use Rattle.document_machine.specs.Message.{heard, limits_of, message_effect, refuses}
 use Rattle.document_machine.specs.Next.{Serve, Apply, Send, Cut, none_kept, pick}
 use Rattle.document_machine.specs.Outputs.{named}
+use Rattle.document_machine.specs.Rank.{left_to_do}
+use Rattle.document_machine.specs.Step.{views_offered}
 use Rattle.document_machine.specs.Saves.{ending_frames, saving_left, unmodified_frames}
 use Rattle.document_machine.specs.State.{View, Job, Document, opening, opening_view}
 
@@ -201,3 +203,43 @@ stored_then : is_lost (left_alone (answered 1 (Some receipt) (served 1 [] [] (sa
     ≡ false
 unfolding left_alone edited said letter one_view writer receipt
 stored_then = refl
+
+-- a document once a job was cut for its three tiles, and once that was painted
+cut_one : Document ℕ
+cut_one = record (one_view looker) { jobs = record (out 0) { keys = tile_of 0 ∷ tile_of 240 ∷ tile_of 480 ∷ [] } ∷ [] }
+
+painted_one : Document ℕ
+painted_one = record (one_view looker) {
+  views = views_offered patch_rules (one_view looker) 0 (tile_of 0 ∷ tile_of 240 ∷ tile_of 480 ∷ []) (looker ∷ []);
+}
+
+-- the cut leaves less to do, and so do the result, and the result where no view takes it
+cut_falls : nat_lt (left_to_do patch_rules cut_one) (left_to_do patch_rules (one_view looker)) ≡ true
+unfolding cut_one one_view looker writer small tile_of out visible_keys rows_of row_of
+cut_falls = refl
+
+painted_falls : nat_lt (left_to_do patch_rules painted_one) (left_to_do patch_rules cut_one) ≡ true
+unfolding painted_one cut_one one_view looker writer small tile_of out visible_keys rows_of row_of
+painted_falls = refl
+
+not_due : Document ℕ
+not_due = one_view writer
+
+wasted_falls : nat_lt (left_to_do patch_rules not_due) (left_to_do patch_rules (record not_due { jobs = out 0 ∷ [] })) ≡ true
+unfolding not_due one_view writer small tile_of out visible_keys rows_of row_of
+wasted_falls = refl
+
+-- a put that begins leaves less to do, and so does its answer
+put_begins : Document ℕ
+put_begins = record typed { applied = 1; saving = served 1 [] [] typed.saving }
+
+put_ends : Document ℕ
+put_ends = record typed { applied = 1; saving = answered 1 None (served 1 [] [] typed.saving) }
+
+begin_falls : nat_lt (left_to_do patch_rules put_begins) (left_to_do patch_rules (record typed { applied = 1 })) ≡ true
+unfolding put_begins typed said letter one_view writer visible_keys rows_of row_of
+begin_falls = refl
+
+end_falls : nat_lt (left_to_do patch_rules put_ends) (left_to_do patch_rules put_begins) ≡ true
+unfolding put_ends put_begins typed said letter one_view writer visible_keys rows_of row_of
+end_falls = refl

@@ -23,5 +23,5 @@ mod rights;
 pub use limits::{MOST_ASKED, MOST_INPUTS, MOST_JOBS, MOST_KEPT, MOST_VIEWS};
 pub use outs::{Outs, Turned};
 pub use rights::Rights;
-pub use send_window::MOST_SENT;
 pub use save_core::MOST_SAVES;
+pub use send_window::MOST_SENT;
