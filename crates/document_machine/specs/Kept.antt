@@ -3,9 +3,9 @@
 use Rattle.std.specs.Prelude.{◌≡◌, ◌≢◌, ⊤, ℕ, ◌<◌, ◌≤◌, true, false, List, [], length, filter, slice_get, Option, None, Some}
 use Rattle.std.specs.List.{AllByRecursion}
 use Rattle.kit_trait.specs.Rules.{Rules, doc}
+use Rattle.save_core.specs.Runs.{IsBoundTo}
 use Rattle.save_core.specs.Saving.{has_mark, is_of, last_stored}
 use Rattle.save_core.specs.declared.values.Put.{Put}
-use Rattle.save_core.specs.declared.values.Save.{Save}
 use Rattle.save_core.specs.declared.values.TheConstants.{MOST_SAVES}
 use Rattle.tile_key.specs.Places.{Place, IsGroup, IsKey, is_zoom, place_of_keys}
 use Rattle.tile_key.specs.Visible.{IsBefore, is_too_large}
@@ -53,11 +53,6 @@ ShareNone earlier later = AllByRecursion (λ key. is_among earlier.keys key ≡ 
 abbrev pub AreApart : {S : Type 0} → List (Job S) → Type 0
 AreApart jobs = Pairwise ShareNone jobs
 
--- a save that the put under way is for has a mark of at most that put's number, and is for none without a put
-abbrev pub IsBoundKept : Option Put → Save → Type 0
-IsBoundKept None save = save.bound ≡ false
-IsBoundKept (Some put) save = save.bound ≡ true → save.mark ≤ put.number
-
 -- the put under way is of the document's file, after as many inputs as its number says, which are applied;
 -- its ticket is below the next one
 abbrev pub IsPutKept : {C B S : Type 0} → Rules C B → Document S → Option Put → Type 0
@@ -76,7 +71,7 @@ pub record IsSavingKept {C B S : Type 0} (rules : Rules C B) (d : Document S) : 
   pub stored : AllByRecursion (λ number. number ≤ d.applied) d.saving.stored
   pub marks : AllByRecursion (λ save. save.mark ≤ length d.journal) d.saving.saves
   pub put : IsPutKept rules d d.saving.put
-  pub bound : AllByRecursion (IsBoundKept d.saving.put) d.saving.saves
+  pub bound : AllByRecursion (IsBoundTo d.saving.put) d.saving.saves
   pub few : (view : ℕ) → length (filter (is_of (named view)) d.saving.saves) ≤ MOST_SAVES
   pub token : d.saving.last_token ≡ None → d.journal ≡ []
   pub room : last_stored d.saving ≢ length d.journal → has_mark (length d.journal) d.saving ≡ false → d.saving.has_room ≡ true
