@@ -1,1 +1,2 @@
 mod Bound
+mod Rooms

@@ -1,5 +1,5 @@
 -- Runs of the calls, and what holds in every one of them.
-use Rattle.std.specs.Prelude.{ℕ, ◌≡◌, ◌≤◌, nat_eq, Bool, true, false, List, [], ◌∷◌, map, filter, Option, None, Some, if◌then◌else◌}
+use Rattle.std.specs.Prelude.{ℕ, ◌≡◌, ◌≤◌, nat_eq, Bool, not, ◌&&◌, is_none, true, false, List, [], ◌∷◌, map, filter, Option, None, Some, if◌then◌else◌}
 use Rattle.std.specs.List.{list_any, AllByRecursion}
 use Rattle.cool_base.specs.declared.ids.ViewId.{ViewId}
 use Rattle.outside.specs.declared.errands.Receipt.{Receipt}
@@ -29,6 +29,10 @@ next (WaitedFinal mark) s = final_waits mark s
 abbrev pub after_all : List Event → Saving → Saving
 after_all [] s = s
 after_all (event ∷ events) s = after_all events (next event s)
+
+-- a save that a final save may be: it has no view, and needs a put
+abbrev pub is_final : Save → Bool
+is_final save = is_none save.view && not save.skip
 
 -- a bound save's mark is at most the number of the put under way; without a put no save is bound
 abbrev pub IsBoundTo : Option Put → Save → Type 0

@@ -14,6 +14,6 @@ mod lists;
 mod saves;
 mod values;
 
-pub use laws::stored_answers_hold;
+pub use laws::{final_saves_have_room, stored_answers_hold};
 pub use saves::Saves;
 pub use values::{MOST_SAVES, Put, Save, SaveAnswer, SaveFault, Started};
