@@ -1,6 +1,6 @@
 #!/usr/bin/env python3
-"""What must come of crates/save_readings/stdin, from the page on saves alone: two lists, of the saves that
-wait and of those that the put under way is for, in place of one list with a mark on each save.
+"""What must come of crates/save_readings/stdin, from the page on saves alone: two lists, of the
+saves that wait and of those that the put under way is for, in place of one list.
 
     tests/model/saves.py < crates/save_readings/stdin > crates/save_readings/stdout
 """

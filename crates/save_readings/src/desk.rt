@@ -6,8 +6,8 @@ use save_core::{SaveAnswer, SaveFault, Saves, Started};
 use std::alloc::Global;
 use std::marker::Model;
 
-/// A document's saves, whether a token is kept and room is there for a final save, and the file and the
-/// content of the last put that began.
+/// A document's saves, whether a token is kept and room is there for a final save, and the file and
+/// the content of the last put that began.
 #[derive(Drop)]
 pub(crate) struct Desk {
     saves: Saves,

@@ -1,14 +1,17 @@
-//! Reads lines, each an act on a document's saves, and prints what each call answers. Lines with a `#` at
-//! their head are printed as they are. A call whose condition would not hold is not made, and a word printed.
+//! Reads lines, each an act on a document's saves, and prints what each call answers. Lines with
+//! a `#` at their head are printed as they are. A call whose condition would not hold is not
+//! made, and a word printed.
 //!
-//! - `begin`: a document is loaded anew. `end`, `tell`: what is stored last, whether a put is under way,
-//!   whether none waits. `see NUMBER`: whether a put may begin where so many inputs are applied, and whether
-//!   a save has this mark.
-//! - `wait VIEW MARK skip|put TOKEN`: a save of the view waits, or one of no view where `VIEW` is `-`.
+//! - `begin`: a document is loaded anew. `end`, `tell`: what is stored last, whether a put is
+//!   under way, whether none waits. `see NUMBER`: whether a put may begin where so many inputs
+//!   are applied, and whether a save has this mark.
+//! - `wait VIEW MARK skip|put TOKEN`: a save of the view waits, of none where `VIEW` is `-`.
 //! - `start APPLIED FILE CONTENT`: the ready saves are served, where one is ready.
-//! - `answer TICKET stored|failed|other-file|other-content`: the store's answer; a receipt is for the file and
-//!   the content of the last put that began, or for others.
-//! - `keep TOKEN`: it is kept for final saves. `final MARK`: a final save waits, where there is room for one.
+//! - `answer TICKET stored|failed|other-file|other-content`: the store's answer; a receipt is
+//!   for the file and the content of the last put that began, or for others. Where no put began,
+//!   `stored` and `other-content` have no receipt.
+//! - `keep TOKEN`: it is kept for final saves. `final MARK`: a final save waits, where there is
+//!   room.
 #![tactic(auto)]
 
 mod desk;
