@@ -1,9 +1,10 @@
 //! Reads lines of acts on one store over a host in memory, and prints each line, and below it what
-//! its call answers. `begin` begins with a new store at moment 0, whose host has no file; `end` ends
-//! with it. Lines with a `#` at their head are printed as they are. A content without a byte is `-`.
+//! its call answers. `begin` begins with a new store at moment 0, whose host has no file; `end`
+//! ends with it. Lines with a `#` at their head are printed as they are. A content without a byte
+//! is `-`.
 //!
-//! - `file ID CONTENT`, `content ID`, `lock ID OWNER`, `clear ID`: the host's own calls. An owner is
-//!   `x`, `cool-d` or `two words`.
+//! - `file ID CONTENT`, `content ID`, `lock ID OWNER`, `clear ID`: the host's own calls. An owner
+//!   is `x`, `cool-d` or `two words`.
 //! - `time SECONDS`, `fail N`: the moment, and how many of the next wires fail.
 //! - `admit ID TOKEN`, `fetch ID TOKEN rw`, `fetch ID TOKEN ro`, `put ID TOKEN NUMBER CONTENT`,
 //!   `refresh ID TOKEN`, `unlock ID TOKEN`: the calls of a store. A fault is told by its name, a
