@@ -343,6 +343,11 @@ class Book:
         after = self.shows(at[0])
         return [it for it in sorted(before.keys() | after.keys()) if before.get(it, "") != after.get(it, "")]
 
+    def readers(self, at):
+        """The places of its part whose formula names the cell."""
+        formulas = {it: read_formula(raw) for it, raw in self.raws.items() if it[0] == at[0]}
+        return sorted(it[1:] for it, expression in formulas.items() if expression and at[1:] in names(expression))
+
     def text(self):
         lines = ["coolsheet 1", f"parts {self.parts}"]
         for (part, row, col), raw in sorted(self.raws.items()):
@@ -467,7 +472,7 @@ class Desk:
                 return self.say("no book")
             self.book = Book(number_31(rest))
             self.say(f"{self.book.parts} parts, {len(self.book.text())} bytes")
-        elif word in ("set", "show"):
+        elif word in ("set", "show", "readers"):
             self.of_book(word, cell_of(rest))
         elif word == "written":
             self.written()
@@ -509,11 +514,14 @@ class Desk:
         look(four[1])
 
     def of_book(self, word, cell):
-        if cell is None or word == "show" and cell[0][0] >= self.book.parts:
+        if cell is None or word != "set" and cell[0][0] >= self.book.parts:
             return self.say("no cell")
         at, raw = cell
         if word == "show":
             return self.say(f"[{self.book.shown(at)}] [{self.book.raws.get(at, '')}]")
+        if word == "readers":
+            places = self.book.readers(at)
+            return self.say(" ".join([str(len(places)), *(f"{row},{col}" for row, col in places)]))
         if at[0] >= self.book.parts or not is_raw(raw):
             return self.say("no cell or no raw text")
         for place in self.book.set(at, raw):

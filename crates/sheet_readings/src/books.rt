@@ -167,3 +167,25 @@ fn both(rt: &impl Print, book: &Book, at: CellRef) -> anyhow::Result<()> {
     println!(rt; "  [{}] [{}]", book.shown(&at), book.raw(&at))?;
     Ok(())
 }
+
+/// How many cells of its part have a formula that names the cell, and which.
+pub fn readers(rt: &impl Print, desk: &Desk, text: &str) -> anyhow::Result<()> {
+    match cell(text) {
+        Some((at, _)) => read_by(rt, &desk.book, at),
+        None => Ok(println!(rt; "  no cell")?),
+    }
+}
+
+// Prints how many cells read the cell, and which.
+fn read_by(rt: &impl Print, book: &Book, at: CellRef) -> anyhow::Result<()> {
+    let Some(at) = in_book(book, at) else {
+        println!(rt; "  no cell")?;
+        return Ok(());
+    };
+    let readers = book.readers(&at)?;
+    print!(rt; "  {}", readers.len())?;
+    for (row, col) in readers.as_slice() {
+        print!(rt; " {row},{col}")?;
+    }
+    Ok(println!(rt; "")?)
+}

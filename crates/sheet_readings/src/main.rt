@@ -39,6 +39,7 @@ fn answer(rt: &impl Print, alloc: Global, desk: &mut Desk, line: &str) -> anyhow
         "book" => books::begin_book(rt, alloc, desk, rest),
         "set" => books::set(rt, desk, rest),
         "show" => books::show(rt, desk, rest),
+        "readers" => books::readers(rt, desk, rest),
         "written" => files::written(rt, alloc, desk),
         "draft" => files::draft(rt, alloc, desk, rest),
         "file" => files::file(rt, alloc, desk, rest),
