@@ -20,10 +20,11 @@ taken_by frames = sum_by cost_of frames
 abbrev pub with_frame : List ℕ → Queue → Queue
 with_frame frame q = record q { waiting = q.waiting ++ frame ∷ [] }
 
--- What comes of a frame: it goes now where none is on its way. Else it waits where it has room beside
+-- What comes of a frame: it goes now where none is on its way, and then none waits. Else it waits where it has room beside
 -- those that wait, which take 33,554,432 bytes at most.
 abbrev pub Offers : Queue → List ℕ → Offered → Queue → Type 0
-Offers old frame Now new = (old.busy ≡ false) × (new ≡ record old { busy = true })
+Offers old frame Now new =
+    (old.busy ≡ false) × (old.waiting ≡ []) × (new ≡ record { busy = true; waiting = [] })
 Offers old frame Waits new = (old.busy ≡ true) × (taken_by old.waiting + cost_of frame ≤ 33554432)
     × (new ≡ with_frame frame old)
 Offers old frame Full new = (old.busy ≡ true) × (33554432 < taken_by old.waiting + cost_of frame)

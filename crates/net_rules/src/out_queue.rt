@@ -34,14 +34,15 @@ pub struct OutQueue {
 }
 
 impl Model for OutQueue {
-    ghost use Rattle.std.specs.Prelude.{◌≡◌, ◌≤◌, Bool, List, ℕ};
+    ghost use Rattle.std.specs.Prelude.{◌≡◌, ◌≤◌, [], false};
     ghost use Rattle.net_rules.specs.Queues.{Queue, taken_by};
 
     ghost Value = { Queue };
 
     ghost view = { λ q. record { busy = q.busy; waiting = q.waiting.items } };
 
-    ghost invariant = { λ q. (q.taken ≡ taken_by q.waiting.items) × (q.taken ≤ 33554432) };
+    ghost invariant = { λ q. (q.taken ≡ taken_by q.waiting.items) × (q.taken ≤ 33554432)
+        × (q.busy ≡ false → q.waiting.items ≡ []) };
 }
 
 impl OutQueue {
@@ -99,6 +100,13 @@ impl OutQueue {
                 None
             }
         }
+    }
+
+    /// Something else is on its way: frames wait behind it.
+    pub fn block(&mut self)
+        ensures { self.new ≡ record self.old { busy = true } }
+    {
+        self.busy = true;
     }
 
     /// Whether a frame is on its way.
