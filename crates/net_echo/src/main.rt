@@ -8,7 +8,6 @@ use cool_base::LinkId;
 use net_edge::EdgeNet;
 use net_traits::{Given, Net, Taken};
 use std::env;
-use std::rt::Clock;
 
 /// How many bytes a tile of a flood has.
 const TILE_SIZE: usize = 262_144;
@@ -27,9 +26,11 @@ struct Counts {
 
 fn main(rt: HostRuntime) -> Result<()> {
     let mut words = [0; 3];
-    for (place, word) in env::args(&rt)?.skip(1).enumerate() {
+    let mut place = 0;
+    for word in env::args(&rt)?.skip(1) {
         if place < 3 {
             words[place] = word.parse::<u64>().unwrap_or(0);
+            place += 1;
         }
     }
     let [port, sessions, takes] = words;
@@ -71,7 +72,7 @@ fn serve<'a>(
             }
             Taken::Left(_) => counts.left = counts.left.saturating_add(1),
             Taken::Nothing => {}
-            Taken::Failed => return Err(anyhow!(in rt.alloc(); "a take failed")),
+            Taken::Failed => return Err(anyhow!("a take failed")),
         }
     }
     Ok(counts)

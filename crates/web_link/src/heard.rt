@@ -72,7 +72,7 @@ pub(crate) fn heard_of(alloc: Global, message: &Message) -> Result<Heard, Memory
     ensures { IfOk result (Hears message.now) }
 {
     match message {
-        Message::Text(text) => Ok(Heard::Said(ListOf::of(text.as_bytes().to_vec(alloc)?))),
+        Message::Text(text) => Ok(Heard::Said(ListOf::of(text.as_str().as_bytes().to_vec(alloc)?))),
         Message::Binary(bytes) => Ok(Heard::Said(ListOf::of(bytes.as_slice().to_vec(alloc)?))),
         Message::Ping(_) => Ok(Heard::Control),
         Message::Pong(_) => Ok(Heard::Control),

@@ -1,5 +1,5 @@
 -- What the bytes of a request for a WebSocket come to.
-use Rattle.std.specs.Prelude.{ℕ, ◌≡◌, ◌≤◌, ◌<◌, List, ◌++◌, length, take, drop, codes, Result, Ok, Err}
+use Rattle.std.specs.Prelude.{ℕ, ◌≡◌, ◌≤◌, ◌<◌, ⊤, List, ◌++◌, length, take, drop, codes, Result, Ok, Err}
 use Rattle.httparse.specs.Grammar.{RequestHead}
 use Rattle.http_head.specs.declared.parts.RequestParts.{RequestParts}
 use Rattle.http_head.specs.Requests.{ReadsPlain, ReadsRequestHead, BeginsRequest, IsNoRequest, request_fields}
@@ -32,6 +32,12 @@ AnswersKey (Ok key) len Begun = ⊥
 AnswersKey (Ok key) len (Upgrades accept size) =
     IsValidKey key × (accept ≡ accept_key_of key) × (size ≡ len)
 AnswersKey (Ok key) len (Refused why) = ¬ (IsValidKey key) × (why ≡ Bad)
+
+-- The head of a request that is accepted lies in the bytes.
+abbrev pub LiesIn : List ℕ → Judged → Type 0
+LiesIn bytes Begun = ⊤
+LiesIn bytes (Upgrades accept size) = size ≤ length bytes
+LiesIn bytes (Refused why) = ⊤
 
 -- The head of so many bytes is answered so.
 abbrev pub Answered : List ℕ → ℕ → Judged → Type 0

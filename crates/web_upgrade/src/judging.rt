@@ -1,10 +1,11 @@
 // The request that opens a WebSocket.
-ghost use Rattle.std.specs.Prelude.{◌≡◌, ◌≤◌, ◌++◌, IfOk, take};
-ghost use Rattle.web_upgrade.specs.Judging.{HasHead, Answered, Judges, accept_bytes};
+ghost use Rattle.std.specs.Prelude.{◌≡◌, IfOk, take};
+ghost use Rattle.http_head.specs.Requests.{ScansRequest};
+ghost use Rattle.web_upgrade.specs.Judging.{HasHead, Answered, Judges, LiesIn, accept_bytes};
 
 use crate::refusals::{Refusal, refusal_of};
 use cool_base::Memory;
-use http_head::{HEAD_LIMIT, MOST_LINES, Scan, scan_head};
+use http_head::{HEAD_LIMIT, MOST_LINES, RequestParts, Scan, scan_head};
 use httparse::Status;
 use httparse::spans::{EMPTY_HEADER_SPAN, parse_request};
 use std::alloc::Global;
@@ -24,7 +25,8 @@ pub enum Judged {
 // What is answered to the head of so many bytes.
 fn answer(front: &[u8], len: usize) -> Judged
     requires { HasHead front.now len }
-    ensures { Answered front.now len result }
+    ensures answered { Answered front.now len result }
+    ensures within { LiesIn front.now result }
 {
     let mut lines = [EMPTY_HEADER_SPAN; MOST_LINES];
     match parse_request(front, &mut lines) {
@@ -48,21 +50,37 @@ fn front_of(bytes: &[u8]) -> &[u8]
     }
 }
 
+// What bytes come to by the scan of their front.
+#[tactic(auto, using(crate::proofs::Answering::judgements))]
+fn judged(bytes: &[u8], front: &[u8], scan: &Scan<RequestParts>) -> Judged
+    requires front { front.now ≡ take HEAD_LIMIT bytes.now }
+    requires scans { ScansRequest front.now scan.now }
+    ensures judges { Judges bytes.now result }
+    ensures within { LiesIn front.now result }
+{
+    match scan {
+        Scan::Whole(_, len) => answer(front, *len),
+        Scan::Begun => {
+            if bytes.len() < HEAD_LIMIT {
+                Judged::Begun
+            } else {
+                Judged::Refused(Refusal::TooLong)
+            }
+        }
+        Scan::NoHead => Judged::Refused(Refusal::Bad),
+    }
+}
+
 /// Whether the bytes that came so far ask for a WebSocket. A head has at most `HEAD_LIMIT` bytes and
-/// `MOST_LINES` lines; what is behind it is not looked at.
+/// `MOST_LINES` lines, and lies in the bytes; what is behind it is not looked at.
+#[tactic(auto, using(crate::proofs::Answering::lies_in_all))]
 pub fn judge(alloc: Global, bytes: &[u8]) -> Result<Judged, Memory>
-    ensures { IfOk result (Judges bytes.now) }
+    ensures judges { IfOk result (Judges bytes.now) }
+    ensures within { IfOk result (LiesIn bytes.now) }
 {
     let front = front_of(bytes);
-    match scan_head(alloc, front)? {
-        Scan::Whole(_, len) => Ok(answer(front, len)),
-        Scan::Begun => Ok(if bytes.len() < HEAD_LIMIT {
-            Judged::Begun
-        } else {
-            Judged::Refused(Refusal::TooLong)
-        }),
-        Scan::NoHead => Ok(Judged::Refused(Refusal::Bad)),
-    }
+    let scan = scan_head(alloc, front)?;
+    Ok(judged(bytes, front, &scan))
 }
 
 /// The response that opens the WebSocket, with this value for the client's key.
