@@ -25,7 +25,7 @@ pub record IsHead (bytes : List ℕ) (len : ℕ) (h : RequestHead) : Type 0 wher
 abbrev pub asked_key : RequestHead → Result (List ℕ) HandshakeError
 asked_key h = requested_key h.method h.minor (request_fields h)
 
--- What is answered: a valid key is accepted by the value that RFC 6455 gives for it.
+-- What is answered: a valid key is accepted by the value that the protocol of WebSocket gives for it.
 abbrev pub AnswersKey : Result (List ℕ) HandshakeError → ℕ → Judged → Type 0
 AnswersKey (Err e) len judged = judged ≡ Refused (refusal_of e)
 AnswersKey (Ok key) len Begun = ⊥
