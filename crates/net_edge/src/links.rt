@@ -62,7 +62,7 @@ pub(crate) struct Links {
     told: VecDeque<Told>,
 }
 
-fn accepted(listener: &TcpListener) -> Accepted {
+fn next_stream(listener: &TcpListener) -> Accepted {
     match listener.accept() {
         Ok((stream, _)) => Accepted::Stream(stream),
         Err(error) => match error.kind() {
@@ -208,7 +208,7 @@ impl Links {
             let Some(listener) = &self.listener else {
                 return Ok(true);
             };
-            match accepted(listener) {
+            match next_stream(listener) {
                 Accepted::Stream(stream) => {
                     if !self.begin(registry, stream, now)? {
                         return Ok(false);

@@ -52,7 +52,7 @@ fn front_of(bytes: &[u8]) -> &[u8]
 
 // What bytes come to by the scan of their front.
 #[tactic(auto, using(crate::proofs::Answering::judgements))]
-fn judged(bytes: &[u8], front: &[u8], scan: &Scan<RequestParts>) -> Judged
+fn judged_by(bytes: &[u8], front: &[u8], scan: &Scan<RequestParts>) -> Judged
     requires front { front.now ≡ take HEAD_LIMIT bytes.now }
     requires scans { ScansRequest front.now scan.now }
     ensures judges { Judges bytes.now result }
@@ -80,7 +80,7 @@ pub fn judge(alloc: Global, bytes: &[u8]) -> Result<Judged, Memory>
 {
     let front = front_of(bytes);
     let scan = scan_head(alloc, front)?;
-    Ok(judged(bytes, front, &scan))
+    Ok(judged_by(bytes, front, &scan))
 }
 
 /// The response that opens the WebSocket, with this value for the client's key.
