@@ -50,7 +50,7 @@ answered front lines spans len room answer has enough finds x =
     let at = finds h (drop len front) plain.0 (omega (arith, few, enough)) in (
       h,
       (
-        record { within = has.0; reads = plain; lines = few },
+        record { within = has.0; reads = plain; lines = few; parts = has.1.0; said = has.1.1.1.1.1 },
         answers_key len (asked_key h) answer
             (subst (λ asked. Answers answer asked) (asked_at front lines spans h at) x),
       ),

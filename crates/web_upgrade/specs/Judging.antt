@@ -1,8 +1,8 @@
 -- What the bytes of a request for a WebSocket come to.
-use Rattle.std.specs.Prelude.{ℕ, ◌≡◌, ◌≤◌, ◌<◌, ⊤, List, ◌++◌, length, take, drop, codes, Result, Ok, Err}
+use Rattle.std.specs.Prelude.{ℕ, ◌≡◌, ◌≤◌, ◌<◌, ⊤, List, ◌++◌, length, take, drop, codes, Option, Some, Result, Ok, Err}
 use Rattle.httparse.specs.Grammar.{RequestHead}
 use Rattle.http_head.specs.declared.parts.RequestParts.{RequestParts}
-use Rattle.http_head.specs.Requests.{ReadsPlain, ReadsRequestHead, BeginsRequest, IsNoRequest, request_fields}
+use Rattle.http_head.specs.Requests.{ReadsPlain, ReadsRequestHead, BeginsRequest, IsNoRequest, request_fields, request_said}
 use Rattle.websocket.specs.Handshake.{requested_key, IsValidKey, accept_key_of}
 use Rattle.websocket.specs.declared.handshake.failure.HandshakeError.{HandshakeError}
 use Rattle.web_upgrade.specs.Refusals.{refusal_of}
@@ -15,11 +15,13 @@ abbrev pub HasHead : List ℕ → ℕ → Type 0
 HasHead bytes len =
     (len ≤ length bytes) × ((parts : RequestParts) × ReadsRequestHead bytes parts (drop len bytes))
 
--- It is this one, of at most 64 lines.
+-- It is this one, of at most 64 lines that don't contradict each other about the body.
 pub record IsHead (bytes : List ℕ) (len : ℕ) (h : RequestHead) : Type 0 where
   pub within : len ≤ length bytes
   pub reads : ReadsPlain bytes h (drop len bytes)
   pub lines : length h.fields ≤ 64
+  pub parts : RequestParts
+  pub said : request_said h ≡ Some parts
 
 -- The key of a head that asks for a WebSocket, or why it asks for none.
 abbrev pub asked_key : RequestHead → Result (List ℕ) HandshakeError
