@@ -29,9 +29,14 @@ front_grows n bytes more =
     longer : (m : List ℕ) → take n bytes ≡ take n (bytes ++ more) ++ m
         → (x : List ℕ) × (take n (bytes ++ more) ≡ take n bytes ++ x)
     longer [] e = ([], sym (append-nil (take n (bytes ++ more))) ∙ sym e ∙ sym (append-nil (take n bytes)))
-    longer (y ∷ m) e = absurd (omega (arith, ap (λ (l : List ℕ). length l) e,
-        length-append (take n (bytes ++ more)) (y ∷ m), length-append bytes more,
-        length-take n bytes, length-take n (bytes ++ more)))
+    longer (y ∷ m) e = absurd (omega (
+      arith,
+      ap (λ (l : List ℕ). length l) e,
+      length-append (take n (bytes ++ more)) (y ∷ m),
+      length-append bytes more,
+      length-take n bytes,
+      length-take n (bytes ++ more),
+    ))
 
 -- The head that is answered, as heads are read.
 head_of : (bytes : List ℕ) (len : ℕ) (h : RequestHead) (x : IsHead bytes len h)
@@ -63,52 +68,60 @@ long_stays bytes more b long begins (More is short x) =
 long_stays bytes more b long begins (Long is x y) = sym is
 long_stays bytes more b long begins (NoHead is none) =
     absurd (begun_not_none (take 16384 bytes) begins
-      (subst (λ f. IsNoRequest f) (take-append-le 16384 bytes more long) none))
+    (subst (λ f. IsNoRequest f) (take-append-le 16384 bytes more long) none))
 long_stays bytes more b long begins (Whole len (h, head, ans)) =
     absurd (whole_not_begun (take 16384 (bytes ++ more)) head.parts (drop len (take 16384 (bytes ++ more)))
-      (head_of _ len h head)
-      (subst (λ f. BeginsRequest f) (sym (take-append-le 16384 bytes more long)) begins))
+    (head_of _ len h head)
+    (subst (λ f. BeginsRequest f) (sym (take-append-le 16384 bytes more long)) begins))
 
 -- Bytes that begin no head stay so.
 none_answered : (bytes : List ℕ) (b : Judged) → IsNoRequest (take 16384 bytes) → Judges bytes b
     → Refused Bad ≡ b
 none_answered bytes b none (More is short x) =
     absurd (begun_not_none (take 16384 bytes)
-      (subst (λ f. BeginsRequest f) (sym (take_all 16384 bytes (omega (arith, short)))) x) none)
+    (subst (λ f. BeginsRequest f) (sym (take_all 16384 bytes (omega (arith, short)))) x) none)
 none_answered bytes b none (Long is x begins) = absurd (begun_not_none (take 16384 bytes) begins none)
 none_answered bytes b none (NoHead is x) = sym is
 none_answered bytes b none (Whole len (h, head, ans)) =
     absurd (whole_not_none (take 16384 bytes) head.parts (drop len (take 16384 bytes))
-      (head_of _ len h head) none)
+    (head_of _ len h head) none)
 
 -- A whole head at the front stays so, and is answered in one way.
 whole_answered : (bytes front x : List ℕ) (len : ℕ) (h : RequestHead) (a b : Judged)
     → take 16384 bytes ≡ front ++ x → IsHead front len h → AnswersKey (asked_key h) len a
     → Judges bytes b → a ≡ b
-whole_answered bytes front x len h a b is head ans (More as short begins) =
+whole_answered bytes front x len h a b is head ans (More it short begins) =
     absurd (whole_not_begun (front ++ x) head.parts (drop len front ++ x)
-      (request_stays front x head.parts (drop len front) (head_of front len h head))
-      (subst (λ f. BeginsRequest f) (sym (take_all 16384 bytes (omega (arith, short))) ∙ is) begins))
-whole_answered bytes front x len h a b is head ans (Long as long begins) =
+    (request_stays front x head.parts (drop len front) (head_of front len h head))
+    (subst (λ f. BeginsRequest f) (sym (take_all 16384 bytes (omega (arith, short))) ∙ is) begins))
+whole_answered bytes front x len h a b is head ans (Long it long begins) =
     absurd (whole_not_begun (front ++ x) head.parts (drop len front ++ x)
-      (request_stays front x head.parts (drop len front) (head_of front len h head))
-      (subst (λ f. BeginsRequest f) is begins))
-whole_answered bytes front x len h a b is head ans (NoHead as none) =
+    (request_stays front x head.parts (drop len front) (head_of front len h head))
+    (subst (λ f. BeginsRequest f) is begins))
+whole_answered bytes front x len h a b is head ans (NoHead it none) =
     absurd (whole_not_none (front ++ x) head.parts (drop len front ++ x)
-      (request_stays front x head.parts (drop len front) (head_of front len h head))
-      (subst (λ f. IsNoRequest f) is none))
+    (request_stays front x head.parts (drop len front) (head_of front len h head))
+    (subst (λ f. IsNoRequest f) is none))
 whole_answered bytes front x len h a b is head ans (Whole n (k, other, says)) =
     let reads : ReadsRequest (take 16384 bytes) h (drop len front ++ x) =
-        subst (λ f. ReadsRequest f h (drop len front ++ x)) (sym is)
-          (ReadsRequest-append front h (drop len front) x head.reads.0) in
+    subst (λ f. ReadsRequest f h (drop len front ++ x)) (sym is)
+    (ReadsRequest-append front h (drop len front) x head.reads.0) in
     let same = request_unique (take 16384 bytes) h k (drop len front ++ x) (drop n (take 16384 bytes))
-        reads other.reads.0 in
-    let size : n ≡ len = omega (arith, ap (λ (l : List ℕ). length l) same.1,
-        length-append (drop len front) x, length-drop len front, length-drop n (take 16384 bytes),
-        ap (λ (l : List ℕ). length l) is, length-append front x, head.within, other.within) in
+    reads other.reads.0 in
+    let size : n ≡ len = omega (
+      arith,
+      ap (λ (l : List ℕ). length l) same.1,
+      length-append (drop len front) x,
+      length-drop len front,
+      length-drop n (take 16384 bytes),
+      ap (λ (l : List ℕ). length l) is,
+      length-append front x,
+      head.within,
+      other.within,
+    ) in
     same_answer (asked_key h) len a b ans
-      (subst (λ m. AnswersKey (asked_key h) m b) size
-        (subst (λ r. AnswersKey (asked_key r) n b) (sym same.0) says))
+    (subst (λ m. AnswersKey (asked_key h) m b) size
+    (subst (λ r. AnswersKey (asked_key r) n b) (sym same.0) says))
 
 -- Once bytes are accepted or refused, they come to the same whatever follows.
 pub answer_stays : (bytes more : List ℕ) (a b : Judged) → Judges bytes a → (a ≡ Begun → ⊥)
@@ -118,7 +131,7 @@ answer_stays bytes more a b (Long is long begins) settled y = is ∙ long_stays 
 answer_stays bytes more a b (NoHead is none) settled y =
     let grown = front_grows 16384 bytes more in
     is ∙ none_answered (bytes ++ more) b
-      (subst (λ f. IsNoRequest f) (sym grown.1) (none_stays (take 16384 bytes) grown.0 none)) y
+    (subst (λ f. IsNoRequest f) (sym grown.1) (none_stays (take 16384 bytes) grown.0 none)) y
 answer_stays bytes more a b (Whole len (h, head, ans)) settled y =
     let grown = front_grows 16384 bytes more in
     whole_answered (bytes ++ more) (take 16384 bytes) grown.0 len h a b grown.1 head ans y
@@ -132,8 +145,8 @@ begun_answered bytes b short begins (NoHead is none) = absurd (begun_not_none by
     (subst (λ f. IsNoRequest f) (take_all 16384 bytes (omega (arith, short))) none))
 begun_answered bytes b short begins (Whole len (h, head, ans)) =
     absurd (whole_not_begun (take 16384 bytes) head.parts (drop len (take 16384 bytes))
-      (head_of _ len h head)
-      (subst (λ f. BeginsRequest f) (sym (take_all 16384 bytes (omega (arith, short)))) begins))
+    (head_of _ len h head)
+    (subst (λ f. BeginsRequest f) (sym (take_all 16384 bytes (omega (arith, short)))) begins))
 
 -- Bytes come to one thing.
 pub one_answer : (bytes : List ℕ) (a b : Judged) → Judges bytes a → Judges bytes b → a ≡ b
