@@ -11,7 +11,7 @@ use Rattle.websocket.specs.declared.handshake.failure.HandshakeError.{HandshakeE
 use Rattle.websocket.specs.Headers.{fields_of}
 use Rattle.websocket.specs.Handshake.{requested_key, Answers}
 use Rattle.web_upgrade.specs.Refusals.{refusal_of}
-use Rattle.web_upgrade.specs.Judging.{AnswersKey, asked_key, HasHead, Answered, Judges, More, Long, NoHead, Whole, LiesIn}
+use Rattle.web_upgrade.specs.Judging.{AnswersKey, asked_key, HasHead, IsHead, Answered, Judges, More, Long, NoHead, Whole, LiesIn}
 use Rattle.web_upgrade.specs.declared.refusals.Refusal.TheVariants.{Bad, TooLong}
 use Rattle.web_upgrade.specs.declared.judging.Judged.{Judged}
 use Rattle.web_upgrade.specs.declared.judging.Judged.TheVariants.{Begun, Upgrades, Refused}
@@ -45,15 +45,15 @@ pub answered : (front : List ℕ) (lines : List HeaderSpan) (spans : RequestSpan
     → Answered front len (judged_as len answer)
 answered front lines spans len room answer has enough finds x =
     let h = has.1.1.0 in
-    let plain = has.1.1.1.0 in
-    let few = has.1.1.1.1.0 in
-    let at = finds h (drop len front) plain.0 (omega (arith, few, enough)) in (
+    let plain = has.1.1.1 in
+    let few = has.1.1.2 in
+    let at = finds h (drop len front) plain.0 (omega (arith, few, enough)) in
+    let head : IsHead front len h =
+    record { within = has.0; reads = plain; lines = few; parts = has.1.0; said = has.1.1.3 } in (
       h,
-      (
-        record { within = has.0; reads = plain; lines = few; parts = has.1.0; said = has.1.1.1.1.1 },
-        answers_key len (asked_key h) answer
-            (subst (λ asked. Answers answer asked) (asked_at front lines spans h at) x),
-      ),
+      head,
+      answers_key len (asked_key h) answer
+          (subst (λ asked. Answers answer asked) (asked_at front lines spans h at) x),
     )
 
 -- A whole head at the front of the bytes.

@@ -1,5 +1,5 @@
 -- What bytes of a request come to stays whatever follows.
-use Rattle.std.proofs.Common.{◌≡◌, ◌∙◌, ap, refl, sym, subst, absurd, ℕ, ◌≤◌, ◌<◌, List, [], ◌∷◌, ◌++◌, length, take, drop, Result, Ok, Err, rules, arith, append_assoc, inl, inr}
+use Rattle.std.proofs.Common.{◌≡◌, ◌∙◌, ap, refl, sym, subst, ℕ, ◌≤◌, ◌<◌, List, [], ◌∷◌, ◌++◌, length, take, drop, Result, Ok, Err, rules, arith, append_assoc, inl, inr}
 use Rattle.std.proofs.lemmas.List.{append-nil, take-append-drop, take-append-le, take_all, length-append, length-take, length-drop}
 use Rattle.httparse.specs.Grammar.{RequestHead, ReadsRequest}
 use Rattle.httparse.proofs.GrammarLemmas.{request_unique, ReadsRequest-append}
@@ -50,8 +50,8 @@ same_answer (Err e) len a b x y = x ∙ sym y
 same_answer (Ok key) len Begun b x y = absurd x
 same_answer (Ok key) len (Upgrades c n) Begun x y = absurd y
 same_answer (Ok key) len (Upgrades c n) (Upgrades d m) x y =
-    let p : c ≡ d = x.1.0 ∙ sym y.1.0 in
-    let q : n ≡ m = x.1.1 ∙ sym y.1.1 in
+    let p : c ≡ d = x.1 ∙ sym y.1 in
+    let q : n ≡ m = x.2 ∙ sym y.2 in
     cc
 same_answer (Ok key) len (Upgrades c n) (Refused w) x y = absurd (y.0 x.0)
 same_answer (Ok key) len (Refused w) Begun x y = absurd y

@@ -73,7 +73,7 @@ fn judged_by(bytes: &[u8], front: &[u8], scan: &Scan<RequestParts>) -> Judged
 
 /// Whether the bytes that came so far ask for a WebSocket. A head has at most `HEAD_LIMIT` bytes and
 /// `MOST_LINES` lines, and lies in the bytes; what is behind it is not looked at.
-#[tactic(auto, using(crate::proofs::Answering::lies_in_all))]
+
 pub fn judge(alloc: Global, bytes: &[u8]) -> Result<Judged, Memory>
     ensures judges { IfOk result (Judges bytes.now) }
     ensures within { IfOk result (LiesIn bytes.now) }
