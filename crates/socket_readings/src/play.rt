@@ -6,7 +6,7 @@ use web_link::{Heard, WebLink};
 use web_upgrade::{Driven, Shake};
 
 /// How many bytes are printed at most.
-const SHOWN: usize = 240;
+const SHOWN: usize = 150;
 
 /// How far the link is.
 #[derive(Drop)]
