@@ -90,6 +90,7 @@ impl<S: Read + Write + Drop> WebLink<S> {
     ghost use Rattle.std.specs.Prelude.{◌≡◌, [], true, IfOk};
     ghost use Rattle.web_link.specs.Hearing.{HearsNext};
     ghost use Rattle.web_link.specs.Frames.{Sends, GivesNow, GivesFrame};
+    ghost use Rattle.web_link.specs.Pushing.{PushesOne, Pushes};
 
     /// The next message. A ping is answered; while a frame is on its way nothing is heard, so that a
     /// browser that doesn't read can't make pongs pile up. A browser that breaks a rule is told so, if
@@ -174,7 +175,10 @@ impl<S: Read + Write + Drop> WebLink<S> {
     }
 
     // The frame on its way goes on; where it has left, the first that waits is sent.
-    fn push_one(&mut self) -> Result<Pushed, Memory> {
+    fn push_one(&mut self) -> Result<Pushed, Memory>
+        ensures { IfOk result (λ pushed. PushesOne S.contents self.old.socket self.old.queue
+            pushed self.new.socket self.new.queue) }
+    {
         if !self.queue.is_busy() {
             return Ok(Pushed::Idle);
         }
@@ -192,9 +196,12 @@ impl<S: Read + Write + Drop> WebLink<S> {
         }
     }
 
-    /// Sends what waits, as far as the stream takes it. False where the link has ended.
-    pub fn push(&mut self) -> Result<bool, Memory> {
-        for _ in 0..usize::MAX {
+    /// Sends what waits, in order, as far as the stream takes it. False where the link has ended.
+    pub fn push(&mut self) -> Result<bool, Memory>
+        ensures { IfOk result (λ alive. Pushes S.contents self.old.socket self.old.queue
+            alive self.new.socket self.new.queue) }
+    {
+        loop {
             match self.push_one()? {
                 Pushed::More => {}
                 Pushed::Idle => return Ok(true),
@@ -202,6 +209,5 @@ impl<S: Read + Write + Drop> WebLink<S> {
                 Pushed::Ended => return Ok(false),
             }
         }
-        Ok(true)
     }
 }
