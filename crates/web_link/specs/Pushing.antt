@@ -26,8 +26,16 @@ StaysAlive Blocked alive = alive ≡ true
 StaysAlive Ended alive = alive ≡ false
 
 module _ {S : Type 0} where
-  -- None is on its way, and nothing happens. Else the one on its way goes on, and can't leave; or it has
-  -- left, and none waits; or it has left, and the first that waits is sent.
+  -- The first frame that waits is sent; or none waits, and nothing is sent.
+  pub data PushesNext (contents : S → Option (List ℕ)) (old : Socket S) (before : Queue)
+      (pushed : Pushed) (new : Socket S) (after : Queue) : Type 0 where
+    Empties : pushed ≡ Idle → Goes before None after → new ≡ old
+        → PushesNext contents old before pushed new after
+    Leaves : (frame : List ℕ) → Goes before (Some frame) after → Sends contents old frame pushed new
+        → PushesNext contents old before pushed new after
+
+  -- None is on its way, and nothing happens. Else the one on its way goes on: it can't leave now; or it
+  -- has left, and the next one goes.
   pub data PushesOne (contents : S → Option (List ℕ)) (old : Socket S) (before : Queue)
       (pushed : Pushed) (new : Socket S) (after : Queue) : Type 0 where
     Free : before.busy ≡ false → pushed ≡ Idle → new ≡ old → after ≡ before
@@ -35,16 +43,16 @@ module _ {S : Type 0} where
     Stops : (e : Error) (ending : Ending) → before.busy ≡ true → Flushed contents old new
         → IsIo e → EndsBy e ending → PushesEnd ending pushed → after ≡ before
         → PushesOne contents old before pushed new after
-    Empties : before.busy ≡ true → Flushed contents old new → new.output ≡ []
-        → Goes before None after → pushed ≡ Idle → PushesOne contents old before pushed new after
-    Leaves : (mid : Socket S) (frame : List ℕ) → before.busy ≡ true → Flushed contents old mid
-        → mid.output ≡ [] → Goes before (Some frame) after → Sends contents mid frame pushed new
+    Next : (mid : Socket S) → before.busy ≡ true → Flushed contents old mid → mid.output ≡ []
+        → PushesNext contents mid before pushed new after
         → PushesOne contents old before pushed new after
 
   -- The same up to where no more can leave now.
-  pub data Pushes (contents : S → Option (List ℕ)) (old : Socket S) (before : Queue) (alive : Bool)
-      (new : Socket S) (after : Queue) : Type 0 where
-    Last : (pushed : Pushed) → PushesOne contents old before pushed new after
-        → StaysAlive pushed alive → Pushes contents old before alive new after
-    Further : (mid : Socket S) (between : Queue) → PushesOne contents old before More mid between
-        → Pushes contents mid between alive new after → Pushes contents old before alive new after
+  pub data Pushes (contents : S → Option (List ℕ)) (alive : Bool) (new : Socket S) (after : Queue)
+      : Socket S → Queue → Type 0 where
+    Last : (old : Socket S) (before : Queue) (pushed : Pushed)
+        → PushesOne contents old before pushed new after → StaysAlive pushed alive
+        → Pushes contents alive new after old before
+    Further : (old mid : Socket S) (before between : Queue)
+        → PushesOne contents old before More mid between
+        → Pushes contents alive new after mid between → Pushes contents alive new after old before

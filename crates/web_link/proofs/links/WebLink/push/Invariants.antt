@@ -7,8 +7,8 @@ use Rattle.web_link.proofs.links.WebLink.push.Given as goal
 abbrev pub invariant-loop : goal.invariant-loop
 invariant-loop g l =
     (alive : Bool) (new : Socket g.row.S.Denot) (after : Queue)
-    → Pushes g.S.Write.contents l.self.socket l.self.queue alive new after
-    → Pushes g.S.Write.contents l.fn.self.socket l.fn.self.queue alive new after
+    → Pushes g.S.Write.contents alive new after l.self.socket l.self.queue
+    → Pushes g.S.Write.contents alive new after l.fn.self.socket l.fn.self.queue
 
 abbrev pub decreases-loop : goal.decreases-loop
 decreases-loop g l = length l.self.queue.waiting
