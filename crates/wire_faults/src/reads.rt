@@ -105,7 +105,7 @@ fn a_bad_byte_of_a_response_is_told_at_once(rt: HostRuntime) -> Result<(), Fail>
     assert!(rt; is_bad_response(alloc, b"HTTP/1.1 20x"));
     assert!(rt; is_bad_response(alloc, b"HTTP/1.1 2000"));
     assert!(rt; is_bad_response(alloc, b"HTTP/1.1 200 O\x00"));
-    assert!(rt; is_bad_response(alloc, b"HTTP/1.1 200\r\nA B"));
+    assert!(rt; is_bad_response(alloc, b"HTTP/1.1 200\r\nA "));
     assert!(rt; is_bad_response(alloc, b"HTTP/1.1 200\r\nA: b\x7f"));
     assert!(rt; is_bad_response(alloc, b"HTTP/1.1 200 OK\nA: b\n\r\r"));
     Ok(())
