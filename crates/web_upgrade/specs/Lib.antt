@@ -1,0 +1,4 @@
+pub mod Refusals
+pub mod Judging
+pub mod Stages
+pub mod Driving
