@@ -42,9 +42,7 @@ fn query(text: &str) -> Option<&str>
 fn token_word(query: &str) -> Option<&str>
     ensures { option_copied result ≡ token_word query.now }
 {
-    query
-        .split('&')
-        .find(|word| is_named(word, "access_token"))
+    query.split('&').find(|word| is_named(word, "access_token"))
 }
 
 fn token_value(query: &str) -> Option<&str>
