@@ -1,7 +1,7 @@
 -- Which file and which token the address of a load names.
 use Rattle.std.specs.Prelude.{ℕ, Bool, false, ◌&&◌, ◌==◌, List, ◌++◌, drop, codes, nat_eq}
 use Rattle.std.specs.Prelude.{bytes_eq, Option, None, Some, option_map, option_and_then, unwrap_or}
-use Rattle.std.specs.Prelude.{Result, Ok, Err, if◌then◌else◌}
+use Rattle.std.specs.Prelude.{Ok, Err, if◌then◌else◌}
 use Rattle.std.specs.List.{list_any, slice_split, starts_with}
 use Rattle.std.specs.Str.{is_utf8}
 use Rattle.percent_encoding.specs.Percent.{percent_decode}
