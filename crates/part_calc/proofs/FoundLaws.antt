@@ -314,3 +314,19 @@ kept_after part at raw kept roomy put tidied computed sorted is right stay room 
 -- room for more changes nothing that is kept
 pub kept_roomy : (part : Part) (kept roomy : Fates) → IsKept part kept → ((p : Position) → is_fresh kept p ≡ true → fate_in roomy p ≡ fate_in kept p) → IsKept part roomy
 kept_roomy part kept roomy is stay p kind = stay p (ap is_some (is p kind)) ∙ is p kind
+
+-- an insert at a cell for which nothing stands leaves what stands for others
+pub room_stays : (kept : Fates) (at : Position) (o : Option Value) → is_fresh kept at ≡ false → (p : Position) → is_fresh kept p ≡ true → fate_in (insert_entry position_cmp kept at o) p ≡ fate_in kept p
+room_stays kept at o absent p there = lookup_insert kept at o p ∙ by (is_at (position_cmp p) at) refl
+  where
+    by : (b : Bool) → is_at (position_cmp p) at ≡ b → cond b (Some o) (fate_in kept p) ≡ fate_in kept p
+    by true here = absurd (both_ways (is_fresh kept at) absent (ap (is_fresh kept) (sym (at_one p at here)) ∙ there))
+    by false here = refl
+
+-- where a cell has no formula, what stands for it can go
+pub tidied_stays : (part : Part) (kept : Fates) (at : Position) → is_formula (content_at part at) ≡ false → (p : Position) → is_formula (content_at part p) ≡ true → cond (is_at (position_cmp at) p) None (fate_in kept p) ≡ fate_in kept p
+tidied_stays part kept at plain p kind = by (is_at (position_cmp at) p) refl
+  where
+    by : (b : Bool) → is_at (position_cmp at) p ≡ b → cond b None (fate_in kept p) ≡ fate_in kept p
+    by true here = absurd (both_ways (is_formula (content_at part at)) plain (ap (λ (q : Position). is_formula (content_at part q)) (at_one at p here) ∙ kind))
+    by false here = refl

@@ -130,14 +130,15 @@ outside_removed (e ∷ part) all =
     cond-false (is_at (position_cmp (4096, 0)) e.0) part (e ∷ remove_entry (is_at (position_cmp (4096, 0))) part) (outside_differs e all.0)
     ∙ ap (λ (s : Part). e ∷ s) (outside_removed part all.1)
 
-outside_same : (part : Part) (raw : List ℕ) → IsPart part → raw ≡ [] → with_text part (4096, 0) raw ≡ part
+pub outside_same : (part : Part) (raw : List ℕ) → IsPart part → raw ≡ [] → with_text part (4096, 0) raw ≡ part
 unfolding with_text
 outside_same part raw kept none = ap (with_text part (4096, 0)) none ∙ outside_removed part kept.entries
 
--- what is kept of a part where a cell outside it is emptied
-pub kept_outside : {T E : Type 0} (cells edited : Part) (raw : List ℕ) (kept : Result T E) (entries : T → Fates) → IsPart cells → raw ≡ [] → edited ≡ with_text cells (4096, 0) raw → IfOk kept (λ s. IsKept edited (entries s)) → IfOk kept (λ s. IsKept cells (entries s))
-kept_outside cells edited raw (Ok s) entries part none is told = subst (λ (p : Part). IsKept p (entries s)) (is ∙ outside_same cells raw part none) told
-kept_outside cells edited raw (Err e) entries part none is told = tt
+-- an edit whose text found no room
+pub failed_put : (inside after : Part) (kept roomy : Fates) (index learned : Index) (long : ℕ) → after ≡ inside → IsPart inside × IsKept inside kept × (long ≡ length (part_lines 0 inside)) × Knows inside index → ((p : Position) → is_fresh kept p ≡ true → fate_in roomy p ≡ fate_in kept p) → IsGrown index learned
+    → IsPart after × IsKept after roomy × (long ≡ length (part_lines 0 after)) × Knows after learned
+failed_put inside after kept roomy index learned long same held stay grown =
+    subst (λ (s : Part). IsPart s × IsKept s roomy × (long ≡ length (part_lines 0 s)) × Knows s learned) (sym same) (failed_kept inside kept roomy index learned long held stay grown)
 
 -- a text that was put, or not
 pub added_kept : {T E : Type 0} (inside after : Part) (at : Position) (cell raw : List ℕ) (r : Result T E) → IsPart inside → at.0 < 4096 → at.1 < 256 → IsRaw raw → IsUtf8 raw → cell ≡ raw

@@ -1,4 +1,5 @@
 -- Lanes know which formulas name a cell.
+use Rattle.std.specs.Prelude.{Result, Ok, Err, OnOk, OnErr}
 use Rattle.std.proofs.Common.{◌≡◌, ◌⊎◌, ◌≢◌, ℕ, ◌+◌, ◌<◌, Bool, true, false, cond, not, ◌||◌, ◌&&◌, List, [], ◌∷◌, ◌++◌, length, take, get_or, Option, Some, None, Bor, refl, ap, sym, ◌∙◌, subst, ⊎_elim, unwrap_or, min, max, nat_le, eqb, leb-true, arith}
 use Rattle.std.specs.BTreeMap.{is_at, insert_entry}
 use Rattle.std.specs.List.{list_any, filter}
@@ -24,7 +25,7 @@ use Rattle.part_calc.specs.Fates.{Fates, is_fresh}
 use Rattle.part_calc.specs.Parts.{Part, text_at, content_at, reads_at, with_text}
 use Rattle.part_calc.specs.Walking.{IsReached}
 use Rattle.part_calc.proofs.ListLaws.{listed_fold}
-use Rattle.part_calc.proofs.PositionLaws.{at_one, at_itself, at_other}
+use Rattle.part_calc.proofs.PositionLaws.{at_one, at_itself, at_flip, lookup_insert}
 use Rattle.part_calc.proofs.TextLaws.{empty_content, text_same, text_other}
 
 -- ---- what is named is within a block
@@ -158,6 +159,11 @@ push_there before after block reader s is_block_of is_reader_of put b same =
     (or_left (is_span block reader s) false
     (and_from (is_block block s.block) (is_at (position_cmp reader) s.reader) (ap (is_block block) is_block_of ∙ block_itself block) (ap (is_at (position_cmp reader)) is_reader_of ∙ at_itself reader)))
 
+pub push_added : (before after : Index) (block : Block) (reader lane : Position) → lane ≡ lane_of block → ((q : Position) → spans_in after q ≡ cond (is_at (position_cmp q) lane) (spans_in before q ++ record { block = block; reader = reader } ∷ []) (spans_in before q)) → (b : Block) → is_block b block ≡ true → has_span after b reader ≡ true
+push_added before after block reader lane is put =
+    push_there before after block reader (record { block = block; reader = reader }) refl refl
+    (λ q. put q ∙ ap (λ (l : Position). cond (is_at (position_cmp q) l) (spans_in before q ++ record { block = block; reader = reader } ∷ []) (spans_in before q)) is)
+
 pub grown_both : (a b c : Index) → IsGrown a b → IsGrown b c → IsGrown a c
 grown_both a b c first second block reader has = second block reader (first block reader has)
 
@@ -216,6 +222,13 @@ clear_stays before after block reader staying absent cleared b c has stays = ap 
     by true = any_filter (is_span b c) (λ s. not (is_span block reader s)) (spans_in before (lane_of b)) another has
     by false = has
 
+pub cleared_stays : (before after : Index) (block : Block) (reader lane : Position) (staying : List Block) → lane ≡ lane_of block → list_any (is_block block) staying ≡ false
+    → ((q : Position) → spans_in after q ≡ cond (is_at (position_cmp q) lane) (filter (λ s. not (is_span block reader s)) (spans_in before q)) (spans_in before q))
+    → (b : Block) (c : Position) → has_span before b c ≡ true → (not (is_at (position_cmp c) reader) || list_any (is_block b) staying) ≡ true → has_span after b c ≡ true
+cleared_stays before after block reader lane staying is absent cleared =
+    clear_stays before after block reader staying absent
+    (λ q. cleared q ∙ ap (λ (l : Position). cond (is_at (position_cmp q) l) (filter (λ s. not (is_span block reader s)) (spans_in before q)) (spans_in before q)) is)
+
 -- ---- the cells of a part, one after another
 
 -- what is known so far: each block that is named stands in its lane, or is of a cell to come
@@ -271,3 +284,59 @@ formula_there part p raw is = ap (λ (o : Option (List ℕ)). is_formula (conten
 pub no_formula_there : (part : Part) (p : Position) → lookup (is_at (position_cmp p)) part ≡ None → false ≡ is_formula (content_at part p)
 unfolding text_at
 no_formula_there part p is = ap is_formula (sym empty_content) ∙ ap (λ (o : Option (List ℕ)). is_formula (content_of (unwrap_or o []))) (sym is)
+
+-- ---- a lane that is written
+
+pub spans_found : (index : Index) (lane : Position) (x : List Span) → lookup (is_at (position_cmp lane)) index ≡ Some x → spans_in index lane ≡ x
+unfolding spans_in
+spans_found index lane x is = ap (λ (o : Option (List Span)). unwrap_or o []) is
+
+pub spans_none : (index : Index) (lane : Position) → lookup (is_at (position_cmp lane)) index ≡ None → spans_in index lane ≡ []
+unfolding spans_in
+spans_none index lane is = ap (λ (o : Option (List Span)). unwrap_or o []) is
+
+-- the spans of each lane once those of one were changed
+pub spans_changed : (f : List Span → List Span) (before after : Index) (lane : Position) (w : List Span) → w ≡ f (spans_in before lane) → ((q : Position) → lookup (is_at (position_cmp q)) after ≡ cond (is_at (position_cmp lane) q) (Some w) (lookup (is_at (position_cmp q)) before))
+    → (q : Position) → spans_in after q ≡ cond (is_at (position_cmp q) lane) (f (spans_in before q)) (spans_in before q)
+unfolding spans_in
+spans_changed f before after lane w is written q =
+    ap (λ (o : Option (List Span)). unwrap_or o []) (written q)
+    ∙ ap (λ (b : Bool). unwrap_or (cond b (Some w) (lookup (is_at (position_cmp q)) before)) []) (at_flip lane q)
+    ∙ by (is_at (position_cmp q) lane) refl
+  where
+    by : (b : Bool) → is_at (position_cmp q) lane ≡ b → unwrap_or (cond b (Some w) (lookup (is_at (position_cmp q)) before)) [] ≡ cond b (f (unwrap_or (lookup (is_at (position_cmp q)) before) [])) (unwrap_or (lookup (is_at (position_cmp q)) before) [])
+    by true at = is ∙ ap (λ (r : Position). f (unwrap_or (lookup (is_at (position_cmp r)) before) [])) (sym (at_one q lane at))
+    by false at = refl
+
+-- where a lane has none, nothing is taken out
+pub clear_none : (test : Span → Bool) (index : Index) (lane : Position) → lookup (is_at (position_cmp lane)) index ≡ None → (q : Position) → spans_in index q ≡ cond (is_at (position_cmp q) lane) (filter test (spans_in index q)) (spans_in index q)
+clear_none test index lane none q = by (is_at (position_cmp q) lane) refl
+  where
+    by : (b : Bool) → is_at (position_cmp q) lane ≡ b → spans_in index q ≡ cond b (filter test (spans_in index q)) (spans_in index q)
+    by true at =
+        let empty = ap (spans_in index) (at_one q lane at) ∙ spans_none index lane none in
+        empty ∙ sym (ap (filter test) empty)
+    by false at = refl
+
+-- the spans of each lane once one had what it had
+pub spans_same : (before after : Index) (lane : Position) (w : List Span) → w ≡ spans_in before lane → ((q : Position) → lookup (is_at (position_cmp q)) after ≡ cond (is_at (position_cmp lane) q) (Some w) (lookup (is_at (position_cmp q)) before)) → (q : Position) → spans_in after q ≡ spans_in before q
+spans_same before after lane w is written q = spans_changed (λ x. x) before after lane w is written q ∙ same (is_at (position_cmp q) lane) (spans_in before q)
+  where
+    same : (b : Bool) (x : List Span) → cond b x x ≡ x
+    same true x = refl
+    same false x = refl
+
+-- a lane that is made for one span
+pub spans_made : (before after : Index) (lane : Position) (s : Span) (w : List Span) → lookup (is_at (position_cmp lane)) before ≡ None → w ≡ [] ++ s ∷ [] → after ≡ insert_entry position_cmp before lane w → (q : Position) → spans_in after q ≡ cond (is_at (position_cmp q) lane) (spans_in before q ++ s ∷ []) (spans_in before q)
+spans_made before after lane s w none is made =
+    spans_changed (λ x. x ++ s ∷ []) before after lane w (is ∙ ap (λ (x : List Span). x ++ s ∷ []) (sym (spans_none before lane none)))
+    (λ q. ap (λ (es : Index). lookup (is_at (position_cmp q)) es) made ∙ lookup_insert before lane w q ∙ ap (λ (b : Bool). cond b (Some w) (lookup (is_at (position_cmp q)) before)) (at_flip q lane))
+
+-- facts of a call that succeeded, and of one that failed
+pub on_ok : {T E : Type 0} (A B : Type 0) (r : Result T E) → (A → B) → OnOk r A → OnOk r B
+on_ok A B (Ok x) f h = f h
+on_ok A B (Err e) f h = tt
+
+pub on_err : {T E : Type 0} (A B : Type 0) (r : Result T E) → (A → B) → OnErr r A → OnErr r B
+on_err A B (Ok x) f h = tt
+on_err A B (Err e) f h = f h

@@ -14,3 +14,4 @@ pub mod KeptLaws
 pub mod LengthLaws
 pub mod EditLengths
 pub mod ReaderLaws
+pub mod EditLaws

@@ -3,7 +3,4 @@ use Rattle.part_calc.proofs.FoundLaws.{IsGathered}
 use Rattle.part_calc.proofs.recalculation.gather.Given as goal
 
 abbrev pub invariant-loop-position : goal.invariant-loop-position
-invariant-loop-position l =
-    (goal.iterator-loop-position).can_next l.position-iterator ×
-    (goal.iterator-loop-position).is_finite l.position-iterator ×
-    IsGathered l.fn.fates.items l.kept.entries (into_iter_items l.position-iterator)
+invariant-loop-position l = IsGathered l.fn.fates.items l.kept.entries (into_iter_items l.position-iterator)
