@@ -1,5 +1,5 @@
 -- The walk along readers: what each visit leaves of its state.
-use Rattle.std.proofs.Common.{◌≡◌, ◌⊎◌, ℕ, ◌+◌, ◌<◌, Bool, true, false, cond, not, ◌||◌, ◌&&◌, List, [], ◌∷◌, ◌++◌, length, take, get_or, Option, Some, None, refl, ap, sym, ◌∙◌, subst, ⊎_elim, unwrap_or}
+use Rattle.std.proofs.Common.{◌≡◌, ◌⊎◌, ℕ, ◌+◌, ◌<◌, Bool, true, false, cond, not, ◌||◌, ◌&&◌, List, [], ◌∷◌, ◌++◌, length, take, get_or, Option, Some, None, refl, ap, sym, ◌∙◌, subst, ⊎_elim, unwrap_or, arith}
 use Rattle.std.specs.BTreeMap.{is_at}
 use Rattle.std.specs.List.{list_any}
 use Rattle.std.specs.Option.{is_some}
@@ -237,3 +237,24 @@ walk_enter index starts fresh after visits next ordered p absent is pushed walk 
         ap (λ (x : Bool). x || list_any (enters c) next) (entered_fresh fresh after p is c)
         ∙ ap (λ (x : Bool). (is_at (position_cmp c) p || is_fresh fresh c) || x) (pushed.enter c ∙ ap (λ (x : Bool). x || is_reader index p c) (list_any-append (enters c) visits (leaving p ∷ [])))
         ∙ ways (is_fresh fresh c) (list_any (enters c) visits) (is_at (position_cmp c) p) (is_reader index p c) (ap (λ (x : Bool). is_fresh fresh c || x) (sym (one_more visits p c)) ∙ h)
+
+-- a visit that leaves, and one that enters
+leaving_is : (v : Visit) → v.is_left ≡ true → v ≡ leaving v.position
+leaving_is v e = ap (λ (b : Bool). record { position = v.position; is_left = b }) e
+
+entering_is : (v : Visit) → v.is_left ≡ false → v ≡ entering v.position
+entering_is v e = ap (λ (b : Bool). record { position = v.position; is_left = b }) e
+
+pub take_leave : (index : Index) (starts : Position → Bool) (fresh : Fates) (visits : List Visit) (ordered after : List Position) (v : Visit) → v.is_left ≡ true → after ≡ ordered ++ v.position ∷ [] → IsWalk index starts fresh (visits ++ v ∷ []) ordered → IsWalk index starts fresh visits after
+take_leave index starts fresh visits ordered after v left is walk =
+    walk_leave index starts fresh visits ordered after v.position is (subst (λ (w : Visit). IsWalk index starts fresh (visits ++ w ∷ []) ordered) (leaving_is v left) walk)
+
+pub take_enter : (index : Index) (starts : Position → Bool) (fresh : Fates) (visits : List Visit) (ordered : List Position) (v : Visit) → v.is_left ≡ false → IsWalk index starts fresh (visits ++ v ∷ []) ordered → IsWalk index starts fresh (visits ++ entering v.position ∷ []) ordered
+take_enter index starts fresh visits ordered v enters_it walk = subst (λ (w : Visit). IsWalk index starts fresh (visits ++ w ∷ []) ordered) (entering_is v enters_it) walk
+
+no_more : (visits : List Visit) → length visits ≡ 0 → visits ≡ []
+no_more [] h = refl
+no_more (v ∷ visits) h = absurd (omega (arith, h))
+
+pub walk_end : (index : Index) (starts : Position → Bool) (fresh : Fates) (visits : List Visit) (ordered turned : List Position) → length visits ≡ 0 → ((p : Position) → is_listed turned p ≡ is_listed ordered p) → IsWalk index starts fresh visits ordered → IsReached index starts fresh turned
+walk_end index starts fresh visits ordered turned none same walk = walk_last index starts fresh visits ordered turned (no_more visits none) same walk

@@ -1,9 +1,10 @@
 //! The cells that an edit can change: a walk from cells to the cells that read them.
-ghost use Rattle.std.specs.Prelude.{◌≡◌, ◌++◌, ◌∷◌, [], Bool, List, IfOk, OnOk};
+ghost use Rattle.std.specs.Prelude.{◌≡◌, ◌++◌, ◌∷◌, [], Bool, List, Some, None, IfOk, OnOk, if◌then◌else◌};
 ghost use Rattle.std.specs.BTreeMap.{is_at};
 ghost use Rattle.std.specs.List.{list_any};
 ghost use Rattle.formula_base.specs.Blocks.{is_within};
 ghost use Rattle.formula_base.specs.Ranges.{Position, position_cmp};
+ghost use Rattle.part_calc.specs.Fates.{fate_in, is_fresh};
 ghost use Rattle.part_calc.specs.Finding.{is_listed};
 ghost use Rattle.part_calc.specs.Lanes.{is_read, is_reader, spans_in};
 ghost use Rattle.part_calc.specs.Walking.{entering, leaving, enters, leaves, IsPushed, IsWalk, IsReached};
@@ -128,7 +129,8 @@ fn enter(
 ) -> Result<(), Memory>
     ensures { OnOk result ((starts : Position → Bool) (ordered : List Position) → IsWalk index.now.entries starts fresh.old.entries (visits.old.items ++ entering position ∷ []) ordered → IsWalk index.now.entries starts fresh.new.entries visits.new.items ordered) }
 {
-    if fresh.insert(position, None)?.is_some() {
+    let was_entered = mark(fresh, position)?;
+    if was_entered {
         return Ok(());
     }
     visits.push(Visit {
@@ -137,6 +139,18 @@ fn enter(
     })?;
     push_readers(index, visits, position)?;
     Ok(())
+}
+
+// Notes that a cell is entered, and answers whether it was before.
+fn mark(
+    fresh: &mut BTreeMap<(u32, u32), Option<Value>>,
+    position: (u32, u32),
+) -> Result<bool, Memory>
+    ensures marked { OnOk result ((q : Position) → fate_in fresh.new.entries q ≡ (if is_at (position_cmp q) position then Some None else fate_in fresh.old.entries q)) }
+    ensures before { IfOk result (λ was. was ≡ is_fresh fresh.old.entries position) }
+{
+    let before = fresh.insert(position, None)?;
+    Ok(before.is_some())
 }
 
 // Lets the cells that read a cell be entered later.

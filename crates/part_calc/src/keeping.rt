@@ -111,9 +111,10 @@ fn put_fate(kept: &mut Fates, position: (u32, u32), fate: Kept)
 pub fn tidy(kept: &mut Fates, cells: &BTreeMap<(u32, u32), Cell>, at: (u32, u32))
     ensures { (p : Position) → is_formula (content_at cells.now.entries p) ≡ true → fate_in kept.new.entries p ≡ fate_in kept.old.entries p }
 {
-    if !has_formula(cells, at) {
-        let _ = kept.remove(&at);
+    if has_formula(cells, at) {
+        return;
     }
+    let _ = kept.remove(&at);
 }
 
 // Whether the cell at a position has a formula.

@@ -200,9 +200,10 @@ pub fn forget(index: &mut Index, blocks: &[Block], reader: (u32, u32), staying: 
 fn forget_block(index: &mut Index, block: Block, reader: (u32, u32), staying: &[Block])
     ensures { (b : BlockAt) (c : Position) → has_span index.old.entries b c ≡ true → (not (is_at (position_cmp c) reader) || list_any (is_block b) staying.now) ≡ true → has_span index.new.entries b c ≡ true }
 {
-    if !is_among(staying, block) {
-        clear(index, lane_of(block), block, reader);
+    if is_among(staying, block) {
+        return;
     }
+    clear(index, lane_of(block), block, reader);
 }
 
 // Takes a block of a cell out of a lane.

@@ -3,7 +3,7 @@ use Rattle.part_calc.specs.Fates.{Fates, fate_in}
 use Rattle.part_calc.proofs.FoundLaws.{tidied_stays}
 use Rattle.part_calc.proofs.keeping.tidy.Goals as goal
 
-pub returns-then-not-has_formula : goal.returns-then-not-has_formula
-returns-then-not-has_formula c = λ p kind.
+pub returns : goal.returns
+returns c = λ p kind.
     c.remove.ensures.updates.0 p
-    ∙ tidied_stays c.args.cells.now.entries c.args.kept.now.entries c.args.at (sym c.has_formula.ensures ∙ c.if-not-has_formula.true) p kind
+    ∙ tidied_stays c.args.cells.now.entries c.args.kept.now.entries c.args.at (sym c.has_formula.ensures ∙ c.if-has_formula.false) p kind
