@@ -14,7 +14,7 @@ ghost use Rattle.part_calc.specs.Lanes.{Knows};
 ghost use Rattle.part_calc.specs.Fates.{IsKept, IsComputed, IsRight, fate_at, fate_in, text_shown};
 
 use crate::contents::Cell;
-use crate::dependants::{Reached, follow, follow_all};
+use crate::dependants::{follow, follow_all};
 use crate::edited::Edited;
 use crate::finding::find_values;
 use crate::lanes::Index;
@@ -55,10 +55,10 @@ pub fn recalculate(
     ensures changed { IfOk result (λ r. r.changed ≡ changed_cells cells.now.entries (with_text cells.now.entries at cell.now)) }
 {
     let _count = cells.len();
-    let Reached { fresh, ordered } = follow(alloc, index, at)?;
+    let reached = follow(alloc, index, at)?;
     let edited = Edited::of(cells, at, cell);
-    let fresh = find_values(alloc, &edited, kept, fresh, ordered)?;
-    let fates = seal(alloc, fresh)?;
+    let found = find_values(alloc, &edited, kept, reached.fresh, reached.ordered)?;
+    let fates = seal(alloc, found)?;
     let changed = changes(alloc, cells, kept, &edited, fates.as_slice())?;
     Ok(Recalculated { fates, changed })
 }
@@ -91,10 +91,10 @@ fn computed_with(
     let concerned = positions(alloc, cells, OUTSIDE)?;
     let edited = Edited::of(cells, OUTSIDE, none);
     let computed = formulas(alloc, &edited, concerned.as_slice())?;
-    let Reached { fresh, ordered } = follow_all(alloc, index, computed.as_slice())?;
+    let reached = follow_all(alloc, index, computed.as_slice())?;
     let before = BTreeMap::new(alloc);
-    let fresh = find_values(alloc, &edited, &before, fresh, ordered)?;
-    let fates = seal(alloc, fresh)?;
+    let found = find_values(alloc, &edited, &before, reached.fresh, reached.ordered)?;
+    let fates = seal(alloc, found)?;
     gather(alloc, fates)
 }
 

@@ -1,6 +1,10 @@
 use Rattle.std.proofs.Common.{refl}
 use Rattle.part_calc.proofs.KeptLaws.{put_kept, set_kept, failed_kept, failed_put, set_exactly, set_in_order, set_there, set_elsewhere}
+use Rattle.part_calc.proofs.KnowLaws.{knows_grown}
 use Rattle.part_calc.proofs.part.Part.set.Goals as goal
+
+pub recalculate-requires-clause-knows : goal.recalculate-requires-clause-knows
+recalculate-requires-clause-knows c = knows_grown c.self.inside.cells.entries c.self.inside.index.entries c.learn.new.index.entries c.self.invariant.3 c.learn.ensures.grown
 
 pub invariant_of-self : goal.invariant_of-self
 invariant_of-self c =
