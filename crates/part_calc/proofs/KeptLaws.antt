@@ -88,14 +88,14 @@ pub set_kept : (inside after : Part) (at : Position) (cell raw : List ℕ) (kept
 set_kept inside after at cell raw kept roomy put tidied computed index learned forgotten long part is knows row column valid utf8 same there sorted told right stay room over tidy grown added forget = (
   put_kept inside after at cell raw part row column valid utf8 same there sorted,
   subst (λ (s : Part). IsKept s tidied) (sym there)
-  (kept_after inside at cell kept roomy put tidied computed part.ordered is right stay
-  (λ kind. room (ap (λ (r : List ℕ). is_formula (content_of r)) (sym (text_same inside at cell part.ordered)) ∙ kind))
-  (formula_elsewhere inside at cell part.ordered) over
-  (λ p kind. tidy p (ap (λ (s : Part). is_formula (content_at s p)) there ∙ kind))),
+      (kept_after inside at cell kept roomy put tidied computed part.ordered is right stay
+      (λ kind. room (ap (λ (r : List ℕ). is_formula (content_of r)) (sym (text_same inside at cell part.ordered)) ∙ kind))
+      (formula_elsewhere inside at cell part.ordered) over
+      (λ p kind. tidy p (ap (λ (s : Part). is_formula (content_at s p)) there ∙ kind))),
   told ∙ ap (λ (r : List ℕ). length (part_lines 0 (with_text inside at r))) (sym same) ∙ ap (λ (s : Part). length (part_lines 0 s)) (sym there),
   subst (λ (s : Part). Knows s forgotten) (sym there)
-  (knows_after inside at cell index learned forgotten part.ordered knows grown added
-  (λ b c has stays. forget b c has (ap (λ (s : Part). not (is_at (position_cmp c) at) || list_any (is_block b) (blocks_in (content_at s at))) there ∙ stays))),
+      (knows_after inside at cell index learned forgotten part.ordered knows grown added
+      (λ b c has stays. forget b c has (ap (λ (s : Part). not (is_at (position_cmp c) at) || list_any (is_block b) (blocks_in (content_at s at))) there ∙ stays))),
 )
 
 -- an edit that failed

@@ -46,11 +46,7 @@ pub fn follow(alloc: Global, index: &Index, at: (u32, u32)) -> Result<Reached, M
 }
 
 /// Some cells, and those that are affected by an edit of one of them.
-pub fn follow_all(
-    alloc: Global,
-    index: &Index,
-    starts: &[(u32, u32)],
-) -> Result<Reached, Memory>
+pub fn follow_all(alloc: Global, index: &Index, starts: &[(u32, u32)]) -> Result<Reached, Memory>
     ensures { IfOk result (λ r. IsReached index.now.entries (is_listed starts.now) r.fresh.entries r.ordered.items) }
 {
     let visits = entered(alloc, starts)?;
@@ -154,11 +150,7 @@ fn mark(
 }
 
 // Lets the cells that read a cell be entered later.
-fn push_readers(
-    index: &Index,
-    visits: &mut Vec<Visit>,
-    position: (u32, u32),
-) -> Result<(), Memory>
+fn push_readers(index: &Index, visits: &mut Vec<Visit>, position: (u32, u32)) -> Result<(), Memory>
     ensures { OnOk result (IsPushed visits.old.items visits.new.items (is_reader index.now.entries position)) }
 {
     push_lane(index, visits, position, position)?;
@@ -185,11 +177,7 @@ fn push_lane(
 }
 
 // The same of some spans.
-fn push_spans(
-    visits: &mut Vec<Visit>,
-    spans: &[Span],
-    position: (u32, u32),
-) -> Result<(), Memory>
+fn push_spans(visits: &mut Vec<Visit>, spans: &[Span], position: (u32, u32)) -> Result<(), Memory>
     ensures { OnOk result (IsPushed visits.old.items visits.new.items (is_read spans.now position)) }
 {
     for span in spans {

@@ -167,12 +167,7 @@ fn attempt_formula(
 }
 
 // Whether each of the cells is seen.
-fn are_seen(
-    edited: &Edited<'_>,
-    kept: &Fates,
-    fresh: &Fresh,
-    positions: &[(u32, u32)],
-) -> bool
+fn are_seen(edited: &Edited<'_>, kept: &Fates, fresh: &Fresh, positions: &[(u32, u32)]) -> bool
     ensures { result ≡ list_all (λ r. is_some (seen_at edited.now (found_over fresh.now.entries kept.now.entries) r)) positions.now }
 {
     positions

@@ -13,7 +13,7 @@ ghost use Rattle.part_calc.specs.Fates.{fate_in, is_fresh, put_over};
 
 use crate::contents::{Cell, Content};
 use crate::lanes::{Index, add, forget};
-use crate::shown::{Kept, Fates};
+use crate::shown::{Fates, Kept};
 use cool_base::Memory;
 use formula_base::Block;
 use std::alloc::Global;
@@ -60,12 +60,7 @@ fn blocks_at<'a>(cells: &'a BTreeMap<(u32, u32), Cell>, at: (u32, u32)) -> &'a [
 }
 
 /// Makes room for what becomes of a cell, where it is a formula. All that stands for others stays.
-pub fn make_room(
-    alloc: Global,
-    kept: &mut Fates,
-    at: (u32, u32),
-    cell: &Cell,
-) -> Result<(), Memory>
+pub fn make_room(alloc: Global, kept: &mut Fates, at: (u32, u32), cell: &Cell) -> Result<(), Memory>
     ensures stay { (p : Position) → is_fresh kept.old.entries p ≡ true → fate_in kept.new.entries p ≡ fate_in kept.old.entries p }
     ensures there { OnOk result (is_formula (content_of cell.now) ≡ true → is_fresh kept.new.entries at ≡ true) }
 {

@@ -73,11 +73,7 @@ impl Part {
     }
 
     // The part of these cells, where `fates` is what becomes of their formulas.
-    pub(crate) fn of(
-        cells: BTreeMap<(u32, u32), Cell>,
-        fates: Fates,
-        index: Index,
-    ) -> Part
+    pub(crate) fn of(cells: BTreeMap<(u32, u32), Cell>, fates: Fates, index: Index) -> Part
         requires cells { IsPart cells.entries }
         requires kept { IsKept cells.entries fates.entries }
         requires knows { Knows cells.entries index.entries }
@@ -116,14 +112,7 @@ impl Part {
         let cell = Cell::of(alloc, raw)?;
         let kept = edited_len(&self.cells, self.kept, at, raw);
         learn(alloc, &mut self.index, &self.cells, at, &cell)?;
-        let found = recalculate(
-            alloc,
-            &self.cells,
-            &self.fates,
-            &self.index,
-            at,
-            &cell,
-        )?;
+        let found = recalculate(alloc, &self.cells, &self.fates, &self.index, at, &cell)?;
         make_room(alloc, &mut self.fates, at, &cell)?;
         let before = put(&mut self.cells, at, cell)?;
         unlearn(&mut self.index, before, &self.cells, at);

@@ -19,7 +19,7 @@ use crate::edited::Edited;
 use crate::finding::find_values;
 use crate::lanes::Index;
 use crate::positions::{formulas, positions};
-use crate::shown::{Kept, Fates, cell_text, seal};
+use crate::shown::{Fates, Kept, cell_text, seal};
 use cool_base::{ListOf, Memory};
 use sheet_cells::ROWS;
 use std::alloc::Global;
@@ -154,11 +154,7 @@ fn is_changed(
     requires after { IsRight edited.now item.now }
     ensures { result ≡ differs cells.now.entries edited.now item.now.0 }
 {
-    is_other_text(
-        old_text(cells, kept, item.0),
-        edited.cell(item.0),
-        &item.1,
-    )
+    is_other_text(old_text(cells, kept, item.0), edited.cell(item.0), &item.1)
 }
 
 // Whether a cell shows another text than this one, given what becomes of its formula.
