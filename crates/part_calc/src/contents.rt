@@ -71,7 +71,7 @@ impl Cell {
     }
 
     /// The blocks of cells that it names.
-    pub fn blocks(&self) -> &[Block]
+    pub fn named_blocks(&self) -> &[Block]
         ensures { result.now ≡ blocks_in (content_of self.now) }
     {
         self.blocks.as_slice()

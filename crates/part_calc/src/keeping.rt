@@ -32,7 +32,7 @@ pub fn learn(
     ensures added { OnOk result ((b : BlockAt) → list_any (is_block b) (blocks_in (content_of cell.now)) ≡ true → has_span index.new.entries b at ≡ true) }
 {
     let present = blocks_at(cells, at);
-    add(alloc, index, cell.blocks(), at, present)
+    add(alloc, index, cell.named_blocks(), at, present)
 }
 
 /// Takes out the blocks that a cell of a part named before, and that it doesn't name now.
@@ -45,7 +45,7 @@ pub fn unlearn(
     ensures { (b : BlockAt) (c : Position) → has_span index.old.entries b c ≡ true → (not (is_at (position_cmp c) at) || list_any (is_block b) (blocks_in (content_at cells.now.entries at))) ≡ true → has_span index.new.entries b c ≡ true }
 {
     if let Some(before) = before {
-        forget(index, before.blocks(), at, blocks_at(cells, at));
+        forget(index, before.named_blocks(), at, blocks_at(cells, at));
     }
 }
 
@@ -54,7 +54,7 @@ fn blocks_at<'a>(cells: &'a BTreeMap<(u32, u32), Cell>, at: (u32, u32)) -> &'a [
     ensures { result.now ≡ blocks_in (content_at cells.now.entries at) }
 {
     match cells.get(&at) {
-        Some(cell) => cell.blocks(),
+        Some(cell) => cell.named_blocks(),
         None => &[],
     }
 }

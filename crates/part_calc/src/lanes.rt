@@ -70,22 +70,22 @@ impl Lane {
         Ok(())
     }
 
-    // Takes out the block of a cell.
-    fn forget(&mut self, block: Block, reader: (u32, u32))
-        ensures { self.new ≡ filter (λ s. not (is_span block reader s)) self.old }
+    // Takes out a span.
+    fn forget(&mut self, gone: &Span)
+        ensures { self.new ≡ filter (λ s. not (is_span gone.now.block gone.now.reader s)) self.old }
     {
-        self.spans.retain(|span| !is_span(block, reader, span));
+        self.spans.retain(|span| !is_span(gone, span));
     }
 }
 
 /// The lanes that have a span.
 pub type Index = BTreeMap<(u32, u32), Lane>;
 
-// Whether the span is this block of this cell.
-fn is_span(block: Block, reader: (u32, u32), span: &Span) -> bool
-    ensures { result ≡ is_span block reader span.now }
+// Whether the spans are one.
+fn is_span(span: &Span, other: &Span) -> bool
+    ensures { result ≡ is_span span.now.block span.now.reader other.now }
 {
-    is_block(block, span.block) && is_cell(reader, span.reader)
+    is_block(span.block, other.block) && is_cell(span.reader, other.reader)
 }
 
 // Whether two blocks are one.
@@ -126,7 +126,7 @@ pub fn index_of(alloc: Global, cells: &BTreeMap<(u32, u32), Cell>) -> Result<Ind
 {
     let mut index = BTreeMap::new(alloc);
     for (position, cell) in cells {
-        add(alloc, &mut index, cell.blocks(), *position, &[])?;
+        add(alloc, &mut index, cell.named_blocks(), *position, &[])?;
     }
     Ok(index)
 }
@@ -212,6 +212,6 @@ fn clear(index: &mut Index, lane: (u32, u32), block: Block, reader: (u32, u32))
     ensures { (q : Position) → spans_in index.new.entries q ≡ (if is_at (position_cmp q) lane then filter (λ s. not (is_span block reader s)) (spans_in index.old.entries q) else spans_in index.old.entries q) }
 {
     if let Some(spans) = index.get_mut(&lane) {
-        spans.forget(block, reader);
+        spans.forget(&Span { block, reader });
     }
 }

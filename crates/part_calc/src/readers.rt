@@ -34,7 +34,7 @@ pub fn readers(
 fn names(cell: &Cell, at: (u32, u32)) -> bool
     ensures { result ≡ is_listed (reads_in (content_of cell.now)) at }
 {
-    is_in(cell.blocks(), at)
+    is_in(cell.named_blocks(), at)
 }
 
 // Whether the cell lies in one of the blocks.

@@ -7,7 +7,7 @@ use Rattle.part_calc.proofs.lanes.index_of.Goals as goal
 pub loop-position-preserved : goal.loop-position-preserved
 loop-position-preserved c =
     knows_more c.args.cells.now.entries c.loop-position.position-iterator (c.in-Some.position.now, c.in-Some.cell.now) c.next.new.self c.loop-position.index.entries c.add.new.index.entries
-    c.loop-position.invariant c.in-Some.ensures.steps c.add.ensures.grown (λ b named. c.in_ok-add.ensures.added b (ap (list_any (is_block b)) c.blocks.ensures ∙ named))
+    c.loop-position.invariant c.in-Some.ensures.steps c.add.ensures.grown (λ b named. c.in_ok-add.ensures.added b (ap (list_any (is_block b)) c.named_blocks.ensures ∙ named))
 
 pub returns : goal.returns
 returns c = knows_last c.args.cells.now.entries c.loop-position.position-iterator c.loop-position.index.entries c.loop-position.invariant c.in-None.ensures.steps.0

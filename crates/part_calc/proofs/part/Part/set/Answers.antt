@@ -10,20 +10,20 @@ pub invariant_of-self : goal.invariant_of-self
 invariant_of-self c =
     failed_kept c.self.inside.cells.entries c.self.inside.fates.entries c.self.inside.fates.entries c.self.inside.index.entries c.learn.new.index.entries c.self.inside.kept c.self.invariant (λ p h. refl) c.learn.ensures.grown
 
-pub invariant_of-self-2 : goal.invariant_of-self-2
-invariant_of-self-2 c =
+pub invariant_of-self-in_err-found : goal.invariant_of-self-in_err-found
+invariant_of-self-in_err-found c =
     failed_kept c.self.inside.cells.entries c.self.inside.fates.entries c.self.inside.fates.entries c.self.inside.index.entries c.learn.new.index.entries c.self.inside.kept c.self.invariant (λ p h. refl) c.learn.ensures.grown
 
-pub invariant_of-self-3 : goal.invariant_of-self-3
-invariant_of-self-3 c =
+pub invariant_of-self-in_err-make_room : goal.invariant_of-self-in_err-make_room
+invariant_of-self-in_err-make_room c =
     failed_kept c.self.inside.cells.entries c.self.inside.fates.entries c.make_room.new.kept.entries c.self.inside.index.entries c.learn.new.index.entries c.self.inside.kept c.self.invariant c.make_room.ensures.stay c.learn.ensures.grown
 
-pub invariant_of-self-4 : goal.invariant_of-self-4
-invariant_of-self-4 c =
+pub invariant_of-self-in_err-before : goal.invariant_of-self-in_err-before
+invariant_of-self-in_err-before c =
     failed_put c.self.inside.cells.entries c.put.new.cells.entries c.self.inside.fates.entries c.make_room.new.kept.entries c.self.inside.index.entries c.learn.new.index.entries c.self.inside.kept c.in_err-before.ensures.err c.self.invariant c.make_room.ensures.stay c.learn.ensures.grown
 
-pub invariant_of-self-5 : goal.invariant_of-self-5
-invariant_of-self-5 c =
+pub invariant_of-self-2 : goal.invariant_of-self-2
+invariant_of-self-2 c =
     set_kept c.self.inside.cells.entries c.put.new.cells.entries c.args.at c.in_ok-cell.cell c.args.raw.now c.self.inside.fates.entries c.make_room.new.kept.entries c.commit.new.kept.entries c.tidy.new.kept.entries c.in_ok-found.found.fates.items
     c.self.inside.index.entries c.learn.new.index.entries c.unlearn.new.index.entries c.edited_len-kept.result
     c.self.invariant.0 c.self.invariant.1 c.self.invariant.3 c.requires.row c.requires.column c.requires.valid c.utf8.raw c.in_ok-cell.ensures c.in_ok-before.ensures.ok c.in_ok-before.ensures.ordered
