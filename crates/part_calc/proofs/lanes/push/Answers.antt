@@ -1,5 +1,6 @@
-use Rattle.std.proofs.Common.{List, [], ◌∷◌, ◌++◌, ap, sym, ◌∙◌, rules}
-use Rattle.std.specs.BTreeMap.{insert_entry}
+use Rattle.std.proofs.Common.{◌≡◌, List, [], ◌∷◌, ◌++◌, None, ap, sym, ◌∙◌, rules}
+use Rattle.std.specs.BTreeMap.{is_at, insert_entry}
+use Rattle.std.specs.Map.{lookup}
 use Rattle.formula_base.specs.Ranges.{position_cmp}
 use Rattle.part_calc.specs.declared.lanes.Span.{Span}
 use Rattle.part_calc.proofs.KnowLaws.{on_ok, on_err, spans_changed, spans_same, spans_made, spans_found}
@@ -27,6 +28,7 @@ returns-in-Some-clause-err c =
 
 pub returns-clause-ok : goal.returns-clause-ok
 returns-clause-ok c =
-    spans_made c.args.index.now.entries c.insert.new.self.entries c.args.lane c.args.span c.push-2.new.self (sym c.in_default.ensures.value)
-    (c.in_ok-push.ensures.ok ∙ ap (λ (x : List Span). x ++ c.args.span ∷ []) c.new-spans.ensures)
-    (c.in_ok-insert.ensures.entries ∙ ap (λ m. insert_entry position_cmp m.entries c.args.lane c.push-2.new.self) c.get_mut.follows.holds-at-none)
+    let before = c.args.index.now.entries in
+    let none : lookup (is_at (position_cmp c.args.lane)) before ≡ None = search (rules, c.in_default.ensures.value, c.in_default.is) in
+    let made : c.insert.new.self.entries ≡ insert_entry position_cmp before c.args.lane c.push-2.new.self = search (rules, c.in_ok-insert.ensures.entries, c.get_mut.follows.holds-at-none) in
+    spans_made before c.insert.new.self.entries c.args.lane c.args.span c.push-2.new.self none (c.in_ok-push.ensures.ok ∙ ap (λ (x : List Span). x ++ c.args.span ∷ []) c.new-spans.ensures) made
