@@ -74,8 +74,15 @@ impl Lane {
     fn forget(&mut self, gone: &Span)
         ensures { self.new ≡ filter (λ s. not (is_span gone.now.block gone.now.reader s)) self.old }
     {
-        self.spans.retain(|span| !is_span(gone, span));
+        forget_span(&mut self.spans, gone);
     }
+}
+
+// Takes a span out of a list.
+fn forget_span(spans: &mut Vec<Span>, gone: &Span)
+    ensures { spans.new.items ≡ filter (λ s. not (is_span gone.now.block gone.now.reader s)) spans.old.items }
+{
+    spans.retain(|span| !is_span(gone, span));
 }
 
 /// The lanes that have a span.
