@@ -402,6 +402,34 @@ def cases():
                  r'\*16382.0\r\n\r\n', r'\*16383.0\r\n\r\n', r'0\r\nA:\*16378.x\r\n\r\n', r'0\r\nA:\*16379.x\r\n\r\n', r'0\r\nA:\*16380.x\r\n\r\n', r'0\r\n\*16384.A', r'0\r\n\*16385.A'):
         yield 'request ' + post + chunked + case
         yield 'response ' + ok + chunked + case
+    yield '# Heads alone, and messages that stop early'
+    yield from (
+        r'request POST / HTTP/1.1\r\nContent-Length: 05\r\n\r\n',
+        r'request POST / HTTP/1.1\r\ncontent-length:5\r\nCONTENT-LENGTH: 05\r\n\r\n',
+        r'request POST / HTTP/1.1\r\nContent-Length: 5\r\nContent-Length: 6\r\n\r\n',
+        r'request POST / HTTP/1.1\r\nContent-Length: +5\r\n\r\n',
+        r'request POST / HTTP/1.1\r\nContent-Length:\r\n\r\n',
+        r'request POST / HTTP/1.1\r\nContent-Length: 9999999999999999999\r\n\r\n',
+        r'request POST / HTTP/1.1\r\nContent-Length: 00000000000000000001\r\n\r\n',
+        r'request POST / HTTP/1.1\r\nTransfer-Encoding: gzip, chunked\r\n\r\n',
+        r'request POST / HTTP/1.1\r\nTransfer-Encoding: chunked\r\nContent-Length: 1\r\n\r\n',
+        r'request POST / HTTP/1.1\r\nContent-Length: 1\r\nTransfer-Encoding: chunked\r\n\r\n',
+        r'response HTTP/1.1 200 OK\r\n\r\n',
+        r'response HTTP/1.1 100 Continue\r\n\r\n',
+        r'response HTTP/1.1 2000\r\n',
+        r'response HTTP/2 200\r\n',
+        r'request POST /a HTTP/1.1\r\nTransfer-Encoding: chunked\r\n\r\n1\r\nx\r\n0\r\n\r\n',
+        r'request POST /a HTTP/1.1\r\nContent-Length: 2\r\n\r\nh',
+        r'request POST /a HTTP/1.1\r\nContent-Length: 2\r\n',
+        r'request POST /a HTTP/1.1\r\nContent-Length: 2\r\nContent-Length: 3\r\n\r\n',
+        r'request POST /a HTTP/1.1\r\nContent-Length: 2\r\nTransfer-Encoding: chunked\r\n\r\n',
+        r'request POST /a HTTP/1.1\r\nContent-Length: +2\r\n\r\nhey',
+        r'request POST /a HTTP/1.1\r\nTransfer-Encoding: gzip\r\n\r\n',
+        r'request POST /a HTTP/1.1\r\nContent-Length: 67108865\r\n\r\n',
+        r'request POST /a HTTP/1.1\r\nTransfer-Encoding: chunked\r\n\r\nG',
+        r'request POST / HTTP/1.1\r\nContent-Length: 5\r\n\r\nhell',
+        r'response HTTP/1.1 200 OK\r\n\r\nhello',
+    )
     yield '# All framing of a body in chunks: 67,108,864 bytes of size lines, line ends and trailers'
     for case in (r'0;\*16378.x\r\n\r\nmore', r'0\r\nA:\*16376.x\r\n\r\n', r'1;\*16379.x\r\nc\r', r'1;\*16379.x\r\nc\r\n',
                  r'1;\*16371.x\r\nc\r\n3fff001', r'1;\*16372.x\r\nc\r\n3fff001'):
@@ -415,12 +443,12 @@ def cases():
                  r'response HTTP/1.1 304 \r\n\r\n'):
         yield 'fronts ' + case
     yield '# What is written, and read again'
-    for case in ('GET h /a - - new ', r'GET h:80 /wopi/files/d?access_token=t - - new ', 'POST h /a - - new ', 'POST a:80 /wopi/files/d/contents?access_token=t cool-d PUT old abc',
+    for case in ('GET h /a - - new ', 'GET b /a - - new ', r'GET h:80 /wopi/files/d?access_token=t - - new ', 'POST h /a - - new ', 'POST a:80 /wopi/files/d/contents?access_token=t cool-d PUT old abc',
                  r'POST h /wopi/files/d?access_token=t cool-d LOCK new ', r'POST h /a a\sb x\s\sy new \r\n\r\n\x00\xff', r'POST h /a \s LOCK new ', 'POST h /a  PUT new x',
                  r'POST h /a \*1024.~ PUT new \*70000.z', 'GET h /~ - GET_LOCK old ', 'POST [::1]:9980 /a - UNLOCK new \\*1000.\\x41'.replace('\\x41', 'A'),
                  r'POST h /\*16000.a x PUT new abc', r'POST h /\*16384.a x PUT new abc', 'OTHER h /a - - new '):
         yield 'ask ' + case
-    for case in ('200 - ', '200 - abc', '409  ', '409 x ', r'409 a\sb ', '409 - abc', '204 - ', '204 - x', '304 x ', '100 - ', '199 x ', '500 - ', '501 - no', '999 x \\*5000.y', '404 - ', '401 - '):
+    for case in ('200 - ', '200 - abc', '409  ', '409 x ', r'409 a\sb ', '409  abc', '409 - abc', '204 - ', '204 - x', '304 x ', '100 - ', '199 x ', '500 - ', '501 - no', '999 x \\*5000.y', '404 - ', '401 - '):
         yield 'tell ' + case
 
 

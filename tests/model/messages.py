@@ -478,6 +478,13 @@ def message_cases():
         "coolclient 0.1 anything",
         "Coolclient",
         "coolclient\t",
+        "save dontTerminateEdit=00",
+        " tile part=0 width=8 height=9 tileposx=240 tileposy=480 tilewidth=241 tileheight=242 ver=1",
+        "tile part=0 width=8 height=9 tileposx=1 tileposy=2 tilewidth=3 tileheight=4",
+        "tilecombine part=0 width=8 height=8 tileposx=0,240 tileposy=5,6 tilewidth=3 tileheight=4",
+        "load url=http://h/wopi/files/a?access_token=t",
+        "key type=up char=97 key=0",
+        "mouse type=buttonup x=1 y=2 count=3 buttons=4 modifier=5",
         "useractive  now",
         "   useractive  now",
         "canceltiles part=x part=x = ==",
@@ -618,6 +625,14 @@ def line_cases():
     yield SERVER
     yield SERVER + " "
     yield SERVER[:-1]
+    yield "error: cmd=storage kind=savefailed code=409"
+    yield "error: cmd=storage kind=savefailed code=65536"
+    yield "error: cmd=storage kind=savefailed"
+    yield "error: cmd=tile kind=badtile code=1"
+    yield "error: cmd=Tile kind=badtile"
+    yield "invalidatetiles: part=0 x=0 y=0 width=240 height=240 "
+    yield "invalidatetiles: part=0 x=4294967295 y=0 width=1 height=1"
+    yield LINE + " ver=1 wid=1"
     yield "coolserver"
     yield ""
     yield "tile"
@@ -661,6 +676,8 @@ def picture_cases():
     for look in (" nviewid=0", " nviewid=2", " nviewid=01", " nviewid=10", " nviewid=", "  nviewid=1", " nviewid=1 nviewid=1"):
         yield 256, LINE + look + " ver=0 wid=1"
         yield 255, LINE + look + " ver=0 wid=1"
+    yield 0, LINE + " ver=1 wid=1"
+    yield 0, LINE.replace("tileposx=0", "tileposx=7") + " ver=1 wid=1"
     yield 256, LINE + " ver=0 wid=1 nviewid=1"
     yield 256, LINE + " ver=0 nviewid=1 wid=1"
     yield 256, "tile: nviewid=1" + LINE[5:] + " ver=0 wid=1"
@@ -741,6 +758,9 @@ def small_cases():
     for text in ["a%2fb%zz%", "", "%", "%4", "%41", "%4a%4A", "%%41", "%ff", "%c3%a9", "a+b", "%25%32", "\u00e9"]:
         yield "percent", text
     for text in ["", "a", "tile", "Tile", "til3", "a" * 32, "a" * 33, "`", "{", "z", "a b", "\u00e9"]:
+        yield "command", text
+    letters = "abcdefghijklmnopqrstuvwxyzabcdef"
+    for text in ["tile part=0", "   useractive  now", "     ", "Tile part=0", "tile\tpart=0", letters, letters + "g"]:
         yield "command", text
     for text in ["", "Report_2-b", "a.b", "a b", "a/b", "A", "9" * 64, "9" * 64 + "x", "\u00e9", "_", "-", "@", "[", "`", "{"]:
         yield "file", text

@@ -10,7 +10,7 @@ use Rattle.std.proofs.lemmas.List.Sums.{list_all-from_AllPass}
 use Rattle.std.proofs.lemmas.List.Elements.{All-head, All-tail, All-take}
 use Rattle.httparse.specs.Grammar.{is_token_byte, is_value_byte, LineEnd, crlf, lf, print_end, Field, print_field, IsField}
 use Rattle.http_head.specs.Corners.{behind_blank, ends_in}
-use Rattle.http_head.proofs.Tails.{ends_in-append, ends_in-none, ends_behind-more}
+use Rattle.http_head.proofs.Tails.{ends_in-append, ends_in-none, ends_behind-more, ends_behind-both}
 use Rattle.http_head.proofs.Cuts.{two_cuts, last_of}
 
 -- bytes of a class without this byte are other bytes
@@ -199,3 +199,20 @@ lines_inside start is fields last all bytes more e unfinished many =
         let less = ends_behind-more bytes w.0 in
         let lines = end.2 in
         absurd (omega arith)
+
+-- where two lines end in what is to come of a head, no more lines ended than it has
+pub open_few : (start : List ℕ) → IsStart start → (fields : List Field) (last : LineEnd)
+    → All IsField fields → (bytes more : List ℕ)
+    → bytes ++ more ≡ start ++ (lines_of fields ++ print_end last) → 2 ≤ ends_in more
+    → ends_in (behind_blank bytes) ≤ length fields
+open_few start is fields last all bytes more e two = elim (ends_behind-both bytes more) [
+  | inl none ↦ omega arith
+  | inr behind ↦
+      let lines = ends_in-lines fields all in
+      let end = ends_in-print_end last in
+      let both = ends_in-append (lines_of fields) (print_end last) in
+      let start_is = is.counts (lines_of fields ++ print_end last) in
+      let count = ap (λ t. ends_in (behind_blank t)) e ∙ start_is in
+      let parts = ap ends_in behind ∙ ends_in-append (behind_blank bytes) more in
+      omega arith
+]

@@ -7,3 +7,6 @@ pub mod ResponseHeads
 pub mod RequestLaws
 pub mod ResponseLaws
 pub mod Written
+pub mod Leading
+pub mod RequestPhases
+pub mod ResponsePhases

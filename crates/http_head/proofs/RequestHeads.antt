@@ -111,7 +111,7 @@ never_by_target bytes other = λ more h rest reads.
 pub can_end_front : (bytes m : List ℕ) → CanEndRequest (bytes ++ m) → CanEndRequest bytes
 can_end_front bytes m can = (m ++ can.0, can.1, subst (λ t. ReadsPlain t can.1 []) (append_assoc bytes m can.0) can.2)
 
-graphic_is_uri : (b : ℕ) → is_ascii_graphic b ≡ true → is_uri_byte b ≡ true
+pub graphic_is_uri : (b : ℕ) → is_ascii_graphic b ≡ true → is_uri_byte b ≡ true
 graphic_is_uri b graphic = grind (arith, nat_tests)
 
 -- the head with another target

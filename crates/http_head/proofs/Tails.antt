@@ -1,5 +1,5 @@
 -- What stands behind the first blank, as more bytes come.
-use Rattle.std.proofs.Common.{◌≡◌, ℕ, ◌+◌, ◌≤◌, Bool, true, false, not, ◌&&◌, List, [], ◌∷◌, ◌++◌, refl, sym, ap, ◌∙◌, arith}
+use Rattle.std.proofs.Common.{◌≡◌, ℕ, ◌+◌, ◌≤◌, Bool, true, false, not, ◌&&◌, List, [], ◌∷◌, ◌++◌, ◌⊎◌, inl, inr, refl, sym, ap, ◌∙◌, arith}
 use Rattle.std.specs.Prelude.{◌==◌, if◌then◌else◌}
 use Rattle.std.specs.List.{list_all}
 use Rattle.std.specs.Char.{is_ascii_graphic}
@@ -82,3 +82,16 @@ pub plain_behind-front : (a b : List ℕ) → starts_plain (behind_blank (a ++ b
 plain_behind-front a b plain =
     let more = behind_blank-more a b in
     starts_plain-front (behind_blank a) more.0 (ap starts_plain (sym more.1) ∙ plain)
+
+-- bytes without a blank end no line behind it, and with one all that follow come behind it
+pub ends_behind-both : (a b : List ℕ)
+    → (ends_in (behind_blank a) ≡ 0) ⊎ (behind_blank (a ++ b) ≡ behind_blank a ++ b)
+ends_behind-both [] b = inl refl
+ends_behind-both (x ∷ a) b = by (x == 32) (ends_behind-both a b)
+  where
+    by : (t : Bool)
+        → ((ends_in (behind_blank a) ≡ 0) ⊎ (behind_blank (a ++ b) ≡ behind_blank a ++ b))
+        → (ends_in (if t then a else behind_blank a) ≡ 0)
+        ⊎ ((if t then a ++ b else behind_blank (a ++ b)) ≡ (if t then a else behind_blank a) ++ b)
+    by true later = inr refl
+    by false later = later

@@ -3,3 +3,4 @@ pub mod Framings
 pub mod Requests
 pub mod Responses
 pub mod Corners
+pub mod Phases

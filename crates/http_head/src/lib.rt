@@ -3,6 +3,8 @@
 //! 126 alone.
 //!
 //! - `scan_head`, `scan_response_head`: whether bytes begin with a whole head, begin one, or are none.
+//! - `HeadPhase` (`phases`): how far bytes have come in a head, so that one that comes in pieces is
+//!   scanned once and not with each piece.
 //! - `RequestParts`, `ResponseParts` (`parts`): what a whole head says.
 //! - `requests_are_read_in_one_way`, `responses_are_read_in_one_way` (`laws`): one reading, and three
 //!   kinds of bytes that exclude one another.
@@ -14,12 +16,14 @@ mod fields;
 mod framing;
 mod laws;
 mod parts;
+mod phases;
 mod requests;
 mod responses;
 
 pub use framing::{Framing, Said};
 pub use laws::{requests_are_read_in_one_way, responses_are_read_in_one_way};
 pub use parts::{RequestParts, ResponseParts, Scan};
+pub use phases::{HeadPhase, Letter, Opening};
 pub use requests::scan_head;
 pub use responses::scan_response_head;
 

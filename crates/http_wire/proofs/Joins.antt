@@ -1,5 +1,5 @@
 -- What was received and scanned, put together to the answer.
-use Rattle.std.proofs.Common.{ℕ, ◌≡◌, ◌<◌, ◌≤◌, Bool, true, false, List, [], ◌++◌, length, take, drop, cond, nat_le, inl, inr, Option, Some, Ok, Err, refl, sym, ap, ◌∙◌, subst, arith, append-nil}
+use Rattle.std.proofs.Common.{ℕ, ◌≡◌, ◌<◌, ◌≤◌, Bool, true, false, List, [], ◌++◌, length, take, drop, Option, Ok, Err, refl, sym, ap, ◌∙◌, subst, arith, append-nil}
 use Rattle.std.proofs.lemmas.List.{take_all, length-append}
 use Rattle.outside.specs.declared.faults.WireFault.TheVariants.{BadHead, HeadTooLong, BodyTooLong, BadChunk, CutOff, ReadFault, WriteFault}
 use Rattle.outside.specs.Wires.{Talk, Hears}
@@ -7,15 +7,11 @@ use Rattle.outside.proofs.Talks.{hears_more}
 use Rattle.wire_body.specs.declared.faults.HttpFault.{HttpFault}
 use Rattle.wire_body.specs.declared.faults.HttpFault.TheVariants.{Wire, Memory as NoMemory}
 use Rattle.http_head.specs.declared.parts.Scan.{Scan}
-use Rattle.http_head.specs.declared.parts.Scan.TheVariants.{Whole, Begun, NoHead}
+use Rattle.http_head.specs.declared.parts.Scan.TheVariants.{Begun, NoHead}
 use Rattle.wire_body.specs.declared.states.BodyState.{BodyState}
-use Rattle.wire_body.specs.declared.states.Phase.{Phase}
-use Rattle.wire_body.specs.declared.states.Phase.TheVariants.{Done, TooLong, Bad, Open as OpenBody, Full}
-use Rattle.wire_body.specs.Bodies.{run, verdict, body_says, framing_in, framing_limit}
+use Rattle.wire_body.specs.Bodies.{body_says}
 use Rattle.wire_body.specs.Reads.{ReadsBody, IsSaid, Stops}
-use Rattle.http_wire.specs.Messages.{Kind, Front, head_limit, Scans, start_of, with_body, message_said, IsAnswer, OpensLine, ReadsMessage, GotHead}
-use Rattle.http_wire.specs.Lines.{GotLine, NoLine, IsCut}
-use Rattle.http_head.specs.Corners.{ends_in}
+use Rattle.http_wire.specs.Messages.{Kind, Front, head_limit, Scans, start_of, with_body, message_said, IsAnswer, ReadsMessage, GotHead}
 use Rattle.http_wire.specs.Messages.Front.{Refused, Longer, Open, Headed}
 
 -- bytes within the limit are all before it
@@ -30,54 +26,23 @@ pub longer_answer : {P M : Type 0} (k : Kind P M) (old new : Option Talk) (bytes
     → Hears old bytes false new → length bytes ≤ head_limit → head_limit ≤ length bytes → k.begins bytes → ReadsMessage k old new (Err (Wire HeadTooLong))
 longer_answer k old new bytes heard within full begun = (bytes, false, heard, (Longer full (subst (λ xs. k.begins xs) (all_within bytes within) begun), refl, λ is. cc))
 
--- no more of a head came, for this fault
-pub no_line_answer : {P M : Type 0} (k : Kind P M) (old mid new : Option Talk) (bytes : List ℕ) (fault : HttpFault)
-    → Hears old bytes false mid → k.begins bytes → NoLine mid new fault → ReadsMessage k old new (Err fault)
-no_line_answer k old mid new bytes NoMemory heard begun (more, after) = (bytes ++ more, false, hears_more old mid new bytes more false heard after, tt)
-no_line_answer k old mid new bytes (Wire ReadFault) heard begun (more, after, none) =
-    (bytes ++ more, false, hears_more old mid new bytes more false heard after, inr (bytes, more, refl, begun, none))
-no_line_answer k old mid new bytes (Wire BadHead) heard begun none = absurd none
-no_line_answer k old mid new bytes (Wire HeadTooLong) heard begun none = absurd none
-no_line_answer k old mid new bytes (Wire BodyTooLong) heard begun none = absurd none
-no_line_answer k old mid new bytes (Wire BadChunk) heard begun none = absurd none
-no_line_answer k old mid new bytes (Wire CutOff) heard begun none = absurd none
-no_line_answer k old mid new bytes (Wire WriteFault) heard begun none = absurd none
+pub cut_answer : {P M : Type 0} (k : Kind P M) (old mid new : Option Talk) (bytes : List ℕ)
+    → Hears old bytes false mid → Hears mid [] true new → length bytes < head_limit → k.begins bytes → ReadsMessage k old new (Err (Wire CutOff))
+cut_answer k old mid new bytes heard ended less begun =
+    (bytes, true, subst (λ xs. Hears old xs true new) (append-nil bytes) (hears_more old mid new bytes [] true heard ended), (Open less begun, refl, λ is. refl))
 
--- what was received up to the wire's end opens a line
-pub opens : {P M : Type 0} (k : Kind P M) (old new : Option Talk) (before bytes : List ℕ) → GotLine old new before bytes true → k.begins before → OpensLine k bytes
-opens k old new before bytes got begun = (before, got.more, got.all, begun, (got.tail refl).0)
-
--- what was received with the one before
-pub heard_line : (old mid new : Option Talk) (before bytes : List ℕ) (ended : Bool) → Hears old before false mid → GotLine mid new before bytes ended → Hears old bytes ended new
-heard_line old mid new before bytes ended heard got = subst (λ xs. Hears old xs ended new) (sym got.all) (hears_more old mid new before got.more ended heard got.heard)
-
--- the wire ended inside a head
-pub cut_answer : {P M : Type 0} (k : Kind P M) (old mid new : Option Talk) (before bytes : List ℕ) (fault : HttpFault)
-    → Hears old before false mid → GotLine mid new before bytes true → k.begins before → IsCut k bytes fault → ReadsMessage k old new (Err fault)
-cut_answer k old mid new before bytes NoMemory heard got begun cut = (bytes, true, heard_line old mid new before bytes true heard got, tt)
-cut_answer k old mid new before bytes (Wire BadHead) heard got begun cut =
-    let within : length bytes ≤ head_limit = got.within in (
-      bytes,
-      true,
-      heard_line old mid new before bytes true heard got,
-      (Refused (subst (λ xs. k.refuses xs) (all_within bytes within) cut), refl, λ is. opens k mid new before bytes got begun),
-    )
-cut_answer k old mid new before bytes (Wire CutOff) heard got begun cut =
-    (bytes, true, heard_line old mid new before bytes true heard got, (Open (got.tail refl).1 cut, refl, λ is. refl))
-cut_answer k old mid new before bytes (Wire HeadTooLong) heard got begun cut = absurd cut
-cut_answer k old mid new before bytes (Wire BodyTooLong) heard got begun cut = absurd cut
-cut_answer k old mid new before bytes (Wire BadChunk) heard got begun cut = absurd cut
-cut_answer k old mid new before bytes (Wire ReadFault) heard got begun cut = absurd cut
-cut_answer k old mid new before bytes (Wire WriteFault) heard got begun cut = absurd cut
-
--- bytes that open a line hold no whole head
-pub not_whole : {P M : Type 0} (k : Kind P M) (bytes : List ℕ) (parts : P) (len : ℕ) → OpensLine k bytes → Scans k bytes (Whole parts len) → ⊥
-not_whole k bytes parts len (lines, tail, all, begun, none) (within, reads) =
-    k.waits lines tail parts (drop len bytes) begun none (subst (λ xs. k.reads xs parts (drop len bytes)) all reads)
+pub fault_answer : {P M : Type 0} (k : Kind P M) (old mid new : Option Talk) (bytes : List ℕ)
+    → Hears old bytes false mid → new ≡ mid → length bytes < head_limit → k.begins bytes → ReadsMessage k old new (Err (Wire ReadFault))
+fault_answer k old mid new bytes heard same less begun =
+    (bytes, false, subst (λ t. Hears old bytes false t) (sym same) heard, (Open less begun, refl, λ is. cc))
 
 pub memory_answer : {P M : Type 0} (k : Kind P M) (old new : Option Talk) (bytes : List ℕ)
     → Hears old bytes false new → ReadsMessage k old new (Err NoMemory)
 memory_answer k old new bytes heard = (bytes, false, heard, tt)
+
+pub piece_memory_answer : {P M : Type 0} (k : Kind P M) (old mid new : Option Talk) (bytes piece : List ℕ)
+    → Hears old bytes false mid → Hears mid piece false new → ReadsMessage k old new (Err NoMemory)
+piece_memory_answer k old mid new bytes piece heard more = (bytes ++ piece, false, hears_more old mid new bytes piece false heard more, tt)
 
 -- what stands at the front once the body's bytes have come
 abbrev headed : {P M : Type 0} (k : Kind P M) (old mid : Option Talk) (parts : P) (bytes more : List ℕ) (len : ℕ) → GotHead k old mid parts bytes len → Front k (bytes ++ more)
@@ -95,33 +60,17 @@ body_answer k old mid new parts bytes len body got (more, ended, heard, said, st
   (headed k old mid parts bytes more len got, ap (with_body k parts) said, λ is. ap (with_body k parts) (stops is)),
 )
 
--- no body says that bytes begin no head
-no_head : (within : Bool) (p : Phase) (body : List ℕ) (ended : Bool) → cond within (verdict p body ended) (Some (Err BadChunk)) ≡ Some (Err BadHead) → ⊥
-no_head false p body ended is = cc
-no_head true Done body ended is = cc
-no_head true TooLong body ended is = cc
-no_head true Bad body ended is = cc
-no_head true OpenBody body true is = cc
-no_head true OpenBody body false is = cc
-no_head true Full body true is = cc
-no_head true Full body false is = cc
-no_head true _ body true is = cc
-no_head true _ body false is = cc
-
-body_no_head : (start : BodyState) (bytes : List ℕ) (ended : Bool) → body_says start bytes ended ≡ Some (Err BadHead) → ⊥
-body_no_head start bytes ended is = no_head (nat_le (framing_in start bytes) framing_limit) (run start [] bytes).state.phase (run start [] bytes).body ended is
-
 body_fault : {P M : Type 0} (k : Kind P M) (parts : P) (bytes : List ℕ) (ended : Bool) (rest : List ℕ) (front : Front k bytes)
     → message_said front ended ≡ with_body k parts (body_says (start_of (k.framing parts)) rest ended)
     → Stops (message_said front false) ended
     → (fault : HttpFault) → IsSaid (body_says (start_of (k.framing parts)) rest ended) (Err fault) → IsAnswer k bytes ended (Err fault)
 body_fault k parts bytes ended rest front is stops NoMemory said = tt
-body_fault k parts bytes ended rest front is stops (Wire BadHead) said = absurd (body_no_head (start_of (k.framing parts)) rest ended said)
+body_fault k parts bytes ended rest front is stops (Wire BadHead) said = (front, is ∙ ap (with_body k parts) said, stops)
 body_fault k parts bytes ended rest front is stops (Wire HeadTooLong) said = (front, is ∙ ap (with_body k parts) said, stops)
 body_fault k parts bytes ended rest front is stops (Wire BodyTooLong) said = (front, is ∙ ap (with_body k parts) said, stops)
 body_fault k parts bytes ended rest front is stops (Wire BadChunk) said = (front, is ∙ ap (with_body k parts) said, stops)
 body_fault k parts bytes ended rest front is stops (Wire CutOff) said = (front, is ∙ ap (with_body k parts) said, stops)
-body_fault k parts bytes ended rest front is stops (Wire ReadFault) said = inl (front, is ∙ ap (with_body k parts) said, stops)
+body_fault k parts bytes ended rest front is stops (Wire ReadFault) said = (front, is ∙ ap (with_body k parts) said, stops)
 body_fault k parts bytes ended rest front is stops (Wire WriteFault) said = absurd said
 
 pub body_fault_answer : {P M : Type 0} (k : Kind P M) (old mid new : Option Talk) (parts : P) (bytes : List ℕ) (len : ℕ) (fault : HttpFault)

@@ -1,3 +1,2 @@
 pub mod Joins
-pub mod Feeds
-pub mod Gains
+pub mod Phases

@@ -7,8 +7,6 @@ use Rattle.http_head.specs.declared.parts.ResponseParts.{ResponseParts}
 use Rattle.http_head.specs.Requests.{ReadsRequestHead, BeginsRequest, IsNoRequest}
 use Rattle.http_head.specs.Responses.{ReadsResponseHead, BeginsResponse, IsNoResponse}
 use Rattle.http_wire.specs.Messages.{Kind}
-use Rattle.http_head.proofs.RequestLaws.{opens_no_longer as request_waits}
-use Rattle.http_head.proofs.ResponseLaws.{opens_no_longer as response_waits}
 use Rattle.http_wire.specs.GrowLaws.{request_grows, response_grows}
 
 -- the request that a head and a body make
@@ -27,7 +25,6 @@ requests = record {
   framing = λ p. p.framing;
   message = request_of;
   grows = request_grows;
-  waits = request_waits;
 }
 
 abbrev pub responses : Kind ResponseParts Response
@@ -38,5 +35,4 @@ responses = record {
   framing = λ p. p.framing;
   message = response_of;
   grows = response_grows;
-  waits = response_waits;
 }

@@ -1,4 +1,4 @@
 pub mod Messages
 pub mod GrowLaws
 pub mod Kinds
-pub mod Lines
+pub mod Following

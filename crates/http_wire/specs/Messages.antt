@@ -1,9 +1,8 @@
 -- What the bytes of a message say, whatever its kind of head.
-use Rattle.std.specs.Prelude.{ℕ, ◌≡◌, ◌+◌, ◌<◌, ◌≤◌, ◌⊎◌, Bool, true, false, if◌then◌else◌, List, length, ◌++◌, take, drop, ⊤, Option, Some, None, Result, Ok, Err}
+use Rattle.std.specs.Prelude.{ℕ, ◌≡◌, ◌+◌, ◌<◌, ◌≤◌, Bool, false, if◌then◌else◌, List, length, ◌++◌, take, drop, ⊤, Option, Some, None, Result, Ok, Err}
 use Rattle.outside.specs.declared.faults.WireFault.{WireFault}
-use Rattle.outside.specs.declared.faults.WireFault.TheVariants.{BadHead, HeadTooLong, CutOff, ReadFault}
+use Rattle.outside.specs.declared.faults.WireFault.TheVariants.{BadHead, HeadTooLong, CutOff}
 use Rattle.outside.specs.Wires.{Talk, Hears}
-use Rattle.http_head.specs.Corners.{ends_in}
 use Rattle.http_head.specs.declared.framing.Framing.{Framing}
 use Rattle.http_head.specs.declared.framing.Framing.TheVariants.{Empty, Sized, Chunked, ToEnd}
 use Rattle.http_head.specs.declared.parts.Scan.{Scan}
@@ -25,17 +24,17 @@ start_of (Sized len) = body_of len
 start_of Chunked = chunked_body
 start_of ToEnd = open_body
 
--- a kind of head: bytes are a whole one that says this and then the rest, begin one, or begin none; the
--- body behind one that says this; the message that it makes with the bytes of a body. Bytes that come
--- after a whole head are more of the rest, and bytes that end no line make no begun head whole
+-- a kind of head: bytes are a whole one that says this and then the rest, begin one, or begin
+-- none; the body behind one that says this; the message that it makes with the bytes of a body.
+-- Bytes that come after a whole head are more of the rest
 pub record Kind (P M : Type 0) : Type 1 where
   pub reads : List ℕ → P → List ℕ → Type 0
   pub begins : List ℕ → Type 0
   pub refuses : List ℕ → Type 0
   pub framing : P → Framing
   pub message : P → List ℕ → M
-  pub grows : (bytes : List ℕ) (parts : P) (rest more : List ℕ) → reads bytes parts rest → reads (bytes ++ more) parts (rest ++ more)
-  pub waits : (bytes more : List ℕ) (parts : P) (rest : List ℕ) → begins bytes → ends_in more ≡ 0 → reads (bytes ++ more) parts rest → ⊥
+  pub grows : (bytes : List ℕ) (parts : P) (rest more : List ℕ) → reads bytes parts rest
+      → reads (bytes ++ more) parts (rest ++ more)
 
 -- what a scan for such a head answers
 abbrev pub Scans : {P M : Type 0} → Kind P M → List ℕ → Scan P → Type 0
@@ -43,46 +42,54 @@ Scans k bytes (Whole parts len) = (len ≤ length bytes) × k.reads bytes parts 
 Scans k bytes Begun = k.begins bytes
 Scans k bytes NoHead = k.refuses bytes
 
--- what stands at the front of all bytes: no head, too much of one, the beginning of one, or a whole one
+-- what stands at the front of all bytes: no head, too much of one, the beginning of one, or a whole
+-- one
 pub data Front {P M : Type 0} (k : Kind P M) (bytes : List ℕ) : Type 0 where
   Refused : k.refuses (take head_limit bytes) → Front k bytes
   Longer : head_limit ≤ length bytes → k.begins (take head_limit bytes) → Front k bytes
   Open : length bytes < head_limit → k.begins bytes → Front k bytes
-  Headed : (parts : P) (rest : List ℕ) → k.reads bytes parts rest → length bytes ≤ head_limit + length rest → Front k bytes
+  Headed : (parts : P) (rest : List ℕ) → k.reads bytes parts rest
+      → length bytes ≤ head_limit + length rest → Front k bytes
 
 -- the message with what the body's bytes say
-abbrev pub with_body : {P M : Type 0} → Kind P M → P → Option (Result (List ℕ) WireFault) → Option (Result M WireFault)
+abbrev pub with_body : {P M : Type 0} → Kind P M → P → Option (Result (List ℕ) WireFault)
+    → Option (Result M WireFault)
 with_body k parts None = None
 with_body k parts (Some (Ok body)) = Some (Ok (k.message parts body))
 with_body k parts (Some (Err fault)) = Some (Err fault)
 
--- what all bytes say, where the wire ended behind them and where it didn't: a message, a fault, or that more are needed
-abbrev pub message_said : {P M : Type 0} {k : Kind P M} {bytes : List ℕ} → Front k bytes → Bool → Option (Result M WireFault)
+-- what all bytes say, where the wire ended behind them and where it didn't: a message, a fault, or
+-- that more are needed
+abbrev pub message_said : {P M : Type 0} {k : Kind P M} {bytes : List ℕ} → Front k bytes → Bool
+    → Option (Result M WireFault)
 message_said (Refused none) ended = Some (Err BadHead)
 message_said (Longer full begun) ended = Some (Err HeadTooLong)
 message_said (Open less begun) ended = if ended then Some (Err CutOff) else None
-message_said {k = k} (Headed parts rest whole within) ended = with_body k parts (body_says (start_of (k.framing parts)) rest ended)
+message_said {k = k} (Headed parts rest whole within) ended =
+    with_body k parts (body_says (start_of (k.framing parts)) rest ended)
 
--- the bytes are some that begin a head, and then the front of a line: what is wrong with them is in that line
-abbrev pub OpensLine : {P M : Type 0} → Kind P M → List ℕ → Type 0
-OpensLine k bytes = (lines : List ℕ) × (tail : List ℕ) × (bytes ≡ lines ++ tail) × k.begins lines × (ends_in tail ≡ 0)
-
--- the answer is what the bytes say, and no end was asked for behind a message that was whole without it; where
--- memory ran out they may say anything. A head is judged once a line of it is whole: so bytes that are no head
--- for the front of a line may be seen to be none only with the end, or not, where a read failed
+-- the answer is what the bytes say, and no end was asked for behind a message that was whole
+-- without it; where memory ran out they may say anything
 abbrev pub IsAnswer : {P M : Type 0} → Kind P M → List ℕ → Bool → Result M HttpFault → Type 0
-IsAnswer k bytes ended (Ok m) = (front : Front k bytes) × (message_said front ended ≡ Some (Ok m)) × Stops (message_said front false) ended
+IsAnswer k bytes ended (Ok m) =
+    (front : Front k bytes) × (message_said front ended ≡ Some (Ok m))
+    × Stops (message_said front false) ended
 IsAnswer k bytes ended (Err NoMemory) = ⊤
-IsAnswer k bytes ended (Err (Wire BadHead)) = (front : Front k bytes) × (message_said front ended ≡ Some (Err BadHead)) × (ended ≡ true → OpensLine k bytes)
-IsAnswer k bytes ended (Err (Wire ReadFault)) = ((front : Front k bytes) × (message_said front ended ≡ None) × Stops (message_said front false) ended) ⊎ OpensLine k bytes
-IsAnswer k bytes ended (Err (Wire fault)) = (front : Front k bytes) × FaultSaid (message_said front ended) fault × Stops (message_said front false) ended
+IsAnswer k bytes ended (Err (Wire fault)) =
+    (front : Front k bytes) × FaultSaid (message_said front ended) fault
+    × Stops (message_said front false) ended
 
 -- bytes were received, with the end or without, and the answer is what they say
-abbrev pub ReadsMessage : {P M : Type 0} → Kind P M → Option Talk → Option Talk → Result M HttpFault → Type 0
-ReadsMessage k old new result = (bytes : List ℕ) × (ended : Bool) × Hears old bytes ended new × IsAnswer k bytes ended result
+abbrev pub ReadsMessage : {P M : Type 0} → Kind P M → Option Talk → Option Talk
+    → Result M HttpFault → Type 0
+ReadsMessage k old new result =
+    (bytes : List ℕ) × (ended : Bool) × Hears old bytes ended new
+    × IsAnswer k bytes ended result
 
 -- bytes were received that begin with a whole head within its limit, and no end came
-pub record GotHead {P M : Type 0} (k : Kind P M) (old new : Option Talk) (parts : P) (bytes : List ℕ) (len : ℕ) : Type 0 where
+pub record GotHead
+    {P M : Type 0} (k : Kind P M) (old new : Option Talk) (parts : P) (bytes : List ℕ) (len : ℕ)
+    : Type 0 where
   pub heard : Hears old bytes false new
   pub within : length bytes ≤ head_limit
   pub inside : len ≤ length bytes

@@ -1,10 +1,13 @@
 // What requests and responses have in common: a head that is scanned, and a body behind it.
 ghost use Rattle.std.specs.Prelude.{◌≡◌, ◌≤◌, IfOk};
+ghost use Rattle.http_head.specs.Phases.{Opens};
 ghost use Rattle.http_wire.specs.Messages.{Kind, Scans, start_of};
 
 use bytes::Bytes;
 use cool_base::Memory;
-use http_head::{Framing, RequestParts, ResponseParts, Scan, scan_head, scan_response_head};
+use http_head::{
+    Framing, HeadPhase, RequestParts, ResponseParts, Scan, scan_head, scan_response_head,
+};
 use http_message::{Request, Response};
 use std::alloc::Global;
 use wire_body::BodyState;
@@ -19,6 +22,10 @@ pub(crate) trait Head: Drop {
     /// Which head the bytes begin with.
     fn scan(alloc: Global, bytes: &[u8]) -> Result<Scan<Self>, Memory>
         ensures { IfOk result (Scans kind bytes.now) };
+
+    /// The phase before such a head.
+    fn first_phase() -> HeadPhase
+        ensures { Opens kind.begins result };
 
     /// The body behind the head.
     fn framing(&self) -> Framing
@@ -38,6 +45,10 @@ impl Head for RequestParts {
 
     fn scan(alloc: Global, bytes: &[u8]) -> Result<Scan<RequestParts>, Memory> {
         scan_head(alloc, bytes)
+    }
+
+    fn first_phase() -> HeadPhase {
+        HeadPhase::of_request()
     }
 
     fn framing(&self) -> Framing {
@@ -73,6 +84,10 @@ impl Head for ResponseParts {
 
     fn scan(alloc: Global, bytes: &[u8]) -> Result<Scan<ResponseParts>, Memory> {
         scan_response_head(alloc, bytes)
+    }
+
+    fn first_phase() -> HeadPhase {
+        HeadPhase::of_response()
     }
 
     fn framing(&self) -> Framing {

@@ -20,12 +20,15 @@ use Rattle.part_calc.specs.declared.contents.Content.TheVariants.{Plain, Formula
 use Rattle.part_calc.specs.Contents.{content_of, is_formula}
 use Rattle.part_calc.specs.Parts.{Part, text_at, with_text, content_at, value_at}
 use Rattle.part_calc.specs.Shown.{shown_at, shown_value, differs, changed_cells}
-use Rattle.part_calc.specs.Finding.{known_at, seen_in, seen_at, is_listed, Covers}
-use Rattle.part_calc.specs.Kept.{IsShown, text_shown}
+use Rattle.part_calc.specs.Dependants.{Depend}
+use Rattle.part_calc.specs.Finding.{is_listed}
+use Rattle.part_calc.specs.Fates.{Fates, fate_in, is_fresh, text_shown, IsKept, IsRight}
+use Rattle.formula_base.specs.declared.values.Value.{Value}
 use Rattle.part_calc.proofs.PositionLaws.{exact_positions, same_positions, lookup_insert, lookup_remove}
 use Rattle.part_calc.proofs.TextLaws.{empty_content}
 use Rattle.part_calc.proofs.ListLaws.{sorted_fold, listed_fold, listed_filter, same_filters}
-use Rattle.part_calc.proofs.ShownLaws.{shown_kept}
+use Rattle.part_calc.proofs.ShownLaws.{shown_kept, shown_right}
+use Rattle.part_calc.proofs.DependantLaws.{shown_apart}
 
 -- ---- texts and the cells that have one
 
@@ -81,14 +84,6 @@ formulas_cover part at raw positions sorted listed p is =
     ∙ ap (λ (b : Bool). b && is_listed positions p) is
     ∙ listed p ∙ texted_before part at raw p sorted (formula_texted (with_text part at raw) p is)
 
-pub covers_formulas : (part : Part) (formulas : List Position) → ((p : Position) → is_formula (content_at part p) ≡ true → is_listed formulas p ≡ true) → Covers part [] formulas
-unfolding seen_at known_at
-covers_formulas part formulas listed p lost = listed p (by (content_at part p) lost)
-  where
-    by : (c : Content) → is_none (seen_in c None) ≡ true → is_formula c ≡ true
-    by (Plain v) e = absurd (both_ways false refl e)
-    by (Formula x) e = refl
-
 -- ---- changes
 
 same_none : (xs ys : List ℕ) → xs ≡ [] → ys ≡ [] → not (bytes_eq xs ys) ≡ false
@@ -104,21 +99,24 @@ differs_texted old new p d = by (is_listed (keys_of old) p) (is_listed (keys_of 
     by false false x y =
         absurd (both_ways (differs old new p) (same_none (shown_at old p) (shown_at new p) (no_text_shown old p (no_text old p x)) (no_text_shown new p (no_text new p y))) d)
 
--- the cells that differ among those that an edit may concern
-pub changes_are : (old : Part) (at : Position) (raw : List ℕ) (positions : List Position) → IsStrictlySortedBy position_cmp (keys_of old) → IsStrictlySortedBy position_cmp positions → ((p : Position) → is_listed positions p ≡ (is_at (position_cmp p) at || is_listed (keys_of old) p))
+-- the cells that differ among those that an edit affects
+pub changes_are : (old : Part) (at : Position) (raw : List ℕ) (positions : List Position) (affected : Position → Bool) → IsStrictlySortedBy position_cmp (keys_of old) → IsStrictlySortedBy position_cmp positions → Depend old at affected → ((p : Position) → affected p ≡ true → is_listed positions p ≡ true)
     → filter (differs old (with_text old at raw)) positions ≡ changed_cells old (with_text old at raw)
 unfolding changed_cells
-changes_are old at raw positions sorted ordered listed =
+changes_are old at raw positions affected sorted ordered depend listed =
     same_filters (differs old (with_text old at raw)) positions (fold (insert_key position_cmp) (keys_of old) (keys_of (with_text old at raw))) ordered (sorted_fold (keys_of old) (keys_of (with_text old at raw)) sorted)
-    (λ p d.
-    let texted = differs_texted old (with_text old at raw) p d in
-    listed p ∙ among p (or_cases (is_listed (keys_of old) p) (is_listed (keys_of (with_text old at raw)) p) texted)
-    ∙ sym (listed_fold (keys_of old) (keys_of (with_text old at raw)) p ∙ texted))
+    (λ p d. listed p (reached p d) ∙ sym (listed_fold (keys_of old) (keys_of (with_text old at raw)) p ∙ differs_texted old (with_text old at raw) p d))
   where
-    among : (p : Position) → (is_listed (keys_of old) p ≡ true) ⊎ (is_listed (keys_of (with_text old at raw)) p ≡ true) → (is_at (position_cmp p) at || is_listed (keys_of old) p) ≡ true
-    among p c =
-        ⊎_elim (λ (e : is_listed (keys_of old) p ≡ true). or_right (is_at (position_cmp p) at) (is_listed (keys_of old) p) e)
-        (λ (e : is_listed (keys_of (with_text old at raw)) p ≡ true). texted_before old at raw p sorted e) c
+    bytes_same : (xs : List ℕ) → bytes_eq xs xs ≡ true
+    bytes_same xs = nat_list_eq_equiv.refl xs
+
+    reached : (p : Position) → differs old (with_text old at raw) p ≡ true → affected p ≡ true
+    reached p d =
+        ⊎_elim (λ (e : affected p ≡ true). e)
+        (λ (e : affected p ≡ false).
+        absurd (both_ways (differs old (with_text old at raw) p)
+        (not_from_true (bytes_eq (shown_at old p) (shown_at (with_text old at raw) p)) (ap (bytes_eq (shown_at old p)) (shown_apart old at raw affected sorted depend p e) ∙ bytes_same (shown_at old p))) d))
+        (cases_Bool (affected p))
 
 -- exactly these are listed
 pub changed_listed : (old new : Part) (p : Position) → is_listed (changed_cells old new) p ≡ differs old new p
@@ -139,27 +137,24 @@ changed_ordered old new sorted =
 -- ---- for the code
 
 -- what a cell shows by two look-ups
-pub old_text_is : (part : Part) (shown : List (Position × List ℕ)) (p : Position) (cell found : Option (Bor (List ℕ))) (text : List ℕ) → IsShown part shown → option_copied cell ≡ lookup (is_at (position_cmp p)) part → option_copied found ≡ lookup (is_at (position_cmp p)) shown
+pub old_text_is : (part : Part) (kept : Fates) (p : Position) (cell : Option (Bor (List ℕ))) (found : Option (Bor (Option Value))) (text : List ℕ) → IsKept part kept → option_copied cell ≡ lookup (is_at (position_cmp p)) part → option_copied found ≡ fate_in kept p
     → text ≡ text_shown (unwrap_or (option_copied cell) []) (option_copied found) → text ≡ shown_at part p
 unfolding text_at
-old_text_is part shown p cell found text kept a b is =
-    is ∙ ap (λ (o : Option (List ℕ)). text_shown (unwrap_or o []) (option_copied found)) a ∙ ap (text_shown (text_at part p)) b ∙ shown_kept part shown kept p
+old_text_is part kept p cell found text right a b is =
+    is ∙ ap (λ (o : Option (List ℕ)). text_shown (unwrap_or o []) (option_copied found)) a ∙ ap (text_shown (text_at part p)) b ∙ shown_kept part kept right p
 
-new_text_is : (part : Part) (shown : List (Position × List ℕ)) (p : Position) (cell found : Option (Bor (List ℕ))) → IsShown part shown → MatchOption cell (text_at part p ≡ []) (λ c. c.now ≡ text_at part p) → option_copied found ≡ lookup (is_at (position_cmp p)) shown
-    → text_shown (unwrap_or (option_copied cell) []) (option_copied found) ≡ shown_at part p
-new_text_is part shown p cell found kept a b =
-    ap (λ (raw : List ℕ). text_shown raw (option_copied found)) (by cell a) ∙ ap (text_shown (text_at part p)) b ∙ shown_kept part shown kept p
-  where
-    by : (o : Option (Bor (List ℕ))) → MatchOption o (text_at part p ≡ []) (λ c. c.now ≡ text_at part p) → unwrap_or (option_copied o) [] ≡ text_at part p
-    by None e = sym e
-    by (Some c) e = e
+-- the text of a cell, as a look-up lends it
+text_of_cell : (part : Part) (p : Position) (cell : Option (Bor (List ℕ))) → MatchOption cell (text_at part p ≡ []) (λ c. c.now ≡ text_at part p) → unwrap_or (option_copied cell) [] ≡ text_at part p
+text_of_cell part p None e = sym e
+text_of_cell part p (Some c) e = e
 
--- whether a cell's text differs, by the old text and two look-ups
-pub differs_is : (old new : Part) (shown : List (Position × List ℕ)) (p : Position) (text : List ℕ) (cell found : Option (Bor (List ℕ))) (r : Bool) → IsShown new shown → text ≡ shown_at old p → MatchOption cell (text_at new p ≡ []) (λ c. c.now ≡ text_at new p) → option_copied found ≡ lookup (is_at (position_cmp p)) shown
-    → r ≡ not (bytes_eq text (text_shown (unwrap_or (option_copied cell) []) (option_copied found))) → r ≡ differs old new p
-differs_is old new shown p text cell found r kept before a b is =
-    is ∙ ap (λ (t : List ℕ). not (bytes_eq t (text_shown (unwrap_or (option_copied cell) []) (option_copied found)))) before
-    ∙ ap (λ (t : List ℕ). not (bytes_eq (shown_at old p) t)) (new_text_is new shown p cell found kept a b)
+-- whether a cell's text differs, by the old text, a look-up and what becomes of its formula
+pub differs_is : (old new : Part) (e : Position × Option Value) (text : List ℕ) (cell : Option (Bor (List ℕ))) (r : Bool) → IsRight new e → text ≡ shown_at old e.0 → MatchOption cell (text_at new e.0 ≡ []) (λ c. c.now ≡ text_at new e.0)
+    → r ≡ not (bytes_eq text (text_shown (unwrap_or (option_copied cell) []) (Some e.1))) → r ≡ differs old new e.0
+differs_is old new e text cell r right before a is =
+    is ∙ ap (λ (t : List ℕ). not (bytes_eq t (text_shown (unwrap_or (option_copied cell) []) (Some e.1)))) before
+    ∙ ap (λ (t : List ℕ). not (bytes_eq (shown_at old e.0) (text_shown t (Some e.1)))) (text_of_cell new e.0 cell a)
+    ∙ ap (λ (t : List ℕ). not (bytes_eq (shown_at old e.0) t)) (shown_right new e right)
 
 -- the formulas of the part after an edit are among those that were picked out
 pub computed_cover : (cells edited : Part) (at : Position) (raw : List ℕ) (positions taken computed given : List Position) → IsStrictlySortedBy position_cmp (keys_of cells) → edited ≡ with_text cells at raw
@@ -170,10 +165,11 @@ computed_cover cells edited at raw positions taken computed given sorted is list
     ∙ ap (λ (s : Part). is_listed (filter (λ q. is_formula (content_at s q)) positions) p) is
     ∙ formulas_cover cells at raw positions sorted listed p (ap (λ (s : Part). is_formula (content_at s p)) (sym is) ∙ kind)
 
-pub changed_is : (cells edited : Part) (at : Position) (raw : List ℕ) (positions taken changed : List Position) → IsStrictlySortedBy position_cmp (keys_of cells) → edited ≡ with_text cells at raw → IsStrictlySortedBy position_cmp positions
-    → ((p : Position) → is_listed positions p ≡ (is_at (position_cmp p) at || is_listed (keys_of cells) p)) → taken ≡ positions → changed ≡ filter (differs cells edited) taken → changed ≡ changed_cells cells (with_text cells at raw)
-changed_is cells edited at raw positions taken changed sorted is ordered listed taken_is told =
-    told ∙ ap (filter (differs cells edited)) taken_is ∙ ap (λ (s : Part). filter (differs cells s) positions) is ∙ changes_are cells at raw positions sorted ordered listed
+pub changed_is : (cells edited : Part) (at : Position) (raw : List ℕ) (fresh items taken : Fates) (changed : List Position) → IsStrictlySortedBy position_cmp (keys_of cells) → edited ≡ with_text cells at raw → IsStrictlySortedBy position_cmp (keys_of items)
+    → Depend cells at (is_fresh fresh) → ((p : Position) → is_fresh fresh p ≡ true → is_fresh items p ≡ true) → taken ≡ items → changed ≡ filter (differs cells edited) (keys_of taken) → changed ≡ changed_cells cells (with_text cells at raw)
+changed_is cells edited at raw fresh items taken changed sorted is ordered depend stay taken_is told =
+    told ∙ ap (λ (es : Fates). filter (differs cells edited) (keys_of es)) taken_is ∙ ap (λ (s : Part). filter (differs cells s) (keys_of items)) is
+    ∙ changes_are cells at raw (keys_of items) (is_fresh fresh) sorted ordered depend (λ p there. sym (is_some-lookup (is_at (position_cmp p)) items) ∙ stay p there)
 
 -- ---- what a change says of single cells
 

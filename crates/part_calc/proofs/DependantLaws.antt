@@ -38,7 +38,7 @@ stays false h = refl
 elsewhere : (part : Part) (at : Position) (affected : Position → Bool) → Depend part at affected → (c : Position) → affected c ≡ false → c ≢ at
 elsewhere part at affected depend c is same = both_ways (affected at) (sym (ap affected same) ∙ is) depend.start
 
-same_content : (part : Part) (at : Position) (raw : List ℕ) (affected : Position → Bool) → IsStrictlySortedBy position_cmp (keys_of part) → Depend part at affected → (c : Position) → affected c ≡ false → content_at (with_text part at raw) c ≡ content_at part c
+pub same_content : (part : Part) (at : Position) (raw : List ℕ) (affected : Position → Bool) → IsStrictlySortedBy position_cmp (keys_of part) → Depend part at affected → (c : Position) → affected c ≡ false → content_at (with_text part at raw) c ≡ content_at part c
 same_content part at raw affected sorted depend c is = ap content_of (text_other part at raw c sorted (elsewhere part at affected depend c is))
 
 -- a cell that stays reads cells that stay

@@ -1,11 +1,12 @@
 -- Finding values cell by cell: what is seen stays right, and what is not seen when nothing moves is circular.
-use Rattle.std.proofs.Common.{◌≡◌, ℕ, suc, ◌+◌, ◌<◌, ◌≤◌, Bool, true, false, cond, ◌||◌, List, [], ◌∷◌, ◌++◌, length, drop, get_or, Option, Some, None, refl, ap, sym, ◌∙◌, subst, ⊎_elim, arith, unwrap_or, drop-cons, drop_of_length-le, length-append, add-one}
+use Rattle.std.proofs.Common.{◌≡◌, ℕ, suc, ◌+◌, ◌<◌, ◌≤◌, Bool, true, false, cond, ◌||◌, ◌⊎◌, inl, inr, List, [], ◌∷◌, ◌++◌, length, drop, get_or, Option, Some, None, refl, ap, sym, ◌∙◌, subst, ⊎_elim, arith, unwrap_or, drop-cons, drop_of_length-le, length-append, add-one}
 use Rattle.std.specs.BTreeMap.{is_at, insert_entry}
 use Rattle.std.specs.List.{list_any, list_all, AllByRecursion}
 use Rattle.std.specs.Option.{is_some, is_none}
-use Rattle.std.proofs.lemmas.Bool.{both_ways, or_cases, or_left, or_right, and_cases, cond-true, cond-false}
+use Rattle.std.proofs.lemmas.Bool.{both_ways, cases_Bool, or_cases, or_left, or_right, and_cases, cond-true, cond-false}
 use Rattle.std.proofs.lemmas.List.Folds.{list_any-append}
-use Rattle.calc_base.proofs.ValueLaws.{found_follows, lost_circular}
+use Rattle.calc_base.proofs.ValueLaws.{found_follows}
+use Rattle.calc_base.proofs.EditLaws.{full_at_end}
 use Rattle.formula_base.specs.declared.values.Value.{Value}
 use Rattle.formula_base.specs.declared.values.Value.TheVariants.{Empty, Fault}
 use Rattle.formula_base.specs.declared.values.CellFault.TheVariants.{Circ}
@@ -16,7 +17,8 @@ use Rattle.part_calc.specs.declared.contents.Content.{Content}
 use Rattle.part_calc.specs.declared.contents.Content.TheVariants.{Plain, Formula}
 use Rattle.part_calc.specs.Contents.{is_formula, reads_in, value_with}
 use Rattle.part_calc.specs.Parts.{Part, content_at, formulas, reads_at, step_at, is_circular, value_at}
-use Rattle.part_calc.specs.Finding.{Known, known_at, seen_in, seen_at, look_at, is_ready, attempted, known_after, left_after, IsSound, is_listed, Covers, AllWait, IsSwept, AreFound}
+use Rattle.part_calc.specs.Finding.{Known, with_found, seen_in, seen_at, look_at, is_ready, attempted, known_after, left_after, IsSound, is_listed, Covers, AllWait, IsSwept, AreFound}
+use Rattle.part_calc.specs.Fates.{Fates, fate_in, is_fresh, found_over, fresh_after, fate_at}
 use Rattle.part_calc.proofs.PositionLaws.{at_one, lookup_insert}
 use Rattle.part_calc.proofs.PartLaws.{covers, local, plain_cell, circular_value}
 
@@ -30,9 +32,9 @@ seen_found (Plain w) v h = both_ways false refl h
 seen_found (Formula e) v h = both_ways false refl h
 
 -- what is seen at a cell once another value was found
-seen_insert : (part : Part) (known : Known) (p : Position) (v : Value) (q : Position) → seen_at part (insert_entry position_cmp known p v) q ≡ seen_in (content_at part q) (cond (is_at (position_cmp q) p) (Some v) (known_at known q))
-unfolding seen_at known_at
-seen_insert part known p v q = ap (seen_in (content_at part q)) (lookup_insert known p v q)
+seen_insert : (part : Part) (known : Known) (p : Position) (v : Value) (q : Position) → seen_at part (with_found known p v) q ≡ seen_in (content_at part q) (cond (is_at (position_cmp q) p) (Some v) (known q))
+unfolding seen_at
+seen_insert part known p v q = refl
 
 -- ---- soundness
 
@@ -42,16 +44,17 @@ unfolding is_circular value_at
 ready_value part known sound p ready =
     found_follows (Fault Circ) (reads_at part) (formulas part) (step_at part) (covers part) (local part) (seen_at part known) sound p ready
 
-pub sound_start : (part : Part) → IsSound part []
-unfolding seen_at known_at
-sound_start part p v = by (content_at part p) refl
+-- where nothing was found
+pub sound_none : (part : Part) (known : Known) → ((p : Position) → known p ≡ None) → IsSound part known
+unfolding seen_at
+sound_none part known none p v = by (content_at part p) refl
   where
-    by : (c : Content) → content_at part p ≡ c → seen_in c None ≡ Some v → (is_circular part p ≡ false) × (value_at part p ≡ v)
-    by (Plain w) is e = let plain = plain_cell part p w is in (plain.0, plain.1 ∙ some_same w v e)
-      where
-        some_same : (a b : Value) → Some a ≡ Some b → a ≡ b
-        some_same a b e = cc
-    by (Formula x) is e = absurd (none_from_some v (sym e))
+    some_one : (a b : Value) → Some a ≡ Some b → a ≡ b
+    some_one a b e = cc
+
+    by : (c : Content) → content_at part p ≡ c → seen_in c (known p) ≡ Some v → (is_circular part p ≡ false) × (value_at part p ≡ v)
+    by (Plain w) is e = let plain = plain_cell part p w is in (plain.0, plain.1 ∙ some_one w v e)
+    by (Formula x) is e = absurd (none_from_some v (sym e ∙ none p))
 
 some_same : (a b : Value) → Some a ≡ Some b → a ≡ b
 some_same a b e = cc
@@ -65,15 +68,15 @@ attempted_ready part known p v = by (is_ready part known p) refl
     by false is e = absurd (none_from_some v (sym e))
 
 -- what is found at a ready cell is right too
-sound_more : (part : Part) (known : Known) (p : Position) (v : Value) → IsSound part known → attempted part known p ≡ Some v → IsSound part (insert_entry position_cmp known p v)
+sound_more : (part : Part) (known : Known) (p : Position) (v : Value) → IsSound part known → attempted part known p ≡ Some v → IsSound part (with_found known p v)
 unfolding seen_at
 sound_more part known p v sound tried q w e =
     by (is_at (position_cmp q) p) (content_at part q) refl refl (sym (seen_insert part known p v q) ∙ e)
   where
-    before : (c : Content) → content_at part q ≡ c → seen_in c (known_at known q) ≡ Some w → (is_circular part q ≡ false) × (value_at part q ≡ w)
-    before c is e = sound q w (ap (λ (d : Content). seen_in d (known_at known q)) is ∙ e)
+    before : (c : Content) → content_at part q ≡ c → seen_in c (known q) ≡ Some w → (is_circular part q ≡ false) × (value_at part q ≡ w)
+    before c is e = sound q w (ap (λ (d : Content). seen_in d (known q)) is ∙ e)
 
-    by : (b : Bool) (c : Content) → is_at (position_cmp q) p ≡ b → content_at part q ≡ c → seen_in c (cond b (Some v) (known_at known q)) ≡ Some w → (is_circular part q ≡ false) × (value_at part q ≡ w)
+    by : (b : Bool) (c : Content) → is_at (position_cmp q) p ≡ b → content_at part q ≡ c → seen_in c (cond b (Some v) (known q)) ≡ Some w → (is_circular part q ≡ false) × (value_at part q ≡ w)
     by false c at is e = before c is e
     by true (Plain u) at is e = before (Plain u) is e
     by true (Formula x) at is e =
@@ -118,30 +121,38 @@ pub all_push : (P : Position → Type 0) (positions : List Position) (p : Positi
 all_push P [] p all here = (here, tt)
 all_push P (x ∷ positions) p all here = (all.0, all_push P positions p all.1 here)
 
--- where each cell that isn't seen waits for another, all is found
+-- where each cell that isn't seen waits for another or is circular, all is found
 pub all_found : (part : Part) (known : Known) (left : List Position) → IsSound part known → Covers part known left → AllWait part known left → AreFound part known
-unfolding is_circular seen_at
-all_found part known left sound covered waits = record {
-  found = λ p v e is. (sound p v (seen_formula p (Some v) e is)).1;
-  lost = λ p e is. circular_value part p (lost_circular (reads_at part) (formulas part) (seen_at part known) each_waits p (ap is_none (seen_formula p None e is)));
-}
+unfolding is_circular value_at seen_at fate_at
+all_found part known left sound covered waits p kind = by (known p) refl
   where
-    seen_formula : (p : Position) (o : Option Value) → known_at known p ≡ o → is_formula (content_at part p) ≡ true → seen_at part known p ≡ o
-    seen_formula p o e = by (content_at part p)
-      where
-        by : (c : Content) → is_formula c ≡ true → seen_in c (known_at known p) ≡ o
-        by (Plain v) is = absurd (both_ways false refl is)
-        by (Formula x) is = e
+    each_waits : (q : Position) → is_none (seen_at part known q) ≡ true → (list_any (λ r. is_none (seen_at part known r)) (reads_at part q) ≡ true) ⊎ (is_circular part q ≡ true)
+    each_waits q lost =
+        ⊎_elim
+        (λ (e : is_circular part q ≡ true). inr e)
+        (λ (e : is_circular part q ≡ false). inl (all_at (λ c. list_any (λ r. is_none (seen_at part known r)) (reads_at part c) ≡ true) left q waits (covered q e lost)))
+        (cases_Bool (is_circular part q))
 
-    each_waits : (p : Position) → is_none (seen_at part known p) ≡ true → list_any (λ r. is_none (seen_at part known r)) (reads_at part p) ≡ true
-    each_waits p h = all_at (λ q. list_any (λ r. is_none (seen_at part known r)) (reads_at part q) ≡ true) left p waits (covered p h)
+    lost_circles : is_none (seen_at part known p) ≡ true → is_circular part p ≡ true
+    lost_circles lost = full_at_end (Fault Circ) (reads_at part) (formulas part) (step_at part) (covers part) (seen_at part known) sound each_waits p lost
+
+    seen_formula_in : (c : Content) (o : Option Value) → is_formula c ≡ true → seen_in c o ≡ o
+    seen_formula_in (Plain v) o is = absurd (both_ways false refl is)
+    seen_formula_in (Formula x) o is = refl
+
+    by : (o : Option Value) → known p ≡ o → known p ≡ cond (is_circular part p) None (Some (value_at part p))
+    by (Some v) e =
+        let right = sound p v (seen_formula_in (content_at part p) (known p) kind ∙ e) in
+        e ∙ ap Some (sym right.1) ∙ sym (cond-false (is_circular part p) None (Some (value_at part p)) right.0)
+    by None e =
+        e ∙ sym (cond-true (is_circular part p) None (Some (value_at part p)) (lost_circles (ap is_none (seen_formula_in (content_at part p) (known p) kind ∙ e))))
 
 -- ---- a sweep
 
 -- what holds in a sweep before the try i
 pub record Held (part : Part) (known : Known) (waiting : List Position) (i : ℕ) (left : List Position) : Type 0 where
   pub sound : IsSound part known
-  pub covered : (p : Position) → is_none (seen_at part known p) ≡ true → (is_listed left p || is_listed (drop i waiting) p) ≡ true
+  pub covered : (p : Position) → is_circular part p ≡ false → is_none (seen_at part known p) ≡ true → (is_listed left p || is_listed (drop i waiting) p) ≡ true
   pub count : length left ≤ i
   pub still : length left ≡ i → AllWait part known left
 
@@ -174,36 +185,36 @@ joined false true c h = refl
 joined false false c h = h
 
 -- a try at a cell whose value was found before
-try_known : (part : Part) (known : Known) (waiting : List Position) (i : ℕ) (left : List Position) (position : Position) (v : Value) → Held part known waiting i left → i < length waiting → position ≡ get_or waiting i position → known_at known position ≡ Some v → Held part known waiting (i + 1) left
+try_known : (part : Part) (known : Known) (waiting : List Position) (i : ℕ) (left : List Position) (position : Position) (v : Value) → Held part known waiting i left → i < length waiting → position ≡ get_or waiting i position → known position ≡ Some v → Held part known waiting (i + 1) left
 unfolding seen_at
 try_known part known waiting i left position v held h is found = record {
   sound = held.sound;
-  covered = λ p lost.
+  covered = λ p free lost.
       dropped (is_listed left p) (is_at (position_cmp p) position) (is_listed (drop (i + 1) waiting) p)
-      (λ at. seen_found (content_at part p) v (subst (λ (o : Option Value). is_none (seen_in (content_at part p) o) ≡ true) (ap (known_at known) (at_one p position at) ∙ found) lost))
-      (subst (λ (b : Bool). (is_listed left p || b) ≡ true) (rest_listed waiting i position p h is) (held.covered p lost));
+      (λ at. seen_found (content_at part p) v (subst (λ (o : Option Value). is_none (seen_in (content_at part p) o) ≡ true) (ap known (at_one p position at) ∙ found) lost))
+      (subst (λ (b : Bool). (is_listed left p || b) ≡ true) (rest_listed waiting i position p h is) (held.covered p free lost));
   count = omega (arith, held.count);
   still = λ e. absurd (omega (arith, held.count, e));
 }
 
 -- what isn't seen now was not seen before
-seen_before : (part : Part) (known : Known) (p : Position) → is_none (seen_in (content_at part p) (known_at known p)) ≡ true → is_none (seen_at part known p) ≡ true
+seen_before : (part : Part) (known : Known) (p : Position) → is_none (seen_in (content_at part p) (known p)) ≡ true → is_none (seen_at part known p) ≡ true
 unfolding seen_at
 seen_before part known p lost = lost
 
 -- a try at a cell whose value is found now
 try_found : (part : Part) (known : Known) (waiting : List Position) (i : ℕ) (left : List Position) (position : Position) (v : Value) → Held part known waiting i left → i < length waiting → position ≡ get_or waiting i position → attempted part known position ≡ Some v
-    → Held part (insert_entry position_cmp known position v) waiting (i + 1) left
+    → Held part (with_found known position v) waiting (i + 1) left
 try_found part known waiting i left position v held h is tried = record {
   sound = sound_more part known position v held.sound tried;
-  covered = λ p lost.
+  covered = λ p free lost.
       by p (is_at (position_cmp p) position) refl (subst (λ (o : Option Value). is_none o ≡ true) (seen_insert part known position v p) lost)
-      (λ before. subst (λ (b : Bool). (is_listed left p || b) ≡ true) (rest_listed waiting i position p h is) (held.covered p before));
+      (λ before. subst (λ (b : Bool). (is_listed left p || b) ≡ true) (rest_listed waiting i position p h is) (held.covered p free before));
   count = omega (arith, held.count);
   still = λ e. absurd (omega (arith, held.count, e));
 }
   where
-    by : (p : Position) (b : Bool) → is_at (position_cmp p) position ≡ b → is_none (seen_in (content_at part p) (cond b (Some v) (known_at known p))) ≡ true
+    by : (p : Position) (b : Bool) → is_at (position_cmp p) position ≡ b → is_none (seen_in (content_at part p) (cond b (Some v) (known p))) ≡ true
         → (is_none (seen_at part known p) ≡ true → (is_listed left p || (is_at (position_cmp p) position || is_listed (drop (i + 1) waiting) p)) ≡ true)
         → (is_listed left p || is_listed (drop (i + 1) waiting) p) ≡ true
     by p true at lost before = absurd (seen_found (content_at part p) v lost)
@@ -217,26 +228,69 @@ try_waits part known waiting i left position held h is tried =
     let longer : length (left ++ position ∷ []) ≡ length left + 1 = simp length-append in
     record {
       sound = held.sound;
-      covered = λ p lost.
+      covered = λ p free lost.
           subst (λ (b : Bool). (b || is_listed (drop (i + 1) waiting) p) ≡ true) (sym (push_listed left position p))
           (joined (is_listed left p) (is_at (position_cmp p) position) (is_listed (drop (i + 1) waiting) p)
-          (subst (λ (b : Bool). (is_listed left p || b) ≡ true) (rest_listed waiting i position p h is) (held.covered p lost)));
+          (subst (λ (b : Bool). (is_listed left p || b) ≡ true) (rest_listed waiting i position p h is) (held.covered p free lost)));
       count = omega (arith, held.count, longer);
       still = λ e. all_push (λ q. list_any (λ r. is_none (seen_at part known r)) (reads_at part q) ≡ true) left position (held.still (omega (arith, longer, e))) (attempt_waits part known position tried);
     }
 
 -- a try
-pub try_more : (part : Part) (known after : Known) (waiting : List Position) (i : ℕ) (left left' : List Position) (position : Position) → Held part known waiting i left → i < length waiting → position ≡ get_or waiting i position
-    → after ≡ known_after (known_at known position) (attempted part known position) known position → left' ≡ left_after (known_at known position) (attempted part known position) left position → Held part after waiting (i + 1) left'
-try_more part known after waiting i left left' position held h is known_is left_is =
-    subst (λ (k : Known). Held part k waiting (i + 1) left') (sym known_is)
-    (subst (λ (l : List Position). Held part (known_after (known_at known position) (attempted part known position) known position) waiting (i + 1) l) (sym left_is)
-    (by (known_at known position) (attempted part known position) refl refl))
+try_any : (part : Part) (known : Known) (waiting : List Position) (i : ℕ) (left : List Position) (position : Position) → Held part known waiting i left → i < length waiting → position ≡ get_or waiting i position
+    → Held part (known_after (known position) (attempted part known position) known position) waiting (i + 1) (left_after (known position) (attempted part known position) left position)
+try_any part known waiting i left position held h is = by (known position) (attempted part known position) refl refl
   where
-    by : (found tried : Option Value) → known_at known position ≡ found → attempted part known position ≡ tried → Held part (known_after found tried known position) waiting (i + 1) (left_after found tried left position)
+    by : (found tried : Option Value) → known position ≡ found → attempted part known position ≡ tried → Held part (known_after found tried known position) waiting (i + 1) (left_after found tried left position)
     by (Some v) tried f t = try_known part known waiting i left position v held h is f
     by None (Some v) f t = try_found part known waiting i left position v held h is t
     by None None f t = try_waits part known waiting i left position held h is t
+
+-- functions that agree are one
+same_known : (f g : Known) → ((p : Position) → f p ≡ g p) → f ≡ g
+same_known f g same = λ i p. same p i
+
+-- what is known by a map to which a value was added
+known_insert : (fresh kept : Fates) (p : Position) (v : Value) (q : Position) → found_over (insert_entry position_cmp fresh p (Some v)) kept q ≡ with_found (found_over fresh kept) p v q
+unfolding found_over
+known_insert fresh kept p v q =
+    ap (λ (o : Option (Option Value)). unwrap_or o (unwrap_or (fate_in kept q) None)) (lookup_insert fresh p (Some v) q) ∙ by (is_at (position_cmp q) p)
+  where
+    by : (b : Bool) → unwrap_or (cond b (Some (Some v)) (fate_in fresh q)) (unwrap_or (fate_in kept q) None) ≡ cond b (Some v) (unwrap_or (fate_in fresh q) (unwrap_or (fate_in kept q) None))
+    by true = refl
+    by false = refl
+
+known_fresh : (fresh kept : Fates) (p : Position) (found tried : Option Value) → found_over (fresh_after found tried fresh p) kept ≡ known_after found tried (found_over fresh kept) p
+known_fresh fresh kept p (Some v) tried = refl
+known_fresh fresh kept p None (Some v) = same_known (found_over (insert_entry position_cmp fresh p (Some v)) kept) (with_found (found_over fresh kept) p v) (known_insert fresh kept p v)
+known_fresh fresh kept p None None = refl
+
+-- a try, as the code makes it
+pub try_more : (part : Part) (fresh after kept : Fates) (waiting : List Position) (i : ℕ) (left left' : List Position) (position : Position) → Held part (found_over fresh kept) waiting i left → i < length waiting → position ≡ get_or waiting i position
+    → after ≡ fresh_after (found_over fresh kept position) (attempted part (found_over fresh kept) position) fresh position → left' ≡ left_after (found_over fresh kept position) (attempted part (found_over fresh kept) position) left position
+    → Held part (found_over after kept) waiting (i + 1) left'
+try_more part fresh after kept waiting i left left' position held h is fresh_is left_is =
+    let known = found_over fresh kept in
+    subst (λ (es : Fates). Held part (found_over es kept) waiting (i + 1) left') (sym fresh_is)
+    (subst (λ (l : List Position). Held part (found_over (fresh_after (known position) (attempted part known position) fresh position) kept) waiting (i + 1) l) (sym left_is)
+    (subst (λ (k : Known). Held part k waiting (i + 1) (left_after (known position) (attempted part known position) left position)) (sym (known_fresh fresh kept position (known position) (attempted part known position)))
+    (try_any part known waiting i left position held h is)))
+
+-- no cell is taken out by a try
+fresh_insert : (fresh : Fates) (p : Position) (v : Value) (q : Position) → is_fresh fresh q ≡ true → is_fresh (insert_entry position_cmp fresh p (Some v)) q ≡ true
+fresh_insert fresh p v q there = ap is_some (lookup_insert fresh p (Some v) q) ∙ by (is_at (position_cmp q) p)
+  where
+    by : (b : Bool) → is_some (cond b (Some (Some v)) (fate_in fresh q)) ≡ true
+    by true = refl
+    by false = there
+
+pub try_stays : (fresh after : Fates) (p : Position) (found tried : Option Value) → after ≡ fresh_after found tried fresh p → (q : Position) → is_fresh fresh q ≡ true → is_fresh after q ≡ true
+try_stays fresh after p found tried is q there = subst (λ (es : Fates). is_fresh es q ≡ true) (sym is) (by found tried)
+  where
+    by : (f t : Option Value) → is_fresh (fresh_after f t fresh p) q ≡ true
+    by (Some v) t = there
+    by None (Some v) = fresh_insert fresh p v q there
+    by None None = there
 
 -- after the last try
 pub swept : (part : Part) (known : Known) (waiting : List Position) (i : ℕ) (left : List Position) → length waiting ≤ i → i ≤ length waiting → Held part known waiting i left → IsSwept part known waiting left
@@ -244,8 +298,8 @@ swept part known waiting i left h k held =
     let all : i ≡ length waiting = omega arith in
     record {
       sound = held.sound;
-      covers = λ p lost.
-          none_more (is_listed left p) (is_listed (drop i waiting) p) (ap (λ (xs : List Position). is_listed xs p) (drop_of_length-le waiting h)) (held.covered p lost);
+      covers = λ p free lost.
+          none_more (is_listed left p) (is_listed (drop i waiting) p) (ap (λ (xs : List Position). is_listed xs p) (drop_of_length-le waiting h)) (held.covered p free lost);
       fewer = omega (arith, held.count);
       still = λ e. held.still (e ∙ sym all);
     }
@@ -261,7 +315,7 @@ pub attempt_plain : (part : Part) (known : Known) (p : Position) → is_formula 
 unfolding attempted seen_at
 attempt_plain part known p = by (content_at part p)
   where
-    by : (c : Content) → is_formula c ≡ false → cond (list_all (λ r. is_some (seen_at part known r)) (reads_in c)) (Some (value_with c (look_at part known))) None ≡ Some (unwrap_or (seen_in c (known_at known p)) (Fault Circ))
+    by : (c : Content) → is_formula c ≡ false → cond (list_all (λ r. is_some (seen_at part known r)) (reads_in c)) (Some (value_with c (look_at part known))) None ≡ Some (unwrap_or (seen_in c (known p)) (Fault Circ))
     by (Plain v) is = refl
     by (Formula e) is = absurd (both_ways true is refl)
 
@@ -281,36 +335,27 @@ attempt_early part known p e is all =
 
 pub seen_plain : (part : Part) (known : Known) (p : Position) (v : Value) → content_at part p ≡ Plain v → seen_at part known p ≡ Some v
 unfolding seen_at
-seen_plain part known p v is = ap (λ (c : Content). seen_in c (known_at known p)) is
+seen_plain part known p v is = ap (λ (c : Content). seen_in c (known p)) is
 
-pub seen_formula : (part : Part) (known : Known) (p : Position) (e : Expr) → content_at part p ≡ Formula e → seen_at part known p ≡ known_at known p
+pub seen_formula : (part : Part) (known : Known) (p : Position) (e : Expr) → content_at part p ≡ Formula e → seen_at part known p ≡ known p
 unfolding seen_at
-seen_formula part known p e is = ap (λ (c : Content). seen_in c (known_at known p)) is
+seen_formula part known p e is = ap (λ (c : Content). seen_in c (known p)) is
 
 pub is_seen_plain : (part : Part) (known : Known) (p : Position) → is_formula (content_at part p) ≡ false → is_some (seen_at part known p) ≡ true
 unfolding seen_at
 is_seen_plain part known p = by (content_at part p)
   where
-    by : (c : Content) → is_formula c ≡ false → is_some (seen_in c (known_at known p)) ≡ true
+    by : (c : Content) → is_formula c ≡ false → is_some (seen_in c (known p)) ≡ true
     by (Plain v) is = refl
     by (Formula e) is = absurd (both_ways true is refl)
 
 -- what a formula that names a cell is given, by what the cell's text says
-pub look_through : (part : Part) (known : Known) (p : Position) (c : Content) → c ≡ content_at part p → unwrap_or (seen_in c (known_at known p)) (Fault Circ) ≡ look_at part known p
+pub look_through : (part : Part) (known : Known) (p : Position) (c : Content) → c ≡ content_at part p → unwrap_or (seen_in c (known p)) (Fault Circ) ≡ look_at part known p
 unfolding seen_at
-look_through part known p c is = ap (λ (d : Content). unwrap_or (seen_in d (known_at known p)) (Fault Circ)) is
+look_through part known p c is = ap (λ (d : Content). unwrap_or (seen_in d (known p)) (Fault Circ)) is
 
 pub look_empty : (part : Part) (known : Known) (p : Position) → content_at part p ≡ Plain Empty → Empty ≡ look_at part known p
 look_empty part known p is = look_through part known p (Plain Empty) (sym is)
-
-pub covers_more : (part : Part) (known : Known) (positions formulas : List Position) → Covers part known formulas → Covers part known (positions ++ formulas)
-covers_more part known positions formulas covered p lost =
-    list_any-append (is_at (position_cmp p)) positions formulas ∙ or_right (is_listed positions p) (is_listed formulas p) (covered p lost)
-
--- before the first sweep
-pub find_first : (part : Part) (formulas positions waiting : List Position) (known : Known) → Covers part [] formulas → known ≡ [] → waiting ≡ positions ++ formulas → IsSound part known × Covers part known waiting
-find_first part formulas positions waiting known covered none is =
-    (subst (IsSound part) (sym none) (sound_start part), subst (λ (k : Known). Covers part k waiting) (sym none) (subst (Covers part []) (sym is) (covers_more part [] positions formulas covered)))
 
 -- after a sweep that found nothing
 pub find_last : (part : Part) (known : Known) (taken waiting left : List Position) (count number : ℕ) → IsSwept part known taken left → taken ≡ waiting → count ≡ length waiting → number ≡ length left → number ≡ count → AreFound part known

@@ -2,12 +2,16 @@ pub mod PositionLaws
 pub mod TextLaws
 pub mod LocalLaws
 pub mod PartLaws
+pub mod DependantLaws
 pub mod FindLaws
 pub mod ShownLaws
+pub mod FoundLaws
+pub mod WalkingLaws
 pub mod ListLaws
+pub mod KnowLaws
 pub mod ChangeLaws
 pub mod KeptLaws
 pub mod LengthLaws
 pub mod EditLengths
-pub mod DependantLaws
 pub mod ReaderLaws
+pub mod EditLaws

@@ -50,6 +50,22 @@ parts_differ p q h same =
     both_ways (eqb p.0 q.0 && eqb p.1 q.1) (sym h)
     (and_from (eqb p.0 q.0) (eqb p.1 q.1) (eq-eqb p.0 q.0 (ap (λ (r : Position). r.0) same)) (eq-eqb p.1 q.1 (ap (λ (r : Position). r.1) same)))
 
+-- positions are one exactly where their parts are
+pub at_parts : (p q : Position) → (eqb p.0 q.0 && eqb p.1 q.1) ≡ is_at (position_cmp p) q
+at_parts p q = by (eqb p.0 q.0 && eqb p.1 q.1) refl
+  where
+    by : (b : Bool) → b ≡ (eqb p.0 q.0 && eqb p.1 q.1) → b ≡ is_at (position_cmp p) q
+    by true h = sym (ap (is_at (position_cmp p)) (sym (position_from_parts p q h)) ∙ at_itself p)
+    by false h = sym (at_other p q (parts_differ p q h))
+
+-- one position is at another exactly where that is at it
+pub at_flip : (p q : Position) → is_at (position_cmp p) q ≡ is_at (position_cmp q) p
+at_flip p q = by (is_at (position_cmp p) q) refl
+  where
+    by : (b : Bool) → is_at (position_cmp p) q ≡ b → b ≡ is_at (position_cmp q) p
+    by true h = sym (ap (is_at (position_cmp q)) (at_one p q h) ∙ at_itself q)
+    by false h = sym (at_other q p (λ same. both_ways (is_at (position_cmp p) q) h (ap (is_at (position_cmp p)) same ∙ at_itself p)))
+
 -- what an insert leaves at a position
 pub lookup_insert : {X : Type 0} (es : List (Position × X)) (k : Position) (v : X) (q : Position) → lookup (is_at (position_cmp q)) (insert_entry position_cmp es k v) ≡ cond (is_at (position_cmp q) k) (Some v) (lookup (is_at (position_cmp q)) es)
 lookup_insert [] k v q = refl

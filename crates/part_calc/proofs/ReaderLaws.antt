@@ -7,15 +7,16 @@ use Rattle.formula_base.specs.declared.expressions.Expr.{Expr}
 use Rattle.formula_base.specs.Ranges.{Position, position_cmp}
 use Rattle.formula_base.specs.Blocks.{Block, is_within}
 use Rattle.formula_base.specs.Evaluation.{names_of, reads_of}
-use Rattle.part_calc.specs.Contents.{content_of, reads_in}
+use Rattle.part_calc.specs.declared.contents.Content.{Content}
+use Rattle.part_calc.specs.Contents.{content_of, reads_in, blocks_in}
 use Rattle.part_calc.specs.Finding.{is_listed}
 use Rattle.part_calc.specs.Parts.{Part}
 use Rattle.part_calc.specs.Readers.{readers_of}
-use Rattle.part_calc.proofs.ListLaws.{listed_fold}
+use Rattle.part_calc.proofs.KnowLaws.{read_within}
 
--- what an expression names it reads
-pub named : (e : Expr) (blocks : List Block) (p : Position) (b : Bool) → ((p : Position) → list_any (is_within p) blocks ≡ list_any (is_at (position_cmp p)) (names_of e)) → b ≡ list_any (is_within p) blocks → b ≡ is_listed (reads_of e) p
-named e blocks p b held is = is ∙ held p ∙ sym (listed_fold [] (names_of e) p)
+-- what lies in a block of a cell's formula it reads
+pub named : (c : Content) (p : Position) (b : Bool) → b ≡ list_any (is_within p) (blocks_in c) → b ≡ is_listed (reads_in c) p
+named c p b is = is ∙ read_within c p
 
 one_reader : (p : Position) (e : Position × List ℕ) (part : Part) (b : Bool) → b ≡ is_listed (reads_in (content_of e.1)) p → readers_of (e ∷ part) p ≡ cond b (e.0 ∷ readers_of part p) (readers_of part p)
 unfolding readers_of

@@ -8,6 +8,7 @@ use Rattle.formula_base.specs.declared.values.Value.TheVariants as value
 use Rattle.formula_base.specs.declared.expressions.Expr.{Expr}
 use Rattle.formula_base.specs.Ranges.{Position}
 use Rattle.formula_base.specs.Evaluation.{eval_of, reads_of}
+use Rattle.formula_base.specs.Blocks.{Block, blocks_of}
 use Rattle.sheet_formula.specs.Grammar.{formula_of}
 use Rattle.part_calc.specs.declared.contents.Content.{Content}
 use Rattle.part_calc.specs.declared.contents.Content.TheVariants.{Plain as Fixed, Formula}
@@ -35,6 +36,11 @@ is_formula (Formula e) = true
 abbrev pub reads_in : Content → List Position
 reads_in (Fixed v) = []
 reads_in (Formula e) = reads_of e
+
+-- the blocks of cells that it names
+abbrev pub blocks_in : Content → List Block
+blocks_in (Fixed v) = []
+blocks_in (Formula e) = blocks_of e
 
 -- its value, where the cells of the part have these values
 abbrev pub value_with : Content → (Position → Value) → Value

@@ -2,8 +2,7 @@
 use Rattle.std.specs.Prelude.{◌≡◌, ◌≤◌, Bool, true, false, List, [], ◌∷◌, ◌++◌, length, Option, Some, None, unwrap_or, if◌then◌else◌}
 use Rattle.std.specs.List.{list_all, list_any, AllByRecursion}
 use Rattle.std.specs.Option.{is_some, is_none}
-use Rattle.std.specs.Map.{lookup}
-use Rattle.std.specs.BTreeMap.{is_at, insert_entry}
+use Rattle.std.specs.BTreeMap.{is_at}
 use Rattle.formula_base.specs.declared.values.Value.{Value}
 use Rattle.formula_base.specs.declared.values.Value.TheVariants.{Fault}
 use Rattle.formula_base.specs.declared.values.CellFault.TheVariants.{Circ}
@@ -12,14 +11,15 @@ use Rattle.part_calc.specs.declared.contents.Content.{Content}
 use Rattle.part_calc.specs.declared.contents.Content.TheVariants.{Plain, Formula}
 use Rattle.part_calc.specs.Contents.{is_formula}
 use Rattle.part_calc.specs.Parts.{Part, content_at, reads_at, step_at, is_circular, value_at}
+use Rattle.part_calc.specs.Fates.{fate_at}
 
--- the values that were found, each with its cell
+-- what was found for each cell
 abbrev pub Known : Type 0
-Known = List (Position × Value)
+Known = Position → Option Value
 
--- what was found for a cell
-unfoldable pub known_at : Known → Position → Option Value
-known_at known p = lookup (is_at (position_cmp p)) known
+-- what is known once this value was found at a cell
+abbrev pub with_found : Known → Position → Value → Known
+with_found known p v q = if is_at (position_cmp q) p then Some v else known q
 
 abbrev pub seen_in : Content → Option Value → Option Value
 seen_in (Plain v) found = Some v
@@ -27,7 +27,7 @@ seen_in (Formula e) found = found
 
 -- the value of a cell as far as it is seen: a cell without a formula has its own, another the one that was found
 unfoldable pub seen_at : Part → Known → Position → Option Value
-seen_at part known p = seen_in (content_at part p) (known_at known p)
+seen_at part known p = seen_in (content_at part p) (known p)
 
 -- the value of a cell for a formula that names it
 abbrev pub look_at : Part → Known → Position → Value
@@ -44,7 +44,7 @@ attempted part known p = if is_ready part known p then Some (step_at part p (loo
 -- what is known, and what waits, after a try at a cell: it was found before, it is found now, or it waits
 abbrev pub known_after : Option Value → Option Value → Known → Position → Known
 known_after (Some v) tried known p = known
-known_after None (Some v) known p = insert_entry position_cmp known p v
+known_after None (Some v) known p = with_found known p v
 known_after None None known p = known
 
 abbrev pub left_after : Option Value → Option Value → List Position → Position → List Position
@@ -60,9 +60,10 @@ IsSound part known = (p : Position) (v : Value) → seen_at part known p ≡ Som
 abbrev pub is_listed : List Position → Position → Bool
 is_listed positions p = list_any (is_at (position_cmp p)) positions
 
--- a cell that isn't seen waits
+-- a cell that isn't circular and isn't seen waits
 abbrev pub Covers : Part → Known → List Position → Type 0
-Covers part known waiting = (p : Position) → is_none (seen_at part known p) ≡ true → is_listed waiting p ≡ true
+Covers part known waiting =
+    (p : Position) → is_circular part p ≡ false → is_none (seen_at part known p) ≡ true → is_listed waiting p ≡ true
 
 -- each of these reads a cell that isn't seen
 abbrev pub AllWait : Part → Known → List Position → Type 0
@@ -75,7 +76,6 @@ pub record IsSwept (part : Part) (known : Known) (waiting left : List Position) 
   pub fewer : length left ≤ length waiting
   pub still : length left ≡ length waiting → AllWait part known left
 
--- each value that was found is right, and a formula that has none is circular
-pub record AreFound (part : Part) (known : Known) : Type 0 where
-  pub found : (p : Position) (v : Value) → known_at known p ≡ Some v → is_formula (content_at part p) ≡ true → value_at part p ≡ v
-  pub lost : (p : Position) → known_at known p ≡ None → is_formula (content_at part p) ≡ true → value_at part p ≡ Fault Circ
+-- for each formula that was found what becomes of it
+abbrev pub AreFound : Part → Known → Type 0
+AreFound part known = (p : Position) → is_formula (content_at part p) ≡ true → known p ≡ fate_at part p

@@ -1,8 +1,11 @@
 pub mod Contents
 pub mod Parts
 pub mod Shown
+pub mod Fates
 pub mod Finding
 pub mod Kept
 pub mod Text
 pub mod Dependants
+pub mod Lanes
+pub mod Walking
 pub mod Readers

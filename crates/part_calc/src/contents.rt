@@ -1,10 +1,10 @@
 //! A raw text and what it says.
 ghost use Rattle.std.specs.Prelude.{◌≡◌, IfOk};
 ghost use Rattle.sheet_formula.specs.Grammar.{formula_of};
-ghost use Rattle.part_calc.specs.Contents.{content_of, plain_value};
+ghost use Rattle.part_calc.specs.Contents.{content_of, plain_value, blocks_in};
 
 use cool_base::{Memory, TextOf};
-use formula_base::{Expr, Name, Value};
+use formula_base::{Block, Expr, Name, Value, blocks};
 use sheet_cells::{Plain, read_plain};
 use sheet_formula::read_formula;
 use std::alloc::Global;
@@ -18,11 +18,12 @@ pub enum Content {
     Formula(Expr),
 }
 
-/// A raw text, which is how contracts see it, and what it says.
+/// A raw text, which is how contracts see it, what it says, and the blocks of cells that it names.
 #[derive(Drop)]
 pub struct Cell {
     raw: TextOf,
     content: Content,
+    blocks: Vec<Block>,
 }
 
 impl Model for Cell {
@@ -33,11 +34,11 @@ impl Model for Cell {
 
     ghost coded = { coded_list coded_ℕ };
 
-    ghost use Rattle.part_calc.specs.Contents.{content_of};
+    ghost use Rattle.part_calc.specs.Contents.{content_of, blocks_in};
 
     ghost view = { λ cell. cell.raw };
 
-    ghost invariant = { λ cell. cell.content ≡ content_of cell.raw };
+    ghost invariant = { λ cell. (cell.content ≡ content_of cell.raw) × (cell.blocks.items ≡ blocks_in (content_of cell.raw)) };
 }
 
 impl Cell {
@@ -46,8 +47,13 @@ impl Cell {
         ensures { IfOk result (λ cell. cell ≡ raw.now) }
     {
         let content = read_content(alloc, raw)?;
+        let blocks = read_blocks(alloc, &content)?;
         let text = TextOf::of(String::from_str(alloc, raw)?);
-        Ok(Cell { raw: text, content })
+        Ok(Cell {
+            raw: text,
+            content,
+            blocks,
+        })
     }
 
     /// The raw text.
@@ -62,6 +68,23 @@ impl Cell {
         ensures { result.now ≡ content_of self.now }
     {
         &self.content
+    }
+
+    /// The blocks of cells that it names.
+    pub fn named_blocks(&self) -> &[Block]
+        ensures { result.now ≡ blocks_in (content_of self.now) }
+    {
+        self.blocks.as_slice()
+    }
+}
+
+// The blocks of cells that are named.
+fn read_blocks(alloc: Global, content: &Content) -> Result<Vec<Block>, Memory>
+    ensures { IfOk result (λ blocks. blocks.items ≡ blocks_in content.now) }
+{
+    match content {
+        Content::Plain(_) => Ok(Vec::new(alloc)),
+        Content::Formula(expression) => blocks(alloc, expression),
     }
 }
 

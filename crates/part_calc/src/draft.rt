@@ -6,8 +6,9 @@ ghost use Rattle.part_calc.specs.Parts.{with_text};
 ghost use Rattle.sheet_cells.specs.declared.limits.TheConstants.{COLUMNS, ROWS};
 
 use crate::contents::Cell;
+use crate::lanes::index_of;
 use crate::part::{Part, put};
-use crate::recalculation::shown_now;
+use crate::recalculation::computed_now;
 use cool_base::Memory;
 use std::alloc::Global;
 use std::collections::BTreeMap;
@@ -55,7 +56,8 @@ impl PartDraft {
         ensures err { OnErr result (self.new ≡ self.old) }
     {
         let cell = Cell::of(alloc, raw)?;
-        put(&mut self.cells, at, cell)
+        put(&mut self.cells, at, cell)?;
+        Ok(())
     }
 
     /// The part of these cells. All values are computed, once.
@@ -64,7 +66,8 @@ impl PartDraft {
         ensures kept { IfOk result (λ part. IsPart part) }
     {
         let PartDraft { cells } = self;
-        let shown = shown_now(alloc, &cells)?;
-        Ok(Part::of(cells, shown))
+        let index = index_of(alloc, &cells)?;
+        let fates = computed_now(alloc, &cells, &index)?;
+        Ok(Part::of(cells, fates, index))
     }
 }

@@ -3,20 +3,25 @@
 //! - `Part` (`part`): the cells of a part; an edit, and which cells show another text after it.
 //! - `PartDraft` (`draft`): a part that is put together before anything is computed.
 //! - `recalculate` (`recalculation`): what an edit leaves, found before anything is changed.
-//! - `find_values` (`finding`): the values of all formulas, by sweeps in the order of `order`.
+//! - `follow` (`dependants`): the cells that an edit affects, along the cells that read a cell.
+//! - `find_values` (`finding`): the values of the affected formulas, by sweeps.
+//! - `Index` (`lanes`): which formulas name a cell; `Fates` (`shown`): what becomes of formulas.
+//! - `commit` and its like (`keeping`): what is kept, from one edit to the next.
 //! - `Edited` (`edited`): a part as it is once a cell has another text.
 //! - `Cell`, `Content` (`contents`): a raw text and what it says.
 //! - `laws`: what the values of cells are, whatever finds them.
 #![tactic(auto)]
 
 mod contents;
+mod dependants;
 mod draft;
 mod edited;
 mod finding;
+mod keeping;
+mod lanes;
 mod laws;
 mod lengths;
 mod lines;
-mod order;
 mod part;
 mod positions;
 mod readers;

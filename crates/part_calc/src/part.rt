@@ -5,7 +5,9 @@ ghost use Rattle.std.specs.List.Sorted.{IsStrictlySortedBy};
 ghost use Rattle.std.specs.Map.{keys_of};
 ghost use Rattle.sheet_cells.specs.Cells.{IsRaw};
 ghost use Rattle.formula_base.specs.Ranges.{Position, position_cmp};
-ghost use Rattle.part_calc.specs.Kept.{IsPart, IsShown};
+ghost use Rattle.part_calc.specs.Kept.{IsPart};
+ghost use Rattle.part_calc.specs.Lanes.{Knows};
+ghost use Rattle.part_calc.specs.Fates.{IsKept};
 ghost use Rattle.part_calc.specs.Parts.{text_at, with_text};
 ghost use Rattle.part_calc.specs.Readers.{readers_of};
 ghost use Rattle.part_calc.specs.Shown.{shown_at, changed_cells};
@@ -13,23 +15,27 @@ ghost use Rattle.part_calc.specs.Text.{part_lines};
 ghost use Rattle.sheet_cells.specs.declared.limits.TheConstants.{COLUMNS, MOST_PARTS, ROWS};
 
 use crate::contents::Cell;
+use crate::keeping::{commit, learn, make_room, tidy, unlearn};
+use crate::lanes::Index;
 use crate::lengths::{edited_len, lines_len, raw_at};
 use crate::lines::write_lines;
 use crate::readers::readers;
 use crate::recalculation::{old_text, recalculate};
-use crate::shown::Shown;
+use crate::shown::Fates;
 use cool_base::{ListOf, Memory};
 use std::alloc::Global;
 use std::collections::BTreeMap;
 use std::marker::Model;
 
 /// The cells of one part: `ROWS` rows and `COLUMNS` columns, each cell a row and a column counted from 0.
-/// Contracts see it as the raw texts of the cells that have one, by rows and then columns. What the
-/// formulas show is kept, and is always what they show when their values are found from scratch.
+/// Contracts see it as the raw texts of the cells that have one, by rows and then columns. The values of
+/// the formulas and what they show are kept, and are always what they are when they are found from
+/// scratch; and it is kept which formulas name a cell, so that an edit looks at no others.
 #[derive(Drop)]
 pub struct Part {
     cells: BTreeMap<(u32, u32), Cell>,
-    shown: Shown,
+    fates: Fates,
+    index: Index,
     // How many bytes the part's lines have, as those of part 0.
     kept: u64,
 }
@@ -38,7 +44,9 @@ impl Model for Part {
     ghost use Rattle.std.specs.Prelude.{◌≡◌, List, ℕ, length};
     ghost use Rattle.std.specs.Coded.{coded×, coded_list, coded_ℕ};
     ghost use Rattle.formula_base.specs.Ranges.{Position};
-    ghost use Rattle.part_calc.specs.Kept.{IsPart, IsShown};
+    ghost use Rattle.part_calc.specs.Kept.{IsPart};
+    ghost use Rattle.part_calc.specs.Lanes.{Knows};
+    ghost use Rattle.part_calc.specs.Fates.{IsKept};
     ghost use Rattle.part_calc.specs.Text.{part_lines};
 
     ghost Value = { List (Position × List ℕ) };
@@ -47,7 +55,7 @@ impl Model for Part {
 
     ghost view = { λ part. part.cells.entries };
 
-    ghost invariant = { λ part. IsPart part.cells.entries × IsShown part.cells.entries part.shown.entries × (part.kept ≡ length (part_lines 0 part.cells.entries)) };
+    ghost invariant = { λ part. IsPart part.cells.entries × IsKept part.cells.entries part.fates.entries × (part.kept ≡ length (part_lines 0 part.cells.entries)) × Knows part.cells.entries part.index.entries };
 }
 
 impl Part {
@@ -58,23 +66,31 @@ impl Part {
     {
         Part {
             cells: BTreeMap::new(alloc),
-            shown: BTreeMap::new(alloc),
+            fates: BTreeMap::new(alloc),
+            index: BTreeMap::new(alloc),
             kept: 0,
         }
     }
 
-    // The part of these cells, where `shown` is what their formulas show.
-    pub(crate) fn of(cells: BTreeMap<(u32, u32), Cell>, shown: Shown) -> Part
+    // The part of these cells, where `fates` is what becomes of their formulas.
+    pub(crate) fn of(cells: BTreeMap<(u32, u32), Cell>, fates: Fates, index: Index) -> Part
         requires cells { IsPart cells.entries }
-        requires shown { IsShown cells.entries shown.entries }
+        requires kept { IsKept cells.entries fates.entries }
+        requires knows { Knows cells.entries index.entries }
         ensures { result ≡ cells.entries }
     {
         let kept = lines_len(&cells);
-        Part { cells, shown, kept }
+        Part {
+            cells,
+            fates,
+            index,
+            kept,
+        }
     }
 
-    /// Gives the cell the raw text, and answers the cells whose shown text differs from what it was.
-    /// After `Memory` all is unchanged.
+    /// Gives the cell the raw text, and answers the cells whose shown text differs from what it was. Only
+    /// the cell and the formulas that read it, from cell to cell, are computed anew. After `Memory` all is
+    /// unchanged.
     pub fn set(
         &mut self,
         alloc: Global,
@@ -95,9 +111,13 @@ impl Part {
     {
         let cell = Cell::of(alloc, raw)?;
         let kept = edited_len(&self.cells, self.kept, at, raw);
-        let found = recalculate(alloc, &self.cells, &self.shown, at, &cell)?;
-        put(&mut self.cells, at, cell)?;
-        self.shown = found.shown;
+        learn(alloc, &mut self.index, &self.cells, at, &cell)?;
+        let found = recalculate(alloc, &self.cells, &self.fates, &self.index, at, &cell)?;
+        make_room(alloc, &mut self.fates, at, &cell)?;
+        let before = put(&mut self.cells, at, cell)?;
+        unlearn(&mut self.index, before, &self.cells, at);
+        commit(&mut self.fates, found.fates);
+        tidy(&mut self.fates, &self.cells, at);
         self.kept = kept;
         Ok(found.changed)
     }
@@ -106,7 +126,7 @@ impl Part {
     pub fn shown(&self, at: (u32, u32)) -> &str
         ensures { result.now ≡ shown_at self.now at }
     {
-        old_text(&self.cells, &self.shown, at)
+        old_text(&self.cells, &self.fates, at)
     }
 
     /// The cell's raw text, empty where it has none.
@@ -146,21 +166,20 @@ impl Part {
     }
 }
 
-// Gives the cell a text, or takes it out where the text is empty. After `Memory` all is unchanged.
+// Gives the cell a text, or takes it out where the text is empty, and answers the cell that was there.
+// After `Memory` all is unchanged.
 #[tactic(auto, unfolding(crate::specs::Parts::with_text))]
 pub(crate) fn put(
     cells: &mut BTreeMap<(u32, u32), Cell>,
     at: (u32, u32),
     cell: Cell,
-) -> Result<(), Memory>
+) -> Result<Option<Cell>, Memory>
     ensures ok { OnOk result (cells.new.entries ≡ with_text cells.old.entries at cell) }
     ensures ordered { OnOk result (IsStrictlySortedBy position_cmp (keys_of cells.new.entries)) }
     ensures err { OnErr result (cells.new.entries ≡ cells.old.entries) }
 {
     if cell.raw().is_empty() {
-        let _ = cells.remove(&at);
-        return Ok(());
+        return Ok(cells.remove(&at));
     }
-    cells.insert(at, cell)?;
-    Ok(())
+    Ok(cells.insert(at, cell)?)
 }

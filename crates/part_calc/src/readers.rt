@@ -2,14 +2,13 @@
 ghost use Rattle.std.specs.Prelude.{◌≡◌, IfOk};
 ghost use Rattle.std.specs.List.{list_any};
 ghost use Rattle.formula_base.specs.Blocks.{is_within};
-ghost use Rattle.formula_base.specs.Evaluation.{reads_of};
 ghost use Rattle.part_calc.specs.Contents.{content_of, reads_in};
 ghost use Rattle.part_calc.specs.Finding.{is_listed};
 ghost use Rattle.part_calc.specs.Readers.{readers_of};
 
-use crate::contents::{Cell, Content};
+use crate::contents::Cell;
 use cool_base::Memory;
-use formula_base::{Block, Expr, blocks};
+use formula_base::Block;
 use std::alloc::Global;
 use std::collections::BTreeMap;
 
@@ -23,7 +22,7 @@ pub fn readers(
 {
     let mut readers = Vec::new(alloc);
     for (position, cell) in cells {
-        if names(alloc, cell, at)? {
+        if names(cell, at) {
             readers.push(*position)?;
         }
     }
@@ -31,22 +30,11 @@ pub fn readers(
 }
 
 // Whether the cell's formula names the cell at a position.
-fn names(alloc: Global, cell: &Cell, at: (u32, u32)) -> Result<bool, Memory>
-    ensures { IfOk result (λ named. named ≡ is_listed (reads_in (content_of cell.now)) at) }
-{
-    match cell.content() {
-        Content::Plain(_) => Ok(false),
-        Content::Formula(expression) => is_named(alloc, expression, at),
-    }
-}
-
-// Whether the expression names the cell at a position.
 #[tactic(auto, using(crate::proofs::ReaderLaws::named))]
-fn is_named(alloc: Global, expression: &Expr, at: (u32, u32)) -> Result<bool, Memory>
-    ensures { IfOk result (λ named. named ≡ is_listed (reads_of expression.now) at) }
+fn names(cell: &Cell, at: (u32, u32)) -> bool
+    ensures { result ≡ is_listed (reads_in (content_of cell.now)) at }
 {
-    let blocks = blocks(alloc, expression)?;
-    Ok(is_in(blocks.as_slice(), at))
+    is_in(cell.named_blocks(), at)
 }
 
 // Whether the cell lies in one of the blocks.
@@ -56,8 +44,8 @@ fn is_in(blocks: &[Block], at: (u32, u32)) -> bool
     blocks.iter().any(|block| is_within(at, *block))
 }
 
-// Whether the cell lies in the block.
-fn is_within(at: (u32, u32), block: Block) -> bool
+/// Whether the cell lies in the block.
+pub fn is_within(at: (u32, u32), block: Block) -> bool
     ensures { result ≡ is_within at block }
 {
     let (first, last) = block;

@@ -1,49 +1,87 @@
 //! What cells show.
-ghost use Rattle.std.specs.Prelude.{◌≡◌, [], true, IfOk, unwrap_or};
-ghost use Rattle.std.specs.Map.{lookup};
-ghost use Rattle.std.specs.BTreeMap.{is_at};
+ghost use Rattle.std.specs.Prelude.{◌≡◌, [], Option, IfOk, unwrap_or};
+ghost use Rattle.std.specs.List.Sorted.{IsStrictlySortedBy};
+ghost use Rattle.std.specs.Map.{keys_of};
 ghost use Rattle.std.specs.Option.{option_copied};
 ghost use Rattle.std.specs.Fmt.{signed_decimal};
 ghost use Rattle.formula_base.specs.declared.values.Value.TheVariants.{Fault};
 ghost use Rattle.formula_base.specs.declared.values.CellFault.TheVariants.{Circ};
-ghost use Rattle.formula_base.specs.Ranges.{Position, position_cmp};
-ghost use Rattle.part_calc.specs.Contents.{is_formula};
-ghost use Rattle.part_calc.specs.Parts.{content_at};
+ghost use Rattle.formula_base.specs.Ranges.{position_cmp};
 ghost use Rattle.part_calc.specs.Shown.{shown_value, fault_name};
-ghost use Rattle.part_calc.specs.Finding.{known_at, is_listed, AreFound};
-ghost use Rattle.part_calc.specs.Kept.{IsShown, text_shown};
+ghost use Rattle.part_calc.specs.Fates.{fate_shown, text_shown};
 
 use crate::contents::{Cell, Content};
-use crate::edited::Edited;
+use crate::finding::Fresh;
 use cool_base::{Memory, TextOf};
 use formula_base::{CellFault, Value};
 use std::alloc::Global;
 use std::collections::BTreeMap;
+use std::marker::Model;
 
-/// What the formulas show, by their cells.
-pub type Shown = BTreeMap<(u32, u32), TextOf>;
-
-/// What the part's formulas show, of which the values of those that aren't circular are known.
-pub fn shown_texts(
-    alloc: Global,
-    edited: &Edited<'_>,
-    formulas: &[(u32, u32)],
-    known: &BTreeMap<(u32, u32), Value>,
-) -> Result<Shown, Memory>
-    requires complete { AreFound edited.now known.now.entries }
-    requires covers { (p : Position) → is_formula (content_at edited.now p) ≡ true → is_listed formulas.now p ≡ true }
-    ensures { IfOk result (λ shown. IsShown edited.now shown.entries) }
-{
-    let mut shown = BTreeMap::new(alloc);
-    for position in formulas {
-        let text = formula_text(alloc, known, *position)?;
-        shown.insert(*position, text)?;
-    }
-    Ok(shown)
+/// What becomes of a formula, which is how contracts see it: its value, and none where it is circular;
+/// and the text that it shows.
+#[derive(Drop)]
+pub struct Kept {
+    value: Option<Value>,
+    text: TextOf,
 }
 
-/// What a cell with this raw text shows, given what its formula shows.
-pub fn cell_text<'a>(cell: Option<&'a Cell>, found: Option<&'a TextOf>) -> &'a str
+impl Model for Kept {
+    ghost use Rattle.std.specs.Prelude.{◌≡◌, Option, unwrap_or};
+    ghost use Rattle.formula_base.specs.declared.values.Value.{Value as CellValue};
+    ghost use Rattle.formula_base.specs.declared.values.Value.TheVariants.{Fault};
+    ghost use Rattle.formula_base.specs.declared.values.CellFault.TheVariants.{Circ};
+    ghost use Rattle.part_calc.specs.Shown.{shown_value};
+
+    ghost Value = { Option CellValue };
+
+    ghost view = { λ kept. kept.value };
+
+    ghost invariant = { λ kept. kept.text ≡ shown_value (unwrap_or kept.value (Fault Circ)) };
+}
+
+impl Kept {
+    /// What becomes of a formula with this value, and of a circular one.
+    pub fn of(alloc: Global, value: Option<Value>) -> Result<Kept, Memory>
+        ensures { IfOk result (λ kept. kept ≡ value) }
+    {
+        let text = fate_text(alloc, &value)?;
+        Ok(Kept { value, text })
+    }
+
+    /// The value, unless the formula is circular.
+    pub fn value(&self) -> Option<&Value>
+        ensures { option_copied result ≡ self.now }
+    {
+        self.value.as_ref()
+    }
+
+    /// What the formula shows.
+    pub fn text(&self) -> &str
+        ensures { result.now ≡ shown_value (unwrap_or self.now (Fault Circ)) }
+    {
+        self.text.get()
+    }
+}
+
+/// What becomes of formulas, by their cells.
+pub type Fates = BTreeMap<(u32, u32), Kept>;
+
+/// What was found of some cells, with the texts that they show, by rows and then columns.
+pub fn seal(alloc: Global, fresh: Fresh) -> Result<Vec<((u32, u32), Kept)>, Memory>
+    ensures same { IfOk result (λ fates. fates.items ≡ fresh.entries) }
+    ensures ordered { IfOk result (λ fates. IsStrictlySortedBy position_cmp (keys_of fresh.entries)) }
+{
+    let _count = fresh.len();
+    let mut fates = Vec::new(alloc);
+    for (position, value) in fresh {
+        fates.push((position, Kept::of(alloc, value)?))?;
+    }
+    Ok(fates)
+}
+
+/// What a cell with this raw text shows, given what becomes of its formula.
+pub fn cell_text<'a>(cell: Option<&'a Cell>, found: Option<&'a Kept>) -> &'a str
     ensures { result.now ≡ text_shown (unwrap_or (option_copied cell.entry) []) (option_copied found.entry) }
 {
     match cell {
@@ -55,26 +93,21 @@ pub fn cell_text<'a>(cell: Option<&'a Cell>, found: Option<&'a TextOf>) -> &'a s
     }
 }
 
-/// The text, and the empty one where there is none.
-pub fn text_or_none<'a>(found: Option<&'a TextOf>) -> &'a str
-    ensures { result.now ≡ unwrap_or (option_copied found.entry) [] }
+// What a formula shows, and the empty text where nothing stands for it.
+fn text_or_none<'a>(found: Option<&'a Kept>) -> &'a str
+    ensures { result.now ≡ fate_shown (option_copied found.entry) }
 {
     match found {
-        Some(text) => text.get(),
+        Some(fate) => fate.text(),
         None => "",
     }
 }
 
-// What a formula shows, whose value is known unless it is circular.
-#[tactic(auto, unfolding(crate::specs::Finding::known_at))]
-fn formula_text(
-    alloc: Global,
-    known: &BTreeMap<(u32, u32), Value>,
-    position: (u32, u32),
-) -> Result<TextOf, Memory>
-    ensures { IfOk result (λ text. text ≡ shown_value (unwrap_or (known_at known.now.entries position) (Fault Circ))) }
+// What a formula shows that has this value, or is circular.
+fn fate_text(alloc: Global, value: &Option<Value>) -> Result<TextOf, Memory>
+    ensures { IfOk result (λ text. text ≡ shown_value (unwrap_or value.now (Fault Circ))) }
 {
-    match known.get(&position) {
+    match value {
         Some(value) => value_text(alloc, value),
         None => text_of(alloc, fault_name(CellFault::Circ)),
     }

@@ -27,7 +27,7 @@ echo _ = nothing
 abbrev counting : Ways ℕ ℕ ℕ
 counting = record {
   address = λ url. None;
-  opening = λ bytes. Some 0;
+  opening = λ file bytes. Some 0;
   Steps = λ old event outs new. (outs ≡ echo event) × (new ≡ old + 1);
   paints = λ job. job;
   ticket_of = λ result. result;

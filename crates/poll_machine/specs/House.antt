@@ -173,7 +173,7 @@ SlotStep {D} {J} {P} {L} w old (moment, At here) new =
     (h : HeldDocument D J P L) × (z : HeldDocument D J P L) × (old ≡ Some (Live h))
     × HeldStep w moment h here z × (new ≡ Some (Live z))
 SlotStep {D} {J} {P} {L} w old (moment, Opens file bytes lock) new =
-    (doc : D) × (old ≡ None) × (w.opening bytes ≡ Some doc)
+    (doc : D) × (old ≡ None) × (w.opening file bytes ≡ Some doc)
     × (new ≡ Some (Live (opened_over file doc lock)))
 SlotStep {D} {J} {P} {L} w old (moment, Keeps file refusal why) new = (old ≡ None)
     × (new ≡ Some (Refused file refusal))

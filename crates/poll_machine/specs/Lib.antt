@@ -7,3 +7,4 @@ pub mod Lobby
 pub mod Turn
 pub mod Told
 pub mod Project
+pub mod Carried

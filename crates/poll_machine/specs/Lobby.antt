@@ -174,7 +174,8 @@ failed plan why = plan (record { kind = LoadFailed; code = Some (code_of why) })
 abbrev pub fetched : {D J P L : Type 0} → Ways D J P → ℕ → ℕ → List ℕ → Rights
     → Result (List ℕ) StoreFault → Plan (House D J P L) (Happens D J P L)
 fetched w link id file rights (Err why) = failed (gives_up link id file) why
-fetched w link id file rights (Ok bytes) = opens w link id file bytes rights (w.opening bytes)
+fetched w link id file rights (Ok bytes) = opens w link id file bytes rights
+    (w.opening file bytes)
 
 -- a document that another poll holds: the link is released and posted; where it can't be, it is
 -- adopted again and refused

@@ -45,7 +45,7 @@ event_of (PutDone ticket answer) = PutAnswered ticket answer
 -- and the token of the lock that an answer to its put gives it, where it takes a receipt
 pub record Ways (D J P : Type 0) : Type 1 where
   pub address : List ℕ → Option (List ℕ × List ℕ)
-  pub opening : List ℕ → Option D
+  pub opening : (file bytes : List ℕ) → Option D
   pub Steps : D → Event P → Outs J → D → Type 0
   pub paints : J → P
   pub ticket_of : P → ℕ

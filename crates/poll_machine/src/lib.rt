@@ -11,6 +11,7 @@
 //! - `hears`, `loads` (specs/Lobby): what a link without a document is answered, and how it loads.
 //! - `IsTurn`, `outcome`, `Polls` (specs/Turn): one turn, what it answers, and a run of turns.
 //! - `Hears` (specs/Told): what the outside is told.
+//! - `Carries` (specs/Carried): what a call did of a plan, all of it or a part.
 //! - `Headline` (specs/Project): each document, taken alone.
 #![tactic(auto)]
 

@@ -6,6 +6,8 @@ use std::io::{self, ErrorKind, Read, Write};
 #[derive(Drop)]
 pub struct Pipe {
     coming: Vec<u8>,
+    // How many of those bytes were read.
+    at: usize,
     has_ended: bool,
     sent: Vec<u8>,
     room: usize,
@@ -16,6 +18,7 @@ impl Pipe {
     pub fn new(alloc: Global) -> Pipe {
         Pipe {
             coming: Vec::new(alloc),
+            at: 0,
             has_ended: false,
             sent: Vec::new(alloc),
             room: usize::MAX,
@@ -50,16 +53,18 @@ impl Pipe {
 
 impl Read for Pipe {
     fn read(&mut self, buf: &mut [u8]) -> io::Result<usize> {
-        if self.coming.is_empty() {
+        if self.at >= self.coming.len() {
+            self.coming.clear();
+            self.at = 0;
             return if self.has_ended {
                 Ok(0)
             } else {
                 Err(io::Error::from(ErrorKind::WouldBlock))
             };
         }
-        let count = buf.len().min(self.coming.len());
-        buf[..count].copy_from_slice(&self.coming[..count]);
-        self.coming.drain(..count);
+        let count = buf.len().min(self.coming.len() - self.at);
+        buf[..count].copy_from_slice(&self.coming[self.at..self.at + count]);
+        self.at += count;
         Ok(count)
     }
 }

@@ -57,9 +57,8 @@ fn frame(alloc: Global, words: &str) -> Result<Vec<u8>> {
         bytes.extend_from_slice(&[0x55; 4])?;
     }
     let fill = if masked == 1 { fill ^ 0x55 } else { fill };
-    for _ in 0..length {
-        bytes.push(fill)?;
-    }
+    let whole = bytes.len().saturating_add(length);
+    bytes.resize(whole, fill)?;
     Ok(bytes)
 }
 

@@ -51,3 +51,62 @@ fn nothing_is_asked_for_after_a_message(rt: HostRuntime) -> Result<(), Fail> {
     }
     Ok(())
 }
+
+// Whether the last byte is told to begin no head of a request before more comes: a wire that fails
+// after it gives a bad head, and one that fails at an earlier byte its fault.
+fn is_bad_request(alloc: Global, bytes: &'static [u8]) -> bool {
+    for good in 0..bytes.len() {
+        let mut wire = FailingWire::new(bytes, good);
+        if read_request(alloc, &mut wire).err() != Some(HttpFault::Wire(WireFault::ReadFault)) {
+            return false;
+        }
+    }
+    let mut wire = FailingWire::new(bytes, bytes.len());
+    read_request(alloc, &mut wire).err() == Some(HttpFault::Wire(WireFault::BadHead))
+        && wire.faults == 0
+}
+
+// The same of a response.
+fn is_bad_response(alloc: Global, bytes: &'static [u8]) -> bool {
+    for good in 0..bytes.len() {
+        let mut wire = FailingWire::new(bytes, good);
+        if read_response(alloc, &mut wire).err() != Some(HttpFault::Wire(WireFault::ReadFault)) {
+            return false;
+        }
+    }
+    let mut wire = FailingWire::new(bytes, bytes.len());
+    read_response(alloc, &mut wire).err() == Some(HttpFault::Wire(WireFault::BadHead))
+        && wire.faults == 0
+}
+
+#[test]
+fn a_bad_byte_of_a_request_is_told_at_once(rt: HostRuntime) -> Result<(), Fail> {
+    let alloc = rt.alloc();
+    assert!(rt; is_bad_request(alloc, b"\r\n\rG"));
+    assert!(rt; is_bad_request(alloc, b"G\x00"));
+    assert!(rt; is_bad_request(alloc, b"GET  "));
+    assert!(rt; is_bad_request(alloc, b"GET /a\xff"));
+    assert!(rt; is_bad_request(alloc, b"GET /a HTTX"));
+    assert!(rt; is_bad_request(alloc, b"GET /a HTTP/1.2"));
+    assert!(rt; is_bad_request(alloc, b"GET /a HTTP/1.1 "));
+    assert!(rt; is_bad_request(alloc, b"GET /a HTTP/1.1\r\nHost "));
+    assert!(rt; is_bad_request(alloc, b"GET /a HTTP/1.1\r\nHost: a\x00"));
+    assert!(rt; is_bad_request(alloc, b"GET /a HTTP/1.1\r\nHost: a\rb"));
+    assert!(rt; is_bad_request(alloc, b"GET /a HTTP/1.1\r\nHost: a\r\n "));
+    assert!(rt; is_bad_request(alloc, b"GET /a HTTP/1.1\r\nHost: a\r\n\rb"));
+    Ok(())
+}
+
+#[test]
+fn a_bad_byte_of_a_response_is_told_at_once(rt: HostRuntime) -> Result<(), Fail> {
+    let alloc = rt.alloc();
+    assert!(rt; is_bad_response(alloc, b"\nG"));
+    assert!(rt; is_bad_response(alloc, b"HTTP/2"));
+    assert!(rt; is_bad_response(alloc, b"HTTP/1.1 20x"));
+    assert!(rt; is_bad_response(alloc, b"HTTP/1.1 2000"));
+    assert!(rt; is_bad_response(alloc, b"HTTP/1.1 200 O\x00"));
+    assert!(rt; is_bad_response(alloc, b"HTTP/1.1 200\r\nA "));
+    assert!(rt; is_bad_response(alloc, b"HTTP/1.1 200\r\nA: b\x7f"));
+    assert!(rt; is_bad_response(alloc, b"HTTP/1.1 200 OK\nA: b\n\r\r"));
+    Ok(())
+}

@@ -1,11 +1,13 @@
 use Rattle.std.proofs.Common.{◌≡◌, ◌≤◌, ◌-◌, false, length}
 use Rattle.outside.specs.Wires.{Hears}
 use Rattle.http_wire.specs.Messages.{head_limit}
+use Rattle.http_wire.specs.Following.{Follows}
 use Rattle.http_wire.proofs.reads.read_head.Given as goal
 
 abbrev pub invariant-loop-bytes : goal.invariant-loop-bytes
 invariant-loop-bytes g l = record {
   heard : Hears (g.W.Wire.talk l.fn.wire) l.bytes.items false (g.W.Wire.talk l.wire);
+  follows : Follows g.H.Head.kind l.bytes.items l.phase;
   within : length l.bytes.items ≤ head_limit;
   no_fault : g.W.Wire.faults l.wire ≡ g.W.Wire.faults l.fn.wire;
 }

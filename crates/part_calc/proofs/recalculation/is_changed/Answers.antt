@@ -3,5 +3,5 @@ use Rattle.part_calc.proofs.recalculation.is_changed.Goals as goal
 
 pub returns : goal.returns
 returns c =
-    differs_is c.args.cells.now.entries c.args.edited.now c.args.texts.now.entries c.args.position c.old_text.result.now c.cell.result c.get.result c.is_other_text.result
-    c.requires.after c.old_text.ensures c.cell.ensures c.get.ensures.value c.is_other_text.ensures
+    differs_is c.args.cells.now.entries c.args.edited.now c.args.item.now c.old_text.result.now c.cell.result c.is_other_text.result
+    c.requires.after c.old_text.ensures c.cell.ensures c.is_other_text.ensures

@@ -1,0 +1,4 @@
+mod Telling
+mod Doing
+mod Running
+mod Offering
