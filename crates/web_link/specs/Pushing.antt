@@ -34,8 +34,8 @@ module _ {S : Type 0} where
     Leaves : (frame : List ℕ) → Goes before (Some frame) after → Sends contents old frame pushed new
         → PushesNext contents old before pushed new after
 
-  -- None is on its way, and nothing happens. Else the one on its way goes on: it can't leave now; or it
-  -- has left, and the next one goes.
+  -- None is on its way, and nothing happens. Else the one on its way goes on: it can't leave now; or
+  -- it has left, and the next one goes.
   pub data PushesOne (contents : S → Option (List ℕ)) (old : Socket S) (before : Queue)
       (pushed : Pushed) (new : Socket S) (after : Queue) : Type 0 where
     Free : before.busy ≡ false → pushed ≡ Idle → new ≡ old → after ≡ before
