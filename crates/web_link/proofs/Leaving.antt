@@ -1,5 +1,5 @@
 -- The frames that wait, as they leave.
-use Rattle.std.proofs.Common.{◌≡◌, ap, refl, ℕ, ◌<◌, Bool, true, false, List, [], ◌∷◌, length, Option, Some, Result, Ok, Err, IfOk, rules, arith, subst, sym}
+use Rattle.std.proofs.Common.{◌≡◌, ap, refl, ℕ, ◌<◌, true, false, List, [], length, Option, Some, Result, Ok, Err, IfOk, rules, arith, subst, sym}
 use Rattle.tungstenite.specs.Failure.{IsIo}
 use Rattle.tungstenite.specs.Socket.{Socket, Flushed}
 use Rattle.tungstenite.specs.declared.error.Error.{Error}
@@ -7,7 +7,7 @@ use Rattle.cool_base.specs.declared.want.Memory.{Memory}
 use Rattle.net_rules.specs.Queues.{Queue, Goes}
 use Rattle.web_link.specs.Endings.{EndsBy}
 use Rattle.web_link.specs.Frames.{Sends}
-use Rattle.web_link.specs.Pushing.{PushesNext, Empties, Leaves, PushesOne, Free, Stops, Next, Pushes, Last, Further, PushesEnd}
+use Rattle.web_link.specs.Pushing.{PushesNext, Empties, Leaves, PushesOne, Free, Stops, Next, Pushes, Last, PushesEnd}
 use Rattle.web_link.specs.declared.heard.Ending.{Ending}
 use Rattle.web_link.specs.declared.heard.Ending.TheVariants as End
 use Rattle.web_link.specs.declared.heard.Pushed.{Pushed}

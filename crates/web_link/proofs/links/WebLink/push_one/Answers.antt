@@ -1,4 +1,4 @@
-use Rattle.std.proofs.Common.{rules, ◌≡◌, true}
+use Rattle.std.proofs.Common.{rules}
 use Rattle.web_link.proofs.Leaving.{next_goes, stops_waiting, stops_lost}
 use Rattle.web_link.proofs.links.WebLink.push_one.Goals as goal
 
