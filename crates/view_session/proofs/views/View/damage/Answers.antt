@@ -11,7 +11,7 @@ invariant_of-self c =
     let is = c.damage.ensures ∙ ap (map (hit_slot c.args.part c.args.rect.now)) c.as_mut_slice.ensures.value in
     let e : (with_items s.slots c.damage.new.slots).items ≡ map (hit_slot c.args.part c.args.rect.now) s.slots.items =
     with_items_is s.slots c.damage.new.slots (hit_length c.args.part c.args.rect.now s.slots.items c.damage.new.slots is ∙ sym s.slots.ok.0) ∙ is in
-    held_hit c.args.part c.args.rect.now s.zoom s.slots.items (with_items s.slots c.damage.new.slots).items s.asked.items s.window s.next_wid c.self.invariant e
+    held_hit c.args.part c.args.rect.now s.zoom s.slots.items (with_items s.slots c.damage.new.slots).items s.asked.items s.window s.next_wid c.self.invariant.held e
 
 pub returns : goal.returns
 returns c =
