@@ -14,6 +14,7 @@ use Rattle.view_session.specs.declared.slots.Slot.{Slot}
 pub record IsHeld (zoom : Scale) (slots : List Slot) (asked : List Place) (window : List Sent) (next_wid : ℕ) : Type 0 where
   pub slotted : IsSlotted slots asked
   pub seen : is_too_large zoom (length (seen_in slots)) ≡ false
+  pub seen_keys : AllByRecursion IsKey (seen_in slots)
   pub asked_keys : AllByRecursion IsKey asked
   pub asked_once : Pairwise (λ p q. p ≢ q) asked
   pub asked_few : length asked ≤ MOST_ASKED
