@@ -12,6 +12,8 @@ use Rattle.document_machine.specs.Next.{or_later}
 use Rattle.document_machine.specs.Outputs.{named}
 use Rattle.document_machine.specs.State.{Job}
 use Rattle.send_window.specs.declared.windows.TheConstants.{MOST_SENT}
+use Rattle.tile_cache.specs.Cached.{Cached}
+use Rattle.tile_cache.specs.Calls.{damaged as noted}
 use Rattle.view_session.specs.Viewing.{Viewing, damaged, keys, is_due, version_on, sent}
 use Rattle.broker_core.specs.declared.members.Member.{Member}
 
@@ -68,3 +70,8 @@ Awaits scene (Some job) = scene ≡ job.scene
 abbrev pub Ignores : {S : Type 0} → S → Option (Job S) → Type 0
 Ignores scene None = ⊤
 Ignores scene (Some job) = scene ≢ job.scene
+
+-- a cache with each of these damages of input number n noted, in order
+abbrev pub cache_damaged : List Damage → (n : ℕ) → Cached → Cached
+cache_damaged [] n cache = cache
+cache_damaged (damage ∷ damages) n cache = cache_damaged damages n (noted damage.part damage.rect n cache)

@@ -24,38 +24,12 @@ use Rattle.message_laws.proofs.BoundLemmas.{text_again}
 use Rattle.message_laws.specs.Bounds.{IsListLength}
 use Rattle.document_laws.specs.AtOnce.{acknowledges, numbers, IsAcknowledged}
 use Rattle.document_laws.proofs.Fewer.{due_of}
-use Rattle.document_laws.proofs.Heard.{changed_same}
-use Rattle.document_laws.proofs.Lower.{sum_with, found_view}
+use Rattle.document_laws.proofs.Lower.{sum_with}
+use Rattle.document_laws.proofs.Views.{changed_same, found_other, found_view, found_with}
 
 -- a view whose numbers are all acknowledged
 pub all_acknowledged : (view : View) → acknowledged (numbers view) view ≡ record view { window = [] }
 all_acknowledged view = ap (λ window. record view { window = window }) (all_gone [] view.window)
-
--- the view that has changed, and another
-pub found_with : (views : List View) (id : ℕ) (change : View → View) (view : View) → ((v : View) → (change v).id ≡ v.id) → find_view views id ≡ Some view → find_view (with_view views id change) id ≡ Some (change view)
-found_with [] id change view same e = absurd (cc)
-found_with (v ∷ vs) id change view same e =
-    let go : (b : Bool) → nat_eq v.id id ≡ b → cond b (Some v) (find_view vs id) ≡ Some view → find_view (cond b (change v ∷ vs) (v ∷ with_view vs id change)) id ≡ Some (change view) = elim [
-      | true ↦ λ here is.
-          let one : v ≡ view = cc in
-          let id_is : nat_eq (change v).id id ≡ true = ap (λ n. nat_eq n id) (same v) ∙ here in
-          rw id_is (ap (λ w. Some (change w)) one)
-      | false ↦ λ away is. rw away (found_with vs id change view same is)
-    ] in
-    go (nat_eq v.id id) refl e
-
-pub found_other : (views : List View) (id other : ℕ) (change : View → View) → ((v : View) → (change v).id ≡ v.id) → other ≢ id → find_view (with_view views id change) other ≡ find_view views other
-found_other [] id other change same apart = refl
-found_other (v ∷ vs) id other change same apart =
-    let go : (b : Bool) → nat_eq v.id id ≡ b → find_view (cond b (change v ∷ vs) (v ∷ with_view vs id change)) other ≡ find_view (v ∷ vs) other = elim [
-      | true ↦ λ here.
-          let id_is : v.id ≡ id = eqb-true v.id id here in
-          let off : nat_eq v.id other ≡ false = elim (cases_Bool (nat_eq v.id other)) [ inl is ↦ absurd (apart (sym (eqb-true v.id other is) ∙ id_is)) | inr away ↦ away ] in
-          let changed : nat_eq (change v).id other ≡ false = ap (λ n. nat_eq n other) (same v) ∙ off in
-          rw (changed, off) refl
-      | false ↦ λ away. ap (λ o. cond (nat_eq v.id other) (Some v) o) (found_other vs id other change same apart)
-    ] in
-    go (nat_eq v.id id) refl
 
 -- a window with a tile in it has a length
 some_tile : (window : List Sent) → window ≢ [] → 1 ≤ length window

@@ -20,6 +20,7 @@ use Rattle.document_laws.proofs.KeyOrder.{same_is}
 use Rattle.document_laws.proofs.Ordered.{one, count_new, count_ordered, pairwise_by, weaker}
 use Rattle.document_laws.proofs.Quiet.{version_applied}
 use Rattle.document_laws.proofs.Sending.{without_key, sent_due}
+use Rattle.document_laws.proofs.Views.{asked_once, screen_versions}
 
 -- of a list and of what a filter keeps of it, no more pass a test that is no weaker
 pub one_le : (a b : Bool) → (a ≡ true → b ≡ true) → one a ≤ one b
@@ -85,41 +86,12 @@ count_filter_lt p q f (x ∷ xs) key imp among off on =
     ] in
     go (same_place x key) (f x) refl among
 
--- what holds pair by pair holds so in what a filter keeps
-pub pairwise_filter : {X : Type 0} (R : X → X → Type 0) (f : X → Bool) (xs : List X) → Pairwise R xs → Pairwise R (filter f xs)
-pairwise_filter R f [] h = tt
-pairwise_filter R f (x ∷ xs) h =
-    elim (f x) as (λ b. Pairwise R (cond b (x ∷ filter f xs) (filter f xs))) [
-      | true ↦ (all_filter (R x) f xs h.0, pairwise_filter R f xs h.1)
-      | false ↦ pairwise_filter R f xs h.1
-    ]
-
 -- what a broker keeps of a view, as far as what is due needs it: the keys that it sees are in order, those
 -- that it asks for are there once, and the versions on its screen are of inputs that are applied
 pub record IsReady {C B S : Type 0} (rules : Rules C B) (d : Document S) (view : View) : Type 0 where
   pub order : Pairwise IsBefore (visible rules d view)
   pub once : Pairwise (λ p q. p ≢ q) view.asked
   pub versions : AllByRecursion (λ shown. shown.version ≤ d.applied) view.screen
-
-with_versions : (n : ℕ) (screen : List Shown) (key : Place) (version : ℕ) → version ≤ n → AllByRecursion (λ shown. shown.version ≤ n) screen → AllByRecursion (λ shown. shown.version ≤ n) (with_version screen key version)
-with_versions n [] key version le all = (le, tt)
-with_versions n (shown ∷ screen) key version le all =
-    let go : (a b : Bool) → AllByRecursion (λ shown. shown.version ≤ n) (cond a (record { key = key; version = version } ∷ (shown ∷ screen)) (cond b (record { key = key; version = version } ∷ screen) (shown ∷ with_version screen key version))) = elim [
-      | true ↦ λ b. (le, all)
-      | false ↦ elim [
-        | true ↦ (le, all.1)
-        | false ↦ (all.0, with_versions n screen key version le all.1)
-      ]
-    ] in
-    go (is_lt (key_order key shown.key)) (same_place key shown.key)
-
-pub screen_versions : (n : ℕ) (screen : List Shown) (key : Place) (version : ℕ) (wanted : Bool) → version ≤ n → AllByRecursion (λ shown. shown.version ≤ n) screen → AllByRecursion (λ shown. shown.version ≤ n) (screen_after screen key version wanted)
-screen_versions n screen key version true le all = with_versions n screen key version le all
-screen_versions n screen key version false le all = all_filter (λ shown. shown.version ≤ n) (λ shown. not (same_place shown.key key)) screen all
-
-pub asked_once : (asked : List Place) (key : Place) (current : Bool) → Pairwise (λ p q. p ≢ q) asked → Pairwise (λ p q. p ≢ q) (asked_after asked key current)
-asked_once asked key true once = pairwise_filter (λ p q. p ≢ q) (λ other. not (same_place other key)) asked once
-asked_once asked key false once = once
 
 module _ {C B S : Type 0} (rules : Rules C B) (d : Document S) where
   -- how many pairs of a view are due

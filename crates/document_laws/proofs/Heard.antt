@@ -36,8 +36,8 @@ use Rattle.send_window.specs.declared.windows.TheConstants.{MOST_SENT}
 use Rattle.document_laws.specs.Tiles.{IsNoStepBack}
 use Rattle.document_laws.proofs.Forgetting.{same_screen, filtered}
 use Rattle.document_laws.proofs.Ordered.{weaker}
-use Rattle.document_laws.proofs.Fewer.{pairwise_filter}
 use Rattle.document_laws.proofs.KeptViews.{filter_all, pairwise_push}
+use Rattle.document_laws.proofs.Views.{changed_same, pairwise_filter}
 
 -- lists of asked keys
 abbrev IsAsked : ℕ → Place → Type 0
@@ -109,16 +109,6 @@ IsPlain other = Unit {0}
 -- a view with another one's id
 abbrev pub keeps : View → View → View
 keeps now view = record now { id = view.id }
-
--- views, one of which is changed in either of two ways that come to the same
-pub changed_same : (views : List View) (id : ℕ) (f g : View → View) (view : View) → find_view views id ≡ Some view → f view ≡ g view → with_view views id f ≡ with_view views id g
-changed_same [] id f g view live same = refl
-changed_same (v ∷ vs) id f g view live same =
-    let go : (b : Bool) → cond b (Some v) (find_view vs id) ≡ Some view → cond b (f v ∷ vs) (v ∷ with_view vs id f) ≡ cond b (g v ∷ vs) (v ∷ with_view vs id g) = elim [
-      | true ↦ λ is. let one : view ≡ v = cc in ap (λ x. x ∷ vs) (subst (λ w. f w ≡ g w) one same)
-      | false ↦ λ is. ap (λ xs. v ∷ xs) (changed_same vs id f g view is same)
-    ] in
-    go (nat_eq v.id id) live
 
 -- the document after an effect, its view changed by a function that leaves ids
 pub heard_is : {S : Type 0} (d : Document S) (id : ℕ) (view : View) (e : Effect) → find_view d.views id ≡ Some view → e.view.id ≡ view.id

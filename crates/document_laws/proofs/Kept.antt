@@ -28,8 +28,8 @@ use Rattle.document_machine.specs.declared.rights.Rights.{Rights}
 use Rattle.document_laws.proofs.Heard.{IsGood, effect_good, heard_is, keeps}
 use Rattle.document_laws.proofs.KeptViews.{AreInOrder, pairwise_push, with_all, order_with, order_without, order_push, without_all, offers_order, offers_kept, sent_kept, moved, view_moved}
 use Rattle.document_laws.proofs.KeyOrder.{same_is}
-use Rattle.document_laws.proofs.Lower.{some_input, found_view}
 use Rattle.document_laws.proofs.Ordered.{weaker, all_by}
+use Rattle.document_laws.proofs.Views.{found_view, some_input}
 
 -- a view that joins sees nothing
 no_meet : (size : Extent) → do_meet no_area (whole_part size) ≡ false

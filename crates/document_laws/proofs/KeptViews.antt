@@ -19,7 +19,7 @@ use Rattle.send_window.specs.declared.windows.TheConstants.{MOST_SENT}
 use Rattle.document_laws.proofs.KeyOrder.{same_is, same_sym, before_by, after_by, before_trans}
 use Rattle.document_laws.proofs.Ordered.{weaker}
 use Rattle.document_laws.proofs.Sending.{asked_other}
-use Rattle.document_laws.proofs.Fewer.{asked_once, screen_versions, pairwise_filter}
+use Rattle.document_laws.proofs.Views.{asked_once, pairwise_filter, screen_versions}
 
 -- what follows of those that a filter keeps
 pub filter_all : {X : Type 0} (P Q : X → Type 0) (f : X → Bool) (xs : List X) → ((x : X) → P x → f x ≡ true → Q x) → AllByRecursion P xs → AllByRecursion Q (filter f xs)

@@ -19,3 +19,4 @@ pub mod Screens
 pub mod Sending
 pub mod Tiles
 pub mod Untouched
+pub mod Views

@@ -20,6 +20,7 @@ use Rattle.document_machine.specs.Step.{Applies, Cuts, Sends, Works, Step, Paint
 use Rattle.document_machine.specs.declared.outs.Outs.{Outs}
 use Rattle.document_laws.specs.AtOnce.{answered, all_answered}
 use Rattle.document_laws.proofs.Fewer.{IsReady, due_of, left_of, all_ready, ready_sent, sent_less, takes_by}
+use Rattle.document_laws.proofs.Views.{found_view, some_input}
 
 -- a sum of smaller numbers is no larger
 pub sum_le : {X : Type 0} (f g : X → ℕ) (xs : List X) → ((x : X) → f x ≤ g x) → sum_by f xs ≤ sum_by g xs
@@ -42,16 +43,6 @@ sum_with f (v ∷ vs) id change view e =
           let b : f (change v) ≡ f (change view) = ap (λ w. f (change w)) same in
           omega (arith, a, b, sum_by-cons f (change v) vs, sum_by-cons f v vs)
       | false ↦ λ is. omega (arith, sum_with f vs id change view is, sum_by-cons f v (with_view vs id change), sum_by-cons f v vs)
-    ] in
-    go (nat_eq v.id id) e
-
--- what holds of each view holds of the one with an id
-pub found_view : (P : View → Type 0) (views : List View) (id : ℕ) (view : View) → AllByRecursion P views → find_view views id ≡ Some view → P view
-found_view P [] id view all e = absurd (cc)
-found_view P (v ∷ vs) id view all e =
-    let go : (b : Bool) → cond b (Some v) (find_view vs id) ≡ Some view → P view = elim [
-      | true ↦ λ is. let same : v ≡ view = cc in subst P same all.0
-      | false ↦ λ is. found_view P vs id view all.1 is
     ] in
     go (nat_eq v.id id) e
 
@@ -170,14 +161,6 @@ pub one_input : (j a u x y w : ℕ) → a < j → y ≤ u → (j - (a + 1)) * (2
 one_input j a u x y w more le =
     let m : j - a ≡ (j - (a + 1)) + 1 = omega arith in
     rw m (grind arith)
-
--- an input behind the first n is there
-pub some_input : (journal : List Input) (n : ℕ) (input : Input) → slice_get journal n ≡ Some input → n < length journal
-some_input journal n input is =
-    elim ((slice_get_cases journal n).1) [
-      | inl (other, lt, some, at) ↦ lt
-      | inr (past, none) ↦ absurd (cc)
-    ]
 
 module _ {C B S : Type 0} (rules : Rules C B) where
   -- the document with other views and jobs

@@ -24,11 +24,10 @@ use Rattle.document_machine.specs.declared.outs.Turned.{Turned as TurnAnswer}
 use Rattle.document_machine.specs.declared.outs.Turned.TheVariants.{Worked, Idle}
 use Rattle.document_machine.specs.declared.rights.Rights.{Rights}
 use Rattle.document_laws.specs.Tiles.{number_in, numbers_to, counted, AreNumbered}
-use Rattle.document_laws.proofs.Acknowledged.{found_with, found_other}
 use Rattle.document_laws.proofs.Heard.{IsGood, IsPlain, effect_good, heard_is, keeps}
 use Rattle.document_laws.proofs.KeptViews.{map_ids}
-use Rattle.document_laws.proofs.Lower.{found_view}
 use Rattle.document_laws.proofs.Rising.{find_map, find_push, find_without, offered_id}
+use Rattle.document_laws.proofs.Views.{found_other, found_view, found_with}
 
 -- numbers of two lists of frames
 numbers_append : (id : ℕ) (xs ys : List (ViewId × Frame)) → numbers_to id (xs ++ ys) ≡ numbers_to id xs ++ numbers_to id ys

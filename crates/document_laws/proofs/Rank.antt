@@ -18,7 +18,8 @@ use Rattle.document_laws.proofs.KeyOrder.{same_is, same_sym}
 use Rattle.document_laws.proofs.Ordered.{one, among_inserted}
 use Rattle.document_laws.proofs.Sending.{sent_due}
 use Rattle.document_laws.proofs.Fewer.{IsReady, due_of, all_ready, due_less, one_le, count_le, count_lt}
-use Rattle.document_laws.proofs.Lower.{sum_le, sum_with, found_view, one_input, no_input, some_input, due_le_pairs}
+use Rattle.document_laws.proofs.Lower.{sum_le, sum_with, one_input, no_input, due_le_pairs}
+use Rattle.document_laws.proofs.Views.{found_view, some_input}
 
 -- some pass a test that is no stronger
 any_le : {X : Type 0} (p q : X → Bool) (xs : List X) → ((x : X) → p x ≡ true → q x ≡ true) → list_any p xs ≡ true → list_any q xs ≡ true

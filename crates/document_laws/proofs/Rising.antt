@@ -20,12 +20,11 @@ use Rattle.document_machine.specs.declared.outs.Turned.TheVariants.{Worked, Idle
 use Rattle.document_machine.specs.declared.rights.Rights.{Rights}
 use Rattle.document_laws.specs.Tiles.{IsNoStepBack}
 use Rattle.document_laws.proofs.KeyOrder.{same_is}
-use Rattle.document_laws.proofs.Acknowledged.{found_with, found_other}
 use Rattle.document_laws.proofs.KeptViews.{asked_still}
 use Rattle.document_laws.proofs.Forgetting.{same_screen}
 use Rattle.document_laws.proofs.Heard.{IsGood, effect_good, heard_is, keeps}
-use Rattle.document_laws.proofs.Lower.{found_view}
 use Rattle.document_laws.proofs.Sending.{with_same, screen_other}
+use Rattle.document_laws.proofs.Views.{found_other, found_view, found_with}
 
 -- the key whose entry was taken out
 pub without_same : (screen : List Shown) (key : Place) → version_of (without_version screen key) key ≡ None

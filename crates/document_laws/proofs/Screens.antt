@@ -25,15 +25,14 @@ use Rattle.document_machine.specs.declared.outs.Turned.{Turned as TurnAnswer}
 use Rattle.document_machine.specs.declared.outs.Turned.TheVariants.{Worked, Idle}
 use Rattle.document_machine.specs.declared.rights.Rights.{Rights}
 use Rattle.document_laws.specs.Tiles.{IsOnScreen, AreDelivered, HasKey, StepsWith, version_in, versions_to}
-use Rattle.document_laws.proofs.Acknowledged.{found_with}
 use Rattle.document_laws.proofs.Heard.{IsGood, IsPlain, effect_good}
 use Rattle.document_laws.proofs.KeyOrder.{same_is}
 use Rattle.document_laws.proofs.KeptViews.{asked_still, map_ids}
-use Rattle.document_laws.proofs.Lower.{found_view}
 use Rattle.document_laws.proofs.Ordered.{weaker}
 use Rattle.document_laws.proofs.Rising.{Follows, back_before, find_map, find_offers, newer_not_back, offered_follows, offered_id, offers_to, steps_rise, without_same}
 use Rattle.document_laws.proofs.Sending.{with_same, screen_other}
 use Rattle.document_laws.proofs.Kept.{all_both, steps_keep}
+use Rattle.document_laws.proofs.Views.{found_view, found_with}
 
 -- versions in two lists of frames
 versions_append : (id : ℕ) (key : Place) (xs ys : List (ViewId × Frame)) → versions_to id key (xs ++ ys) ≡ versions_to id key xs ++ versions_to id key ys

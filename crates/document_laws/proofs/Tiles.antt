@@ -26,8 +26,8 @@ use Rattle.document_machine.specs.declared.rights.Rights.{Rights}
 use Rattle.document_laws.specs.Tiles.{IsShown}
 use Rattle.document_laws.proofs.Heard.{IsGood, IsPlain, effect_good}
 use Rattle.document_laws.proofs.Kept.{all_both, found_job, steps_keep}
-use Rattle.document_laws.proofs.Lower.{found_view}
 use Rattle.document_laws.proofs.Ordered.{weaker}
+use Rattle.document_laws.proofs.Views.{found_view}
 
 module _ {C B : Type 0} (rules : Rules C B) (base : List ℕ) (journal : List Input) (most : ℕ) where
   -- frames that are no tiles

@@ -2,30 +2,38 @@
 //! kits alone, whatever broker runs it. Each is a function with an empty body whose contract is the law.
 #![tactic(auto)]
 
-ghost use Rattle.std.specs.Prelude.{◌≡◌, ◌≢◌, ℕ, ◌+◌, ◌^◌, ◌≤◌, ◌<◌, ◌⊎◌, true, false, List, [], ◌∷◌, ◌++◌, length, nat_eq, ◌&&◌, Some, None, Ok};
+ghost use Rattle.std.specs.Prelude.{◌≡◌, ◌≢◌, ℕ, ◌+◌, ◌^◌, ◌≤◌, ◌<◌, ◌⊎◌, true, false, List, [], ◌∷◌, ◌++◌, length, nat_eq, ◌&&◌, Option, Some, Result, Ok};
 ghost use Rattle.cool_message.specs.Reading.{reading};
 ghost use Rattle.cool_message.specs.Writing.{written};
 ghost use Rattle.cool_message.specs.declared.message.ClientMessage.TheVariants.{TileProcessed};
 ghost use Rattle.std.specs.List.{list_any, AllByRecursion};
 ghost use Rattle.document_laws.specs.AtOnce.{acknowledges, all_answered, numbers, IsAcknowledged};
-ghost use Rattle.document_laws.specs.Turns.{TurnWorks};
+ghost use Rattle.document_laws.specs.Saved.{ArePut, FollowsItsSave, IsOfRun, IsTrue};
+ghost use Rattle.document_laws.specs.Turns.{IsUnderWay, TurnWorks};
 ghost use Rattle.document_laws.specs.Tiles.{IsShown, IsNoStepBack, AreNumbered, AreDelivered, StepsWith, versions_to};
-ghost use Rattle.document_machine.specs.Due.{touched, is_due, is_out, has_room, keys};
-ghost use Rattle.document_machine.specs.Event.{Event as Happening, Painted, Turned};
-ghost use Rattle.document_machine.specs.Kept.{IsKept, AreApart};
-ghost use Rattle.document_machine.specs.Next.{Work, Rest, next_pair, none_kept, pick};
+ghost use Rattle.document_machine.specs.Due.{touched, is_due, has_room, keys};
+ghost use Rattle.document_machine.specs.Event.{Event as Happening, Painted, PutAnswered};
+ghost use Rattle.document_machine.specs.Goes.{DoesNext, Moves};
+ghost use Rattle.document_machine.specs.Held.{Held, opening_held};
+ghost use Rattle.document_machine.specs.Kept.{IsHeld, IsKept, AreApart};
+ghost use Rattle.document_machine.specs.Next.{Rest, can_serve, next_pair, none_kept, pick};
 ghost use Rattle.document_machine.specs.Outputs.{nothing};
 ghost use Rattle.document_machine.specs.Quiet.{IsQuiet, is_quiet, IsRight, AllRight};
 ghost use Rattle.document_machine.specs.Rank.{IsLower, due_pairs, jobs_due, left_to_do, rank};
 ghost use Rattle.document_machine.specs.Run.{Run, Segment};
-ghost use Rattle.document_machine.specs.State.{View, Document, find_view, opening};
-ghost use Rattle.document_machine.specs.Step.{Applies, Cuts, Does, Rests, Says, Sends, Step, TurnsTo, Works};
+ghost use Rattle.document_machine.specs.Saves.{Serves, receipt_of};
+ghost use Rattle.document_machine.specs.State.{View, Job, Document, find_job, find_view, opening};
+ghost use Rattle.document_machine.specs.Step.{Applies, Cuts, Rests, Says, Sends, Step, Works};
 ghost use Rattle.document_machine.specs.declared.limits.TheConstants.{MOST_JOBS};
 ghost use Rattle.document_machine.specs.declared.outs.Outs.{Outs as Given};
 ghost use Rattle.document_machine.specs.declared.outs.Turned.{Turned as TurnAnswer};
 ghost use Rattle.kit_trait.specs.declared.jobs.PaintJob.{PaintJob as Task};
 ghost use Rattle.kit_trait.specs.Rules.{doc, shown};
 ghost use Rattle.kit_trait.specs.declared.values.Input.{Input as Typed};
+ghost use Rattle.outside.specs.declared.errands.Receipt.{Receipt as Paper};
+ghost use Rattle.outside.specs.declared.faults.StoreFault.{StoreFault as Fault};
+ghost use Rattle.save_core.specs.Saving.{answered_put};
+ghost use Rattle.save_core.specs.declared.values.Put.{Put as Under};
 ghost use Rattle.tile_key.specs.Places.{Place};
 
 use kit_trait::Kit;
@@ -118,10 +126,17 @@ pub fn right_or_due<K: Kit>()
         < length d.journal))) (keys K.rules d view)) d.views }
 {}
 
-/// Applying an input leaves less to do, and no job where there was none.
+/// Serving the ready saves leaves less to do.
+pub fn served_lowers<K: Kit>()
+    ensures { (old new : Document K.Scene) (outs : Given K.Scene) → Serves K.rules old outs new
+        → left_to_do K.rules new < left_to_do K.rules old }
+{}
+
+/// Applying an input leaves less to do, where no more jobs are out than may be, and the same jobs.
 pub fn applied_lowers<K: Kit>()
     ensures { (old new : Document K.Scene) (outs : Given K.Scene) → Applies K.rules old outs new
-        → old.jobs ≡ [] → (new.jobs ≡ []) × (left_to_do K.rules new < left_to_do K.rules old) }
+        → length old.jobs ≤ MOST_JOBS
+        → (new.jobs ≡ old.jobs) × (left_to_do K.rules new < left_to_do K.rules old) }
 {}
 
 /// Sending a tile that is there already leaves less to do.
@@ -130,22 +145,51 @@ pub fn sent_lowers<K: Kit>()
         → IsKept K.rules K.cut old → left_to_do K.rules new < left_to_do K.rules old }
 {}
 
-/// A job that is cut where none is out, and painted directly behind it, leaves less to do and no job: of
-/// its keys one at least goes to a view with room, and each view that gets a tile has a due pair less.
-pub fn cut_and_painted_lowers<K: Kit>()
-    ensures { (old mid new : Document K.Scene) (outs later : Given K.Scene) (job : Task K.Scene)
-        → Cuts K.rules K.cut old outs mid → old.jobs ≡ [] → IsKept K.rules K.cut old
-        → outs.jobs ≡ job ∷ [] → Step K.rules K.cut mid (Painted job.ticket.0 job.scene) later new
-        → (new.jobs ≡ []) × (left_to_do K.rules new < left_to_do K.rules old) }
+/// Cutting a job leaves less to do, since it is wanted.
+pub fn cut_lowers<K: Kit>()
+    ensures { (old new : Document K.Scene) (outs : Given K.Scene) → Cuts K.rules K.cut old outs new
+        → IsKept K.rules K.cut old → left_to_do K.rules new < left_to_do K.rules old }
 {}
 
-/// A turn that does a work where no job is out, with each job that it gives out painted directly behind
-/// it, in order, leaves less to do and no job. So turns whose jobs are painted at once come to an end.
+/// So each work of a turn leaves less to do, whichever it is.
+pub fn works_leave_less<K: Kit>()
+    ensures { (old new : Document K.Scene) (outs : Given K.Scene) → Works K.rules K.cut old outs new
+        → IsKept K.rules K.cut old → left_to_do K.rules new < left_to_do K.rules old }
+{}
+
+/// A painted result of a job that is out leaves less to do, also where it is of fewer inputs than are applied
+/// and where no view takes it.
+pub fn painted_lowers<K: Kit>()
+    ensures { (old new : Document K.Scene) (ticket : ℕ) (job : Job K.Scene) (outs : Given K.Scene)
+        → find_job old.jobs ticket ≡ Some job → IsKept K.rules K.cut old
+        → Step K.rules K.cut old (Painted ticket job.scene) outs new
+        → left_to_do K.rules new < left_to_do K.rules old }
+{}
+
+/// The answer to the put that is under way leaves less to do, whether it is a receipt or a fault.
+pub fn put_answered_lowers<K: Kit>()
+    ensures { (old new : Document K.Scene) (ticket : ℕ) (result : Result Paper Fault) (put : Under)
+        (outs : Given K.Scene)
+        → answered_put ticket (receipt_of result) old.saving.put ≡ Some put
+        → Step K.rules K.cut old (PutAnswered ticket result) outs new
+        → left_to_do K.rules new < left_to_do K.rules old }
+{}
+
+/// A job that is cut and painted directly behind it leaves less to do, and the jobs that were out.
+pub fn cut_and_painted_lowers<K: Kit>()
+    ensures { (old mid new : Document K.Scene) (outs later : Given K.Scene) (job : Task K.Scene)
+        → Cuts K.rules K.cut old outs mid → IsKept K.rules K.cut old
+        → outs.jobs ≡ job ∷ [] → Step K.rules K.cut mid (Painted job.ticket.0 job.scene) later new
+        → (new.jobs ≡ old.jobs) × (left_to_do K.rules new < left_to_do K.rules old) }
+{}
+
+/// A turn that does a work, with each job that it gives out painted directly behind it, in order, leaves less
+/// to do, and the jobs that were out. So turns whose jobs are painted at once come to an end.
 pub fn at_once_lowers<K: Kit>()
     ensures { (old mid new : Document K.Scene) (outs later : Given K.Scene)
-        → Works K.rules K.cut old outs mid → old.jobs ≡ [] → IsKept K.rules K.cut old
+        → Works K.rules K.cut old outs mid → IsKept K.rules K.cut old
         → Segment K.rules K.cut mid (all_answered outs) later new
-        → (new.jobs ≡ []) × (left_to_do K.rules new < left_to_do K.rules old) }
+        → (new.jobs ≡ old.jobs) × (left_to_do K.rules new < left_to_do K.rules old) }
 {}
 
 /// Acknowledging the numbers of a window that isn't empty makes it empty and leaves less to do.
@@ -187,20 +231,33 @@ pub fn written_lowers<K: Kit>()
         → IsAcknowledged K.rules d id view outs new }
 {}
 
-/// Where all inputs are applied there is nothing to do exactly where no pair is next (`idle`, `rests`), and
-/// a pair that is next is one of a view with room that is due the key, of which no job is out, while fewer
-/// than 64 jobs are (`next`). So a broker that serves the next pair by a job of its key alone leaves no
-/// work undone.
+/// Whatever is kept, there is nothing to do where no work is next (`idle`), and with nothing kept no work is
+/// next where there is nothing to do (`rests`). A pair that is next can be served, and is one of a view with
+/// room that is due the key (`next`). So a broker that does the work that is next leaves none undone.
 pub fn idle_exactly<K: Kit>()
-    ensures idle { (d : Document K.Scene) → d.applied ≡ length d.journal
-        → next_pair K.rules none_kept d ≡ None → Rests K.rules d }
-    ensures rests { (d : Document K.Scene) → Rests K.rules d
-        → next_pair K.rules none_kept d ≡ None }
-    ensures next { (d : Document K.Scene) (id : ℕ) (key : Place)
-        → next_pair K.rules none_kept d ≡ Some (id, key)
-        → (length d.jobs < MOST_JOBS) × (is_out d.jobs key ≡ false) × (list_any
+    ensures idle { (kept : Place → Option ℕ) (d : Document K.Scene)
+        → pick K.rules kept d ≡ Rest → Rests K.rules d }
+    ensures rests { (d : Document K.Scene) → Rests K.rules d → pick K.rules none_kept d ≡ Rest }
+    ensures next { (kept : Place → Option ℕ) (d : Document K.Scene) (id : ℕ) (key : Place)
+        → next_pair K.rules kept d ≡ Some (id, key)
+        → (can_serve kept d.jobs key ≡ true) × (list_any
         (λ view. nat_eq view.id id && (has_room view && is_due K.rules d view key)) d.views
         ≡ true) }
+{}
+
+/// The work that is next can be done: each document that a broker keeps has a turn that does it.
+pub fn next_is_done<K: Kit>()
+    ensures { (held : Held K.Scene) → IsHeld K.rules K.cut held
+        → (turned : TurnAnswer K.Scene) × (new : Held K.Scene)
+        × DoesNext K.rules K.cut held turned new }
+{}
+
+/// Whatever is kept, each due pair has its key in a job out, or its view has no room, or 64 jobs are out, or a
+/// work is next.
+pub fn due_is_under_way<K: Kit>()
+    ensures { (kept : Place → Option ℕ) (d : Document K.Scene)
+        → AllByRecursion (λ view. AllByRecursion (λ key. is_due K.rules d view key ≡ true
+        → IsUnderWay K.rules kept d view key) (keys K.rules d view)) d.views }
 {}
 
 /// Each work of a turn lowers the rank.
@@ -232,6 +289,47 @@ pub fn steps_keep<K: Kit>()
     ensures run { (events : List (Happening K.Scene)) (old new : Document K.Scene) (outs : Given K.Scene)
         → Segment K.rules K.cut old events outs new → IsKept K.rules K.cut old
         → IsKept K.rules K.cut new }
+{}
+
+/// A document as it is loaded, of which no tile is kept, has all that holds of one that a broker keeps with its
+/// tiles (`IsHeld`), and so has every move.
+pub fn moves_keep<K: Kit>()
+    ensures opening { (file base : List ℕ) → K.rules.accepts base ≡ true
+        → IsHeld K.rules K.cut (opening_held {S = K.Scene} file base) }
+    ensures step { (old new : Held K.Scene) (event : Happening K.Scene) (outs : Given K.Scene)
+        → Moves K.rules K.cut old event outs new → IsHeld K.rules K.cut old
+        → IsHeld K.rules K.cut new }
+    ensures run { (events : List (Happening K.Scene)) (old new : Held K.Scene) (outs : Given K.Scene)
+        → Run (Moves K.rules K.cut) old events outs new → IsHeld K.rules K.cut old
+        → IsHeld K.rules K.cut new }
+{}
+
+/// Each view that a step tells that its save is done had one that waited: no more inputs were accepted before
+/// it than the number in the frame says, that many are applied, and a content of that many is stored. Where
+/// the frame says `put`, the step is a receipt of that very content in the document's file (`step`). In a run
+/// that began with a loaded document each save that waits was said by its view, where as many inputs were
+/// accepted as its mark says (`waiting`), and each view that is told that its save is done said one before,
+/// with no more inputs accepted than the number says (`run`).
+pub fn saves_are_stored<K: Kit>()
+    ensures step { (old new : Document K.Scene) (event : Happening K.Scene) (outs : Given K.Scene)
+        → IsKept K.rules K.cut old → Step K.rules K.cut old event outs new
+        → AllByRecursion (IsTrue K.rules old event new) outs.frames }
+    ensures waiting { (file base : List ℕ) (events : List (Happening K.Scene)) (outs : Given K.Scene) (d : Document K.Scene)
+        → Segment K.rules K.cut (opening file base) events outs d
+        → AllByRecursion (IsOfRun K.rules K.cut (opening file base) events d) d.saving.saves }
+    ensures run { (file base : List ℕ) (events : List (Happening K.Scene)) (given : Given K.Scene) (d : Document K.Scene)
+        (event : Happening K.Scene) (outs : Given K.Scene) (new : Document K.Scene)
+        → K.rules.accepts base ≡ true → Segment K.rules K.cut (opening file base) events given d
+        → Step K.rules K.cut d event outs new
+        → AllByRecursion (FollowsItsSave K.rules K.cut (opening file base) events d) outs.frames }
+{}
+
+/// In a run that began with a loaded document each stored content but the loaded file was put: a receipt of it
+/// came, and it is the document's after as many inputs as its number says.
+pub fn contents_were_put<K: Kit>()
+    ensures { (file base : List ℕ) (events : List (Happening K.Scene)) (outs : Given K.Scene) (d : Document K.Scene)
+        → K.rules.accepts base ≡ true → Segment K.rules K.cut (opening file base) events outs d
+        → ArePut K.rules events d }
 {}
 
 /// Whatever events come to a loaded document: whenever it is quiet, each key that a view sees is on its

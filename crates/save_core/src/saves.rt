@@ -216,6 +216,20 @@ impl Saves {
         has_mark(self.saves.as_slice(), mark)
     }
 
+    /// Whether the view has `MOST_SAVES` saves that are not answered, so that no other waits.
+    pub fn is_full(&self, view: Option<ViewId>) -> bool
+        ensures { result ≡ is_full view self.now.saves }
+    {
+        is_full(self.saves.as_slice(), view)
+    }
+
+    /// The token kept for final saves, where one is.
+    pub fn last_token(&self) -> Option<&Token>
+        ensures { option_copied result ≡ self.now.last_token }
+    {
+        self.kept.as_ref()
+    }
+
     /// Whether every save is answered.
     pub fn is_empty(&self) -> bool
         ensures { result ≡ nat_eq (length self.now.saves) 0 }
