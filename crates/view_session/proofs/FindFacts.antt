@@ -14,7 +14,8 @@ use Rattle.view_session.proofs.OrderFacts.{equal_is, rises, forth}
 abbrev pub Comes : Slot → Slot → Type 0
 Comes a b = IsBefore a.key b.key
 
-all_get : {X : Type 0} (P : X → Type 0) (xs : List X) (i : ℕ) (d : X) → AllByRecursion P xs → i < length xs → P (get_or xs i d)
+-- what holds of all holds of the one at an index
+pub all_get : {X : Type 0} (P : X → Type 0) (xs : List X) (i : ℕ) (d : X) → AllByRecursion P xs → i < length xs → P (get_or xs i d)
 all_get P [] i d a h = absurd (omega arith)
 all_get P (x ∷ xs) zero d a h = a.0
 all_get P (x ∷ xs) (suc i) d a h = all_get P xs i d a.1 (omega arith)

@@ -1,9 +1,9 @@
 -- Slots of keys that are seen, with nothing on the screen, and a view as it joins.
-use Rattle.std.proofs.Common.{◌≡◌, ◌+◌, ◌||◌, Bool, true, false, min, nat_lt, List, [], ◌∷◌, length, map, refl, ap, subst, ◌∙◌, arith}
+use Rattle.std.proofs.Common.{◌≡◌, ℕ, ◌+◌, ◌||◌, Bool, true, false, min, nat_lt, List, [], ◌∷◌, length, map, suc, ◌<◌, refl, ap, subst, ◌∙◌, arith}
 use Rattle.std.proofs.lemmas.Bool.Decides.{nat_tests}
-use Rattle.std.specs.List.{AllByRecursion}
+use Rattle.std.specs.List.{AllByRecursion, Contains}
 use Rattle.cool_base.specs.Points.{Extent, intersection_of, nowhere}
-use Rattle.tile_key.specs.Places.{Place, Scale}
+use Rattle.tile_key.specs.Places.{Place, Scale, IsKey}
 use Rattle.tile_key.specs.Visible.{IsBefore, rows_of, visible_keys, whole_part, is_too_large}
 use Rattle.document_machine.specs.Keys.{Pairwise}
 use Rattle.document_machine.specs.State.{first_zoom, no_area}
@@ -49,11 +49,32 @@ pub not_large : (b : Bool) → (b ≡ true → ⊥) → b ≡ false
 not_large true f = absurd (f refl)
 not_large false f = refl
 
-pub held_fresh : (zoom : Scale) (slots : List Slot) (keys asked : List Place) (window : List Sent) → slots ≡ map seen_slot keys → Pairwise IsBefore keys → is_too_large zoom (length keys) ≡ false → asked ≡ [] → window ≡ [] → IsHeld zoom slots asked window 1
-held_fresh zoom slots keys asked window s p small a w =
+-- what holds of each element that a list contains holds of all
+pub all_contained : {X : Type 0} (P : X → Type 0) (xs : List X) → ((x : X) → Contains xs x → P x) → AllByRecursion P xs
+all_contained P [] f = tt
+all_contained P (x ∷ xs) f = (f x (0, omega arith, refl), all_contained P xs (λ y c. f y (suc c.0, (let lt : c.0 < length xs = c.1 in omega arith), c.2)))
+
+-- what the parts of a view keep once it sees these keys
+pub held_seeing : (zoom before : Scale) (old new : List Slot) (keys now asked asked_now : List Place) (window : List Sent) (next : ℕ) → IsHeld before old asked window next → now ≡ keys → asked_now ≡ asked → IsSlotted new asked_now → seen_in new ≡ now → is_too_large zoom (length keys) ≡ false → AllByRecursion IsKey keys → IsHeld zoom new asked window next
+held_seeing zoom before old new keys now asked asked_now window next h now_is asked_is slotted seen small form =
+    let is : seen_in new ≡ keys = seen ∙ now_is in
+    record {
+      slotted = subst (λ (ks : List Place). IsSlotted new ks) asked_is slotted;
+      seen = ap (λ (ks : List Place). is_too_large zoom (length ks)) is ∙ small;
+      seen_keys = rw is form;
+      asked_keys = h.asked_keys;
+      asked_once = h.asked_once;
+      asked_few = h.asked_few;
+      wids = h.wids;
+      wids_below = h.wids_below;
+    }
+
+pub held_fresh : (zoom : Scale) (slots : List Slot) (keys asked : List Place) (window : List Sent) → slots ≡ map seen_slot keys → Pairwise IsBefore keys → is_too_large zoom (length keys) ≡ false → AllByRecursion IsKey keys → asked ≡ [] → window ≡ [] → IsHeld zoom slots asked window 1
+held_fresh zoom slots keys asked window s p small form a w =
     rw (s, a, w) (record {
       slotted = slotted_fresh keys p;
       seen = rw (seen_fresh keys) small;
+      seen_keys = rw (seen_fresh keys) form;
       asked_keys = tt;
       asked_once = tt;
       asked_few = omega arith;

@@ -41,6 +41,7 @@ viewing_by v slots o h zoom few numbers = record {
   zoom = zoom;
   visible = rw o.visible (rising_seen slots h.slotted.order);
   seen = rw o.visible h.seen;
+  keys = rw o.visible h.seen_keys;
   asked = h.asked_keys;
   asked_once = h.asked_once;
   asked_few = h.asked_few;
@@ -57,6 +58,7 @@ held_processed zoom slots asked old new next wid h e =
     rw e (record {
       slotted = h.slotted;
       seen = h.seen;
+      seen_keys = h.seen_keys;
       asked_keys = h.asked_keys;
       asked_once = h.asked_once;
       asked_few = h.asked_few;
@@ -99,7 +101,7 @@ module _ (part : ℕ) (rect : Rectangle) where
 
   pub held_hit : (zoom : Scale) (old new : List Slot) (asked : List Place) (window : List Sent) (next : ℕ) → IsHeld zoom old asked window next → new ≡ map (hit_slot part rect) old → IsHeld zoom new asked window next
   held_hit zoom old new asked window next h e =
-      rw e (record { slotted = slotted_hit old asked h.slotted; seen = rw (seen_hit old) h.seen; asked_keys = h.asked_keys; asked_once = h.asked_once; asked_few = h.asked_few; wids = h.wids; wids_below = h.wids_below })
+      rw e (record { slotted = slotted_hit old asked h.slotted; seen = rw (seen_hit old) h.seen; seen_keys = rw (seen_hit old) h.seen_keys; asked_keys = h.asked_keys; asked_once = h.asked_once; asked_few = h.asked_few; wids = h.wids; wids_below = h.wids_below })
 
 -- the keys of a view, the due ones, and the first of these
 pub keys_of : (v : Viewing) (slots : List Slot) → IsOf v slots → keys v ≡ keys_in slots
@@ -203,6 +205,7 @@ pub held_cancelled : (zoom : Scale) (slots new : List Slot) (asked kept : List P
 held_cancelled zoom slots new asked kept window next h k seen kept_is = record {
   slotted = k;
   seen = rw seen h.seen;
+  seen_keys = rw seen h.seen_keys;
   asked_keys = rw kept_is (all_keep IsKey (is_among (seen_in slots)) asked h.asked_keys);
   asked_once = rw kept_is (pairs_keep (λ p q. p ≢ q) (is_among (seen_in slots)) asked h.asked_once);
   asked_few = rw kept_is (few_kept (is_among (seen_in slots)) asked MOST_ASKED h.asked_few);
@@ -214,6 +217,7 @@ pub held_asked : (zoom : Scale) (slots new : List Slot) (asked now : List Place)
 held_asked zoom slots new asked now window next h k seen form once few = record {
   slotted = k;
   seen = rw seen h.seen;
+  seen_keys = rw seen h.seen_keys;
   asked_keys = form;
   asked_once = once;
   asked_few = few;
@@ -229,6 +233,7 @@ pub held_sent : (zoom : Scale) (slots new : List Slot) (asked now : List Place) 
 held_sent zoom slots new asked now window window_new next key ends h k seen now_is window_is = record {
   slotted = k;
   seen = rw seen h.seen;
+  seen_keys = rw seen h.seen_keys;
   asked_keys = rw now_is (asked_rest (AllByRecursion IsKey) asked key ends h.asked_keys (all_keep IsKey (λ x. not (same_place x key)) asked h.asked_keys));
   asked_once = rw now_is (asked_rest (Pairwise (λ p q. p ≢ q)) asked key ends h.asked_once (pairs_keep (λ p q. p ≢ q) (λ x. not (same_place x key)) asked h.asked_once));
   asked_few = rw now_is (asked_rest (λ ks. length ks ≤ MOST_ASKED) asked key ends h.asked_few (few_kept (λ x. not (same_place x key)) asked MOST_ASKED h.asked_few));

@@ -5,6 +5,7 @@ pub mod SlotFacts
 pub mod DueFacts
 pub mod KeysFacts
 pub mod HeldFacts
+pub mod PlaceFacts
 pub mod FreshFacts
 pub mod ShowFacts
 pub mod AskFacts

@@ -15,6 +15,7 @@ pub record IsViewing (v : Viewing) : Type 0 where
   pub zoom : is_zoom v.zoom ≡ true
   pub visible : Pairwise IsBefore v.visible
   pub seen : is_too_large v.zoom (length v.visible) ≡ false
+  pub keys : AllByRecursion IsKey v.visible
   pub asked : AllByRecursion IsKey v.asked
   pub asked_once : Pairwise (λ p q. p ≢ q) v.asked
   pub asked_few : length v.asked ≤ MOST_ASKED

@@ -5,6 +5,7 @@ use Rattle.cool_base.specs.Points.{Rectangle, do_meet}
 use Rattle.tile_key.specs.Places.{Place, rect_of_place, same_place}
 use Rattle.tile_key.specs.Visible.{IsBefore}
 use Rattle.document_machine.specs.Message.{asked_with}
+use Rattle.view_session.specs.Viewing.{is_behind}
 use Rattle.view_session.specs.Slots.{seen_in, screen_in, IsSlotted}
 use Rattle.view_session.specs.declared.slots.OnScreen.{OnScreen}
 use Rattle.view_session.specs.declared.slots.Slot.{Slot}
@@ -19,6 +20,12 @@ pub record IsGap (slots : List Slot) (key : Place) (i : ℕ) : Type 0 where
   pub within : i ≤ length slots
   pub before : AllByRecursion (λ slot. IsBefore slot.key key) (take i slots)
   pub after : AllByRecursion (λ slot. IsBefore key slot.key) (drop i slots)
+
+-- so many slots come before those behind the key
+pub record IsBehindFrom (slots : List Slot) (before : Option Place) (i : ℕ) : Type 0 where
+  pub within : i ≤ length slots
+  pub front : AllByRecursion (λ slot. is_behind before slot.key ≡ false) (take i slots)
+  pub back : AllByRecursion (λ slot. is_behind before slot.key ≡ true) (drop i slots)
 
 -- a key that is seen, with nothing on the screen
 abbrev pub seen_slot : Place → Slot

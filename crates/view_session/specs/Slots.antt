@@ -1,6 +1,6 @@
 -- How a view keeps what it sees, what it asks for and what is on its screen: one slot for each key, in key
 -- order.
-use Rattle.std.specs.Prelude.{◌≡◌, Bool, true, ◌&&◌, ◌||◌, List, [], ◌∷◌, map, Option, None, Some, if◌then◌else◌}
+use Rattle.std.specs.Prelude.{◌≡◌, ℕ, suc, Bool, true, ◌&&◌, ◌||◌, List, [], ◌∷◌, map, Option, None, Some, if◌then◌else◌}
 use Rattle.std.specs.List.{AllByRecursion}
 use Rattle.tile_key.specs.Places.{Place}
 use Rattle.tile_key.specs.Visible.{IsBefore}
@@ -36,6 +36,11 @@ lacks (Some shown) = shown.stale
 -- the key of a slot is due
 abbrev pub slot_due : Slot → Bool
 slot_due slot = (slot.visible && lacks slot.shown) || slot.asked
+
+-- how many slots come before the first that is due; where none is due, how many there are
+abbrev pub due_place : List Slot → ℕ
+due_place [] = 0
+due_place (slot ∷ slots) = if slot_due slot then 0 else suc (due_place slots)
 
 -- the slots are in key order, each once; the view sees or asks for each of them; each is marked as asked for
 -- exactly where its key is among the asked ones, and each asked key has its slot

@@ -1,5 +1,5 @@
 -- A view: what it sees and asks for, what is on its screen, what it has not acknowledged.
-use Rattle.std.specs.Prelude.{ℕ, ◌+◌, Bool, true, not, ◌&&◌, ◌||◌, nat_eq, List, [], ◌∷◌, ◌++◌, filter, map, Option, None, Some, option_map, if◌then◌else◌}
+use Rattle.std.specs.Prelude.{ℕ, ◌+◌, Bool, true, not, ◌&&◌, ◌||◌, nat_eq, List, [], ◌∷◌, ◌++◌, filter, find, map, Option, None, Some, option_map, if◌then◌else◌}
 use Rattle.std.specs.Ordering.{is_lt}
 use Rattle.cool_base.specs.Points.{Rectangle, Extent, do_meet}
 use Rattle.tile_key.specs.Places.{Place, Scale, rect_of_place, key_order, same_place}
@@ -136,3 +136,12 @@ keys v = ordered v.asked v.visible
 -- the due keys in key order
 abbrev pub uncurrent : Viewing → List Place
 uncurrent v = filter (is_due v) (keys v)
+
+-- a key comes behind this one in key order; behind none each does
+abbrev pub is_behind : Option Place → Place → Bool
+is_behind None key = true
+is_behind (Some before) key = is_lt (key_order before key)
+
+-- the first due key, in key order, of those behind this one
+abbrev pub next_due : Option Place → Viewing → Option Place
+next_due before v = find (λ key. is_behind before key && is_due v key) (keys v)

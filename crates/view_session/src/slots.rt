@@ -1,14 +1,15 @@
 //! `Slot`: a key that a view sees or asks for, and what of it is on the screen. Lists of slots are in
 //! key order.
-ghost use Rattle.std.specs.Prelude.{◌≡◌, ◌≢◌, ◌+◌, ◌<◌, ◌≤◌, ◌&&◌, ◌||◌, true, [], not, length, map, filter, IfOk, IfErr, OnOk, OnErr, find, option_map};
+ghost use Rattle.std.specs.Prelude.{◌≡◌, ◌≢◌, ◌+◌, ◌<◌, ◌≤◌, ◌&&◌, ◌||◌, true, [], not, length, map, filter, take, IfOk, IfErr, OnOk, OnErr, find, option_map};
 ghost use Rattle.std.specs.List.{list_any, AllByRecursion};
 ghost use Rattle.tile_key.specs.Places.{IsKey, same_place};
 ghost use Rattle.tile_key.specs.Visible.{IsBefore};
 ghost use Rattle.document_machine.specs.Keys.{is_among, Pairwise};
 ghost use Rattle.document_machine.specs.Message.{asked_with_all};
 ghost use Rattle.document_machine.specs.Due.{asked_after};
-ghost use Rattle.view_session.specs.Slots.{keys_in, seen_in, screen_in, slot_due, IsSlotted};
-ghost use Rattle.view_session.specs.Moves.{IsAt, IsGap, IsAsked, seen_slot, shown_in, shown_again, hit_slot};
+ghost use Rattle.view_session.specs.Viewing.{is_behind};
+ghost use Rattle.view_session.specs.Slots.{keys_in, seen_in, screen_in, slot_due, due_place, IsSlotted};
+ghost use Rattle.view_session.specs.Moves.{IsAt, IsGap, IsBehindFrom, IsAsked, seen_slot, shown_in, shown_again, hit_slot};
 
 use cool_base::{Memory, Rect, meets};
 use std::alloc::Global;
@@ -190,13 +191,19 @@ pub(crate) fn ask_all(
 }
 
 /// What of the key is on the screen from now on; where `ends`, the asking for it ends. A slot that is
-/// needed no longer goes.
-pub(crate) fn show(slots: &mut Vec<Slot>, key: &TileKey, shown: OnScreen, ends: bool)
+/// needed no longer goes. How many slots before it are as they were.
+pub(crate) fn show(
+    slots: &mut Vec<Slot>,
+    key: &TileKey,
+    shown: OnScreen,
+    ends: bool,
+) -> usize
     requires { Pairwise (λ a b. IsBefore a.key b.key) slots.old.items }
-    ensures { slots.new.items ≡ shown_in slots.old.items key.now shown ends }
+    ensures shown { slots.new.items ≡ shown_in slots.old.items key.now shown ends }
+    ensures front { take result slots.new.items ≡ take result slots.old.items }
 {
     let Ok(i) = find(slots.as_slice(), key) else {
-        return;
+        return slots.len();
     };
     let slot = slots[i].showing(shown, ends);
     if slot.is_needed() {
@@ -204,6 +211,7 @@ pub(crate) fn show(slots: &mut Vec<Slot>, key: &TileKey, shown: OnScreen, ends: 
     } else {
         slots.remove(i);
     }
+    i
 }
 
 /// Slots of a view that sees these keys and asks for those, with what of them was on the screen.
@@ -237,7 +245,7 @@ fn show_again(slots: &mut Vec<Slot>, slot: &Slot)
     let Some(shown) = slot.shown else {
         return;
     };
-    show(slots, &slot.key, shown, false);
+    let _place = show(slots, &slot.key, shown, false);
 }
 
 /// Where `ends`, the asking for the key ends.
@@ -309,6 +317,44 @@ pub(crate) fn first_due(slots: &[Slot]) -> Option<TileKey>
         }
     }
     None
+}
+
+/// How many slots come before those behind the key.
+fn behind_from(slots: &[Slot], before: Option<TileKey>) -> usize
+    requires { Pairwise (λ a b. IsBefore a.key b.key) slots.now }
+    ensures { IsBehindFrom slots.now before result }
+{
+    let Some(key) = before else {
+        return 0;
+    };
+    match find(slots, &key) {
+        Ok(i) => i + 1,
+        Err(i) => i,
+    }
+}
+
+/// The key of the first slot that is due, of those behind the key, where so many slots come before the
+/// first that is due.
+pub(crate) fn next_due(slots: &[Slot], first: usize, before: Option<TileKey>) -> Option<TileKey>
+    requires order { Pairwise (λ a b. IsBefore a.key b.key) slots.now }
+    requires first { first ≡ due_place slots.now }
+    ensures { result ≡ option_map (λ slot. slot.key) (find (λ slot. is_behind before slot.key && slot_due slot) slots.now) }
+{
+    let behind = behind_from(slots, before);
+    first_due(&slots[first.max(behind)..])
+}
+
+/// How many slots come before the first that is due, where so many do at least.
+pub(crate) fn due_place(slots: &[Slot], from: usize) -> usize
+    requires { from ≤ due_place slots.now }
+    ensures { result ≡ due_place slots.now }
+{
+    for i in from..slots.len() {
+        if slots[i].is_due() {
+            return i;
+        }
+    }
+    slots.len()
 }
 
 /// Whether one of the keys that the view sees is due.

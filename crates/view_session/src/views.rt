@@ -4,13 +4,13 @@ ghost use Rattle.std.specs.List.{list_any};
 ghost use Rattle.tile_key.specs.Visible.{visible_keys, is_too_large};
 ghost use Rattle.document_machine.specs.Keys.{is_among};
 ghost use Rattle.document_machine.specs.Message.{asked_with_all};
-ghost use Rattle.view_session.specs.Viewing.{opening, looks, zooms, goes_to, asks, cancels, processed, sent, damaged, wants, version_on, is_due, keys, uncurrent};
+ghost use Rattle.view_session.specs.Viewing.{opening, looks, zooms, goes_to, asks, cancels, processed, sent, damaged, wants, version_on, is_due, keys, uncurrent, next_due};
 ghost use Rattle.view_session.specs.Keeps.{IsViewing};
 
 use crate::asking::{asks_too_many, is_asked};
 use crate::slots::{
-    OnScreen, Slot, ask_all, damage, due_keys, end_asking, find, first_due, keep_seen, keys, see,
-    seeing, sees_due, show,
+    OnScreen, Slot, ask_all, damage, due_keys, due_place, end_asking, find, first_due, keep_seen, keys,
+    next_due, see, seeing, sees_due, show,
 };
 use cool_base::{Memory, Rect, Size, Wid, Wids};
 use document_machine::{MOST_ASKED, Rights};
@@ -78,6 +78,8 @@ pub struct View {
     zoom: Zoom,
     area: Rect,
     slots: Vec<Slot>,
+    // How many slots come before the first that is due.
+    first: usize,
     asked: Vec<TileKey>,
     window: Window,
     next_wid: u64,
@@ -86,13 +88,13 @@ pub struct View {
 impl Model for View {
     ghost use Rattle.view_session.specs.Viewing.{Viewing};
     ghost use Rattle.view_session.specs.Slots.{seen_in, screen_in};
-    ghost use Rattle.view_session.specs.Held.{IsHeld};
+    ghost use Rattle.view_session.specs.Held.{IsPlaced};
 
     ghost Value = { Viewing };
 
     ghost view = { λ v. record { rights = v.rights; part = v.part; zoom = v.zoom; area = v.area; visible = seen_in v.slots.items; asked = v.asked.items; screen = screen_in v.slots.items; window = v.window; next_wid = v.next_wid } };
 
-    ghost invariant = { λ v. IsHeld v.zoom v.slots.items v.asked.items v.window v.next_wid };
+    ghost invariant = { λ v. IsPlaced v.zoom v.slots.items v.asked.items v.window v.next_wid v.first };
 }
 
 impl View {
@@ -116,12 +118,14 @@ impl View {
             Err(VisibleFault::Memory) => return Err(Memory),
         };
         let slots = see(alloc, keys.as_slice())?;
+        let first = due_place(slots.as_slice(), 0);
         Ok(View {
             rights,
             part: 0,
             zoom,
             area,
             slots,
+            first,
             asked: Vec::new(alloc),
             window: Window::new(),
             next_wid: 1,
@@ -210,6 +214,7 @@ impl View {
             self.asked.as_slice(),
             self.slots.as_slice(),
         )?;
+        self.first = due_place(slots.as_slice(), 0);
         self.slots = slots;
         self.area = *area;
         Ok(())
@@ -231,6 +236,7 @@ impl View {
             self.asked.as_slice(),
             self.slots.as_slice(),
         )?;
+        self.first = due_place(slots.as_slice(), 0);
         self.slots = slots;
         self.zoom = *zoom;
         Ok(())
@@ -251,6 +257,7 @@ impl View {
             self.asked.as_slice(),
             self.slots.as_slice(),
         )?;
+        self.first = due_place(slots.as_slice(), 0);
         self.slots = slots;
         self.part = part;
         Ok(())
@@ -271,6 +278,7 @@ impl View {
         let mut slots = Vec::from_slice(alloc, self.slots.as_slice())?;
         let mut asked = Vec::from_slice(alloc, self.asked.as_slice())?;
         ask_all(&mut slots, &mut asked, keys)?;
+        self.first = due_place(slots.as_slice(), 0);
         self.slots = slots;
         self.asked = asked;
         Ok(())
@@ -282,6 +290,7 @@ impl View {
     {
         self.slots.retain(|slot| slot.visible);
         keep_seen(&mut self.asked, self.slots.as_slice());
+        self.first = due_place(self.slots.as_slice(), 0);
     }
 
     /// The tile with this number is acknowledged; false exactly where none in the window has it, and then
@@ -309,7 +318,8 @@ impl View {
             stale: !current,
         };
         end_asking(&mut self.asked, key, current);
-        show(&mut self.slots, key, shown, current);
+        let place = show(&mut self.slots, key, shown, current);
+        self.first = due_place(self.slots.as_slice(), self.first.min(place));
         self.window.put(Wid(wid), key);
         self.next_wid = wid + 1;
         Wid(wid)
@@ -321,6 +331,7 @@ impl View {
         ensures { self.new ≡ damaged part rect.now self.old }
     {
         damage(self.slots.as_mut_slice(), part, rect);
+        self.first = due_place(self.slots.as_slice(), 0);
     }
 
     /// The version of the key on its screen; None exactly where the screen lacks it.
@@ -366,6 +377,14 @@ impl View {
         ensures { result ≡ find (is_due self.now) (keys self.now) }
     {
         first_due(self.slots.as_slice())
+    }
+
+    /// The first due key, in key order, of those behind this one; of all where there is none. It takes no
+    /// memory, and begins at the first slot that is due.
+    pub fn next_due(&self, before: Option<TileKey>) -> Option<TileKey>
+        ensures { result ≡ next_due before self.now }
+    {
+        next_due(self.slots.as_slice(), self.first, before)
     }
 
     /// Whether it asks for nothing and no key that it sees is due. It takes no memory.

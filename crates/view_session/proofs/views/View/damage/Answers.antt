@@ -1,3 +1,4 @@
+use Rattle.view_session.specs.Slots.{due_place}
 use Rattle.std.proofs.Common.{◌≡◌, map, ap, sym, ◌∙◌}
 use Rattle.std.specs.Vec.{with_items}
 use Rattle.std.proofs.lemmas.List.{with_items_is}
@@ -11,7 +12,10 @@ invariant_of-self c =
     let is = c.damage.ensures ∙ ap (map (hit_slot c.args.part c.args.rect.now)) c.as_mut_slice.ensures.value in
     let e : (with_items s.slots c.damage.new.slots).items ≡ map (hit_slot c.args.part c.args.rect.now) s.slots.items =
     with_items_is s.slots c.damage.new.slots (hit_length c.args.part c.args.rect.now s.slots.items c.damage.new.slots is ∙ sym s.slots.ok.0) ∙ is in
-    held_hit c.args.part c.args.rect.now s.zoom s.slots.items (with_items s.slots c.damage.new.slots).items s.asked.items s.window s.next_wid c.self.invariant e
+    record {
+    held = held_hit c.args.part c.args.rect.now s.zoom s.slots.items (with_items s.slots c.damage.new.slots).items s.asked.items s.window s.next_wid c.self.invariant.held e;
+    first = c.due_place.ensures ∙ ap due_place c.as_slice.ensures.value;
+    }
 
 pub returns : goal.returns
 returns c =

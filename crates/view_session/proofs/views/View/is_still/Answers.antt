@@ -9,4 +9,4 @@ pub returns : goal.returns
 returns c =
     let s = c.self.inside in
     ap not (c.sees_due.ensures ∙ ap (list_any (λ (slot : Slot). slot.visible && slot_due slot)) c.as_slice.ensures.value)
-    ∙ whole_still s.rights s.part s.zoom s.area s.slots.items s.asked.items s.window s.next_wid c.args.self.now c.self.view_is c.self.invariant.slotted (omega arith)
+    ∙ whole_still s.rights s.part s.zoom s.area s.slots.items s.asked.items s.window s.next_wid c.args.self.now c.self.view_is c.self.invariant.held.slotted (omega arith)

@@ -1,3 +1,4 @@
+use Rattle.view_session.specs.Slots.{due_place}
 use Rattle.std.proofs.Common.{not}
 use Rattle.view_session.proofs.ShowFacts.{IsShown, shown_by}
 use Rattle.view_session.proofs.HeldFacts.{held_sent, whole_wants, whole_sent}
@@ -7,14 +8,17 @@ pub invariant_of-self : goal.invariant_of-self
 invariant_of-self c =
     let s = c.self.inside in
     let told : IsShown s.slots.items c.show.new.slots.items s.asked.items c.end_asking.new.asked.items c.args.key.now (record { version = c.args.ver; stale = not c.args.current }) =
-    shown_by s.slots.items c.show.new.slots.items s.asked.items c.end_asking.new.asked.items c.args.key.now (record { version = c.args.ver; stale = not c.args.current }) c.args.current c.self.invariant.slotted
-    (whole_wants s.rights s.part s.zoom s.area s.slots.items s.asked.items s.window s.next_wid c.args.self.now c.self.view_is c.args.key.now c.requires.wanted) c.show.ensures c.end_asking.ensures in
-    held_sent s.zoom s.slots.items c.show.new.slots.items s.asked.items c.end_asking.new.asked.items s.window c.put.new.self s.next_wid c.args.key.now c.args.current c.self.invariant told.slotted told.seen c.end_asking.ensures c.put.ensures
+    shown_by s.slots.items c.show.new.slots.items s.asked.items c.end_asking.new.asked.items c.args.key.now (record { version = c.args.ver; stale = not c.args.current }) c.args.current c.self.invariant.held.slotted
+    (whole_wants s.rights s.part s.zoom s.area s.slots.items s.asked.items s.window s.next_wid c.args.self.now c.self.view_is c.args.key.now c.requires.wanted) c.show.ensures.shown c.end_asking.ensures in
+    record {
+    held = held_sent s.zoom s.slots.items c.show.new.slots.items s.asked.items c.end_asking.new.asked.items s.window c.put.new.self s.next_wid c.args.key.now c.args.current c.self.invariant.held told.slotted told.seen c.end_asking.ensures c.put.ensures;
+    first = c.due_place.ensures ∙ ap due_place c.as_slice.ensures.value;
+    }
 
 pub returns-clause-sent : goal.returns-clause-sent
 returns-clause-sent c =
     let s = c.self.inside in
     let told : IsShown s.slots.items c.show.new.slots.items s.asked.items c.end_asking.new.asked.items c.args.key.now (record { version = c.args.ver; stale = not c.args.current }) =
-    shown_by s.slots.items c.show.new.slots.items s.asked.items c.end_asking.new.asked.items c.args.key.now (record { version = c.args.ver; stale = not c.args.current }) c.args.current c.self.invariant.slotted
-    (whole_wants s.rights s.part s.zoom s.area s.slots.items s.asked.items s.window s.next_wid c.args.self.now c.self.view_is c.args.key.now c.requires.wanted) c.show.ensures c.end_asking.ensures in
+    shown_by s.slots.items c.show.new.slots.items s.asked.items c.end_asking.new.asked.items c.args.key.now (record { version = c.args.ver; stale = not c.args.current }) c.args.current c.self.invariant.held.slotted
+    (whole_wants s.rights s.part s.zoom s.area s.slots.items s.asked.items s.window s.next_wid c.args.self.now c.self.view_is c.args.key.now c.requires.wanted) c.show.ensures.shown c.end_asking.ensures in
     whole_sent s.rights s.part s.zoom s.area s.slots.items s.asked.items s.window s.next_wid c.args.self.now c.self.view_is c.args.key.now c.args.ver c.args.current c.show.new.slots.items c.end_asking.new.asked.items c.put.new.self told.seen c.end_asking.ensures told.screen c.put.ensures
