@@ -15,6 +15,8 @@ pub mod Quiet
 pub mod QuietTest
 pub mod Rank
 pub mod Rising
+pub mod SaveFrames
+pub mod Saving
 pub mod Screens
 pub mod Sending
 pub mod Tiles
