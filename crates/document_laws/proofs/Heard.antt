@@ -1,6 +1,6 @@
 -- What a message does: a view that is kept is kept after it, it has the same id and the same next number, its
--- screen takes no step back, inputs name one of the parts, a save is not one too many, and no frame is a tile
--- or says that a save is done.
+-- screen is a part of what it was and so takes no step back, inputs name one of the parts, a save is not one
+-- too many, and no frame is a tile or says that a save is done.
 use Rattle.std.proofs.Common.{◌≡◌, ◌≢◌, ℕ, ◌<◌, ◌≤◌, Bool, true, false, not, ◌||◌, cond, nat_eq, List, [], ◌∷◌, ◌++◌, length, filter, Option, None, Some, Ok, Err, refl, ap, sym, subst, ◌∙◌, arith}
 use Rattle.std.specs.Prelude.{nat_lt, nat_le, IfSome, Result}
 use Rattle.std.specs.List.{list_any, list_all, AllByRecursion}
@@ -56,7 +56,7 @@ all_asked P asked [] all ps = all
 all_asked P asked (key ∷ keys) all ps = all_asked P (asked_with asked key) keys (all_asked_with P asked key all ps.0) ps.1
 
 -- a key that is not among some is none of them
-none_of : (asked : List Place) (key : Place) → is_among asked key ≡ false → AllByRecursion (λ p. p ≢ key) asked
+pub none_of : (asked : List Place) (key : Place) → is_among asked key ≡ false → AllByRecursion (λ p. p ≢ key) asked
 none_of [] key e = tt
 none_of (other ∷ others) key e =
     let parts = or_parts (same_place other key) (is_among others key) e in
@@ -122,6 +122,11 @@ heard_is d id view e live same =
     ap (λ views. record d { journal = d.journal ++ e.inputs; views = views; saving = saving_after id (length d.journal) e d.saving })
     (changed_same d.views id (λ _. e.view) (keeps e.view) view live (ap (λ n. record e.view { id = n }) same))
 
+-- a screen of which all stays
+all_kept : (screen : List Shown) → screen ≡ filter (λ _. true) screen
+all_kept [] = refl
+all_kept (shown ∷ screen) = ap (λ rest. shown ∷ rest) (all_kept screen)
+
 -- a save that waits now is not one too many of its view's
 abbrev pub Fits : List Waiting → ℕ → Option Bool → Type 0
 Fits saves id None = Unit {0}
@@ -137,6 +142,7 @@ module _ {C B S : Type 0} (rules : Rules C B) (d : Document S) (view : View) whe
     pub back : IsNoStepBack view e.view
     pub frames : AllByRecursion IsPlain e.frames
     pub saves : Fits d.saving.saves view.id e.save
+    pub screen : (keep : Shown → Bool) × (e.view.screen ≡ filter keep view.screen)
 
   -- what a screen forgets
   forgotten_kept : (seen : View) → seen.screen ≡ view.screen → IsViewKept rules d view → seen.part < parts_of rules d.base → is_zoom seen.zoom ≡ true → is_too_large seen.zoom (length (visible rules d seen)) ≡ false
@@ -162,7 +168,7 @@ module _ {C B S : Type 0} (rules : Rules C B) (d : Document S) (view : View) whe
   module _ (kept : IsViewKept rules d view) where
     -- nothing changes, and these frames are given
     same_good : (frames : List Frame) → AllByRecursion IsPlain frames → IsGood (record { frames = frames; inputs = []; save = None; view = view })
-    same_good frames plain = record { id = refl; next = refl; kept = kept; inputs = tt; back = same_screen view view refl; frames = plain; saves = tt }
+    same_good frames plain = record { id = refl; next = refl; kept = kept; inputs = tt; back = same_screen view view refl; frames = plain; saves = tt; screen = (λ _. true, all_kept view.screen) }
 
     -- a screen forgets what its view, once changed, neither sees nor asks for
     forget_good : (seen : View) → seen.id ≡ view.id → seen.screen ≡ view.screen → seen.part < parts_of rules d.base → is_zoom seen.zoom ≡ true → is_too_large seen.zoom (length (visible rules d seen)) ≡ false
@@ -176,12 +182,13 @@ module _ {C B S : Type 0} (rules : Rules C B) (d : Document S) (view : View) whe
       back = filtered (wants (size_of rules d.base) seen) view (forgets (size_of rules d.base) seen) (ap (λ s. filter (λ shown. wants (size_of rules d.base) seen shown.key) s) screen);
       frames = tt;
       saves = tt;
+      screen = (λ shown. wants (size_of rules d.base) seen shown.key, ap (λ s. filter (λ shown. wants (size_of rules d.base) seen shown.key) s) screen);
     }
 
     input_good : (command : List ℕ) (what : What) → IsGood (input_effect (limits_of rules d) view command what)
     input_good command what =
         let input : Input = record { view = record { 0 = view.id }; part = view.part; what = what } in
-        let entered : IsGood (enters view input) = record { id = refl; next = refl; kept = kept; inputs = (kept.part, tt); back = same_screen view view refl; frames = tt; saves = tt } in
+        let entered : IsGood (enters view input) = record { id = refl; next = refl; kept = kept; inputs = (kept.part, tt); back = same_screen view view refl; frames = tt; saves = tt; screen = (λ _. true, all_kept view.screen) } in
         let refused : (kind : ErrorKind) → IsGood (answers view (Error command kind None)) = λ kind. same_good (Error command kind None ∷ []) (tt, tt) in
         let full : (b : Bool) → IsGood (cond b (answers view (Error command InputsFull None)) (enters view input)) = elim [ true ↦ refused InputsFull | false ↦ entered ] in
         elim view.rights.can_write as (λ b. IsGood (cond b (cond (nat_le MOST_INPUTS (length d.journal)) (answers view (Error command InputsFull None)) (enters view input)) (answers view (Error command ReadOnly None)))) [
@@ -194,7 +201,7 @@ module _ {C B S : Type 0} (rules : Rules C B) (d : Document S) (view : View) whe
         let refused : (kind : ErrorKind) → IsGood (answers view (Error command kind None)) = λ kind. same_good (Error command kind None ∷ []) (tt, tt) in
         let few : (b : Bool) → is_full (Some (named view.id)) d.saving.saves ≡ b → IsGood (cond b (answers view (Error command SavesFull None)) (awaits view skip)) = elim [
           | true ↦ λ full. refused SavesFull
-          | false ↦ λ fits. record { id = refl; next = refl; kept = kept; inputs = tt; back = same_screen view view refl; frames = tt; saves = fits }
+          | false ↦ λ fits. record { id = refl; next = refl; kept = kept; inputs = tt; back = same_screen view view refl; frames = tt; saves = fits; screen = (λ _. true, all_kept view.screen) }
         ] in
         elim view.rights.can_write as (λ b. IsGood (cond b (cond (is_full (Some (named view.id)) d.saving.saves) (answers view (Error command SavesFull None)) (awaits view skip)) (answers view (Error command ReadOnly None)))) [
           | true ↦ few (is_full (Some (named view.id)) d.saving.saves) refl
@@ -245,6 +252,7 @@ module _ {C B S : Type 0} (rules : Rules C B) (d : Document S) (view : View) whe
             back = same_screen view (record view { asked = asked }) refl;
             frames = tt;
             saves = tt;
+            screen = (λ _. true, all_kept view.screen);
           }
         ] in
         go (nat_lt MOST_ASKED (length asked)) refl
@@ -311,6 +319,7 @@ module _ {C B S : Type 0} (rules : Rules C B) (d : Document S) (view : View) whe
           back = same_screen view (acknowledged wids view) refl;
           frames = tt;
           saves = tt;
+          screen = (λ _. true, all_kept view.screen);
         }
 
     message_good : (message : ClientMessage) → IsGood (message_effect (limits_of rules d) view message)

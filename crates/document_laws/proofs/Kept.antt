@@ -47,7 +47,7 @@ sees_none size =
     ap (λ (s : Rectangle). length (rows_of 0 first_zoom (s.x / 3840) (tiles_to s.x (s.x + s.w) 3840) (s.y / 3840) (tiles_to s.y (s.y + s.h) 3840))) cut
 
 -- jobs, all but the one with a ticket
-job_without_all : {S : Type 0} (P : Job S → Type 0) (jobs : List (Job S)) (ticket : ℕ) → AllByRecursion P jobs → AllByRecursion P (without_job jobs ticket)
+pub job_without_all : {S : Type 0} (P : Job S → Type 0) (jobs : List (Job S)) (ticket : ℕ) → AllByRecursion P jobs → AllByRecursion P (without_job jobs ticket)
 job_without_all P [] ticket all = tt
 job_without_all P (j ∷ js) ticket all =
     elim (nat_eq j.ticket ticket) as (λ b. AllByRecursion P (cond b js (j ∷ without_job js ticket))) [

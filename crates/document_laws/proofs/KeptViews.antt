@@ -41,7 +41,7 @@ pairwise_push R (y ∷ ys) x order before = (all_push (R y) ys x order.0 before.
 abbrev Earlier : Shown → Shown → Type 0
 Earlier p q = IsBefore p.key q.key
 
-screen_all : (P : Shown → Type 0) (screen : List Shown) (key : Place) (version : ℕ) → P (record { key = key; version = version }) → AllByRecursion P screen → AllByRecursion P (with_version screen key version)
+pub screen_all : (P : Shown → Type 0) (screen : List Shown) (key : Place) (version : ℕ) → P (record { key = key; version = version }) → AllByRecursion P screen → AllByRecursion P (with_version screen key version)
 screen_all P [] key version here all = (here, tt)
 screen_all P (shown ∷ screen) key version here all =
     let go : (a b : Bool) → AllByRecursion P (cond a (record { key = key; version = version } ∷ (shown ∷ screen)) (cond b (record { key = key; version = version } ∷ screen) (shown ∷ with_version screen key version))) = elim [

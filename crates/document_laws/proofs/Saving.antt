@@ -134,7 +134,7 @@ not_full : (n : ℕ) → nat_le MOST_SAVES n ≡ false → n < MOST_SAVES
 not_full n e = grind (arith, nat_tests)
 
 -- a token changes no save
-token_saves : (inputs : List Input) (token : List ℕ) (s : Saving) → (with_token inputs token s).saves ≡ s.saves
+pub token_saves : (inputs : List Input) (token : List ℕ) (s : Saving) → (with_token inputs token s).saves ≡ s.saves
 token_saves [] token s = refl
 token_saves (input ∷ inputs) token s = refl
 
