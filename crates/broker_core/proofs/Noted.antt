@@ -138,11 +138,13 @@ outs_more rules base journal applied damages (job ∷ jobs) is past =
 
 tiles_more : {C B : Type 0} (rules : Rules C B) (base : List ℕ) (journal : List Input) (applied : ℕ) (damages : List Damage) (tiles : List (Place × Tile)) → damages ≡ damage_of rules base journal applied → AllByRecursion (λ (entry : Place × Tile). entry.1.number ≤ applied) tiles → AllByRecursion (IsTileOf rules base journal applied) tiles → AllByRecursion (IsTileOf rules base journal (applied + 1)) (map (tile_noted damages (applied + 1)) tiles)
 tiles_more rules base journal applied damages [] is past all = tt
-tiles_more rules base journal applied damages (entry ∷ tiles) is past all =
-    (record {
-      shows = all.0.shows;
-      marks = met_more rules base journal applied damages entry.1.number entry.0 entry.1.is_met is past.0 all.0.marks;
-    }, tiles_more rules base journal applied damages tiles is past.1 all.1)
+tiles_more rules base journal applied damages (entry ∷ tiles) is past all = (
+  record {
+    shows = all.0.shows;
+    marks = met_more rules base journal applied damages entry.1.number entry.0 entry.1.is_met is past.0 all.0.marks;
+  },
+  tiles_more rules base journal applied damages tiles is past.1 all.1,
+)
 
 -- the cache is that of the document with one input more applied, once its damages are noted
 pub cache_more : {C B S : Type 0} (rules : Rules C B) (base : List ℕ) (journal : List Input) (applied : ℕ) (jobs : List (Job S)) (damages : List Damage) (cache : Cached) → damages ≡ damage_of rules base journal applied

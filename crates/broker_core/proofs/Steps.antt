@@ -53,9 +53,12 @@ versions_of rules cut d members kept views =
     (λ m k. all_unmap (λ (s : Shown). s.version ≤ d.applied) shown_of m.view.screen k.versions)
     (all_unmap (IsViewKept rules d) view_of members (subst (λ vs. AllByRecursion (IsViewKept rules d) vs) views kept.each))
 
--- a document once its next input is applied
-abbrev pub applied_once : {S : Type 0} → Held S → List Member → Held S
-applied_once held members = record held { document = record (held.document) { applied = held.document.applied + 1; views = views_of members } }
+-- a document once its next input is applied, with its cache noted
+abbrev pub applied_once : {S : Type 0} → Held S → List Member → Cached → Held S
+applied_once held members noted = record {
+  document = record (held.document) { applied = held.document.applied + 1; views = views_of members; next_ticket = noted.next };
+  kept = kept_tiles noted.tiles;
+}
 
 module _ {C B S : Type 0} (rules : Rules C B) (cut : C → Place → S) (IsSound : C → Type 0) (contents : C) (members : List Member) (cache : Cached) (held : Held S) (h : Holds rules cut IsSound contents members cache held) where
   -- the next input names one of the kit's parts
@@ -66,39 +69,43 @@ module _ {C B S : Type 0} (rules : Rules C B) (cut : C → Place → S) (IsSound
       omega (arith, low, h.parts_are)
 
   -- the next input is applied
-  pub applies_by : (after : List Member) (input : Input) (damages : List Damage) (frames : List (ViewId × Frame))
+  pub applies_by : (after : List Member) (input : Input) (damages : List Damage) (noted : Cached) (frames : List (ViewId × Frame))
       → has_ready_save held.document ≡ false → held.document.applied < length held.document.journal → get_or held.document.journal held.document.applied input ≡ input → damages ≡ rules.hurt contents input → after ≡ map (marked_by damages) members
-      → frames ≡ told (views_of members) damages → DoesNext rules cut held (Worked (frames_only frames)) (applied_once held after)
-  applies_by after input damages frames no_save lt at damages_are after_is frames_are =
+      → noted ≡ cache_damaged damages (held.document.applied + 1) cache → frames ≡ told (views_of members) damages → DoesNext rules cut held (Worked (frames_only frames)) (applied_once held after noted)
+  applies_by after input damages noted frames no_save lt at damages_are after_is noted_is frames_are =
       let d : Document S = held.document in
-      let applies : Applies {S = S} rules d (frames_only frames) ((applied_once held after).document) = record {
+      let views_are : views_of after ≡ d.views = ap views_of after_is ∙ views_marked damages members ∙ sym h.views_are in
+      let ticket_is : noted.next ≡ d.next_ticket = ap (λ (c : Cached). c.next) noted_is ∙ next_noted damages (d.applied + 1) cache ∙ sym h.ticket_is in
+      let kept_is : kept_tiles noted.tiles ≡ held.kept = ap (λ (c : Cached). kept_tiles c.tiles) noted_is ∙ kept_noted damages (d.applied + 1) cache ∙ sym h.kept_are in
+      let applies : Applies {S = S} rules d (frames_only frames) ((applied_once held after noted).document) = record {
         input = input;
         no_save = no_save;
         behind = got d.journal d.applied input lt at;
-        new_is = ap (λ (vs : List View). record d { applied = d.applied + 1; views = vs }) (ap views_of after_is ∙ views_marked damages members ∙ sym h.views_are);
+        new_is = λ i. record d { applied = d.applied + 1; views = views_are i; next_ticket = ticket_is i };
         outs_are = ap (λ (fs : List (ViewId × Frame)). frames_only fs)
             (frames_are ∙ ap (λ vs. told vs damages) (sym h.views_are) ∙ ap (λ (ds : List Damage). told d.views ds) (damages_are ∙ ap (λ c. rules.hurt c input) h.contents_are));
       } in
       let behind : nat_lt d.applied (length d.journal) ≡ true = grind (arith, nat_tests) in
       let next : Work = serving_next rules (current_version rules held) d (next_pair rules (current_version rules held) d) in
       let work_is : next_work rules held ≡ Apply = ap (λ b. cond b Serve (cond (nat_lt d.applied (length d.journal)) Apply next)) no_save ∙ ap (λ b. cond b Apply next) behind in
-      subst (λ (work : Work). Does rules cut d work (Worked (frames_only frames)) ((applied_once held after).document) × (held.kept ≡ kept_by held.kept work)) (sym work_is) (applies, refl)
+      subst (λ (work : Work). Does rules cut d work (Worked (frames_only frames)) ((applied_once held after noted).document) × (kept_tiles noted.tiles ≡ kept_by held.kept work)) (sym work_is) (applies, kept_is)
 
   pub holds_applied : ((base : List ℕ) → 0 < parts_of rules base) → (now : C) (after : List Member) (input : Input) (damages : List Damage) (noted : Cached)
       → has_ready_save held.document ≡ false → held.document.applied < length held.document.journal → get_or held.document.journal held.document.applied input ≡ input → damages ≡ rules.hurt contents input → after ≡ map (marked_by damages) members
       → noted ≡ cache_damaged damages (held.document.applied + 1) cache → now ≡ rules.step contents input
       → IsSound (rules.step contents input) → rules.parts (rules.body (rules.step contents input)) ≡ rules.parts (rules.body contents) → ((part : ℕ) → rules.size (rules.body (rules.step contents input)) part ≡ rules.size (rules.body contents) part)
-      → Holds rules cut IsSound now after noted (applied_once held after)
+      → Holds rules cut IsSound now after noted (applied_once held after noted)
   holds_applied some_part now after input damages noted no_save lt at damages_are after_is noted_is is sound same_parts same_sizes =
       let d : Document S = held.document in
-      let new : Held S = applied_once held after in
-      let does : DoesNext rules cut held (Worked (frames_only (told (views_of members) damages))) new = applies_by after input damages (told (views_of members) damages) no_save lt at damages_are after_is refl in
-      let moves : Moves rules cut held Turned (frames_only (told (views_of members) damages)) new = (Worked (frames_only (told (views_of members) damages)), does, refl) in
+      let new : Held S = applied_once held after noted in
+      let outs : Outs S = frames_only (told (views_of members) damages) in
+      let does : DoesNext rules cut held (Worked outs) new = applies_by after input damages noted (told (views_of members) damages) no_save lt at damages_are after_is noted_is refl in
+      let moves : Moves rules cut held Turned outs new = (Worked outs, does, refl) in
       let damage : damages ≡ damage_of rules d.base d.journal d.applied =
       damages_are ∙ ap (λ c. rules.hurt c input) h.contents_are ∙ sym (damage_is rules d.base d.journal d.applied input (got d.journal d.applied input lt at)) in
       let marked : AllByRecursion (IsTracked rules d.base d.journal (d.applied + 1)) (map (marked_by damages) members) = all_marked rules d.base d.journal d.applied damages members damage (versions_of rules cut d members h.kept.document h.views_are) h.tracked in
       record {
-        kept = moves_keep rules cut some_part held new Turned (frames_only (told (views_of members) damages)) moves h.kept;
+        kept = moves_keep rules cut some_part held new Turned outs moves h.kept;
         views_are = refl;
         contents_are = is ∙ ap (λ c. rules.step c input) h.contents_are ∙ sym (doc_more rules d.base d.journal d.applied input lt at);
         sound = subst IsSound (sym is) sound;
@@ -107,8 +114,8 @@ module _ {C B S : Type 0} (rules : Rules C B) (cut : C → Place → S) (IsSound
         some_part = h.some_part;
         tracked = subst (λ ms. AllByRecursion (IsTracked rules d.base d.journal (d.applied + 1)) ms) (sym after_is) marked;
         forms = h.forms;
-        ticket_is = h.ticket_is ∙ sym (next_noted damages (d.applied + 1) cache) ∙ ap (λ (c : Cached). c.next) (sym noted_is);
-        kept_are = h.kept_are ∙ sym (kept_noted damages (d.applied + 1) cache) ∙ ap (λ (c : Cached). kept_tiles c.tiles) (sym noted_is);
+        ticket_is = refl;
+        kept_are = refl;
         cache = subst (λ (c : Cached). IsCacheOf rules d.base d.journal (d.applied + 1) d.jobs c) (sym noted_is)
             (cache_more rules d.base d.journal d.applied d.jobs damages cache damage (tiles_past rules cut held cache h.kept h.kept_are) (jobs_past rules cut held h.kept) h.cache);
       }

@@ -79,11 +79,7 @@ impl<K: Kit> Broker<K> {
 
     /// The token of the errand that the store answered by a receipt for the put under way; none for another
     /// answer, and where the broker is spent. It is read before `put_done` takes the answer.
-    pub fn lock_token(
-        &self,
-        ticket: Ticket,
-        answer: &Result<Receipt, StoreFault>,
-    ) -> Option<&Token>
+    pub fn lock_token(&self, ticket: Ticket, answer: &Result<Receipt, StoreFault>) -> Option<&Token>
         ensures { option_copied result ≡ option_and_then (λ held. lock_token ticket.0 answer.now held.document.saving) self.now }
     {
         match &self.core {

@@ -269,14 +269,7 @@ impl<K: Kit> Core<K> {
         let member = &mut views.members[i];
         let outcome = member.hear(alloc, &kit, count, &saves, text)?;
         let token = &member.view.rights().token;
-        let frames = enter(
-            alloc,
-            id,
-            token,
-            outcome,
-            &mut inputs.accepted,
-            &mut saves,
-        )?;
+        let frames = enter(alloc, id, token, outcome, &mut inputs.accepted, &mut saves)?;
         let core = Core {
             kit,
             source,

@@ -116,7 +116,8 @@ pub(crate) fn put_token(saves: &[Save]) -> Option<&Token>
     ensures { option_copied result ≡ option_map (λ save. save.token) (find (λ save. save.bound) saves.now) }
 {
     for save in saves {
-        if save.bound {
+        let is_bound = save.bound;
+        if is_bound {
             return Some(&save.token);
         }
     }

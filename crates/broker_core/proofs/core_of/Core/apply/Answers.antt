@@ -1,4 +1,4 @@
-use Rattle.std.proofs.Common.{◌≡◌, ◌<◌, ◌∙◌, false, length, map, sym, ap, subst}
+use Rattle.std.proofs.Common.{◌≡◌, ◌<◌, ◌+◌, ◌∙◌, false, length, map, sym, ap, subst}
 use Rattle.document_machine.specs.Held.{Held}
 use Rattle.broker_core.specs.Held.{held_of}
 use Rattle.document_machine.specs.Goes.{DoesNext}
@@ -6,7 +6,6 @@ use Rattle.document_machine.specs.Saves.{has_ready_save}
 use Rattle.document_machine.specs.Step.{told}
 use Rattle.document_machine.specs.Outputs.{frames_only}
 use Rattle.document_machine.specs.declared.outs.Turned.TheVariants.{Worked}
-use Rattle.tile_cache.specs.Cached.{Cached}
 use Rattle.broker_core.specs.Members.{views_of}
 use Rattle.broker_core.specs.Serving.{cache_damaged, marked_by}
 use Rattle.broker_core.proofs.Steps.{applied_once, applies_by, holds_applied, input_part}
@@ -38,6 +37,10 @@ returns g c =
     let d : Held _ = held_of i.source.file i.source.base i.inputs.accepted.items i.inputs.applied i.views.members.items i.views.next i.jobs.items i.tiles i.saves in
     let no_save : has_ready_save d.document ≡ false = subst (λ (o : Held _). has_ready_save o.document ≡ false) (sym c.self.view_is) c.requires.no_save in
     let lt : d.document.applied < length d.document.journal = subst (λ (o : Held _). o.document.applied < length o.document.journal) (sym c.self.view_is) c.requires.behind in
-    let members_are = c.mark_all.ensures ∙ ap (λ damages. map (marked_by damages) i.views.members.items) c.as_slice-3.ensures.value in
-    let frames_are = c.in_ok-frames.ensures ∙ ap (λ members. told (views_of members) c.as_slice-2.result.now) c.as_slice.ensures.value ∙ ap (told (views_of i.views.members.items)) c.as_slice-2.ensures.value in
-    ?
+    rw c.frames_only.ensures
+    (subst (λ (o : Held _). DoesNext g.K.Kit.rules g.K.Kit.cut o (Worked (frames_only c.in_ok-frames.frames)) (applied_once d c.mark_all.new.members.items c.mark_tiles.new.tiles)) c.self.view_is
+    (applies_by g.K.Kit.rules g.K.Kit.cut g.K.Kit.IsSound (g.K.Kit.contents i.kit) i.views.members.items i.tiles d c.self.invariant c.mark_all.new.members.items c.index.result.now c.in_ok-damages.damages.items c.mark_tiles.new.tiles c.in_ok-frames.frames
+    no_save lt (sym c.index.ensures) c.in_ok-damages.ensures.hurt
+    (c.mark_all.ensures ∙ ap (λ damages. map (marked_by damages) i.views.members.items) c.as_slice-3.ensures.value)
+    (c.mark_tiles.ensures ∙ ap (λ damages. cache_damaged damages (d.document.applied + 1) i.tiles) c.as_slice-4.ensures.value)
+    (c.in_ok-frames.ensures ∙ ap (λ members. told (views_of members) c.as_slice-2.result.now) c.as_slice.ensures.value ∙ ap (told (views_of i.views.members.items)) c.as_slice-2.ensures.value)))
