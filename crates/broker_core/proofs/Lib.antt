@@ -1,6 +1,7 @@
 pub mod Lists
 pub mod Laws
 pub mod Places
+pub mod Openings
 pub mod Pushed
 pub mod Windows
 pub mod Looks
