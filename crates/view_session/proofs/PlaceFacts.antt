@@ -1,7 +1,7 @@
 -- Where the first due slot is, and the first one behind a key.
 use Rattle.std.proofs.Common.{◌≡◌, ℕ, zero, suc, ◌+◌, ◌<◌, ◌≤◌, Bool, true, false, ◌&&◌, cond, List, [], ◌∷◌, length, take, drop, find, get_or, Option, Some, None, refl, ap, sym, subst, ◌∙◌, inl, inr, arith}
 use Rattle.std.specs.Prelude.{◌⊎◌, option_map}
-use Rattle.std.specs.List.{AllByRecursion}
+use Rattle.std.specs.List.{AllByRecursion, remove}
 use Rattle.tile_key.specs.Places.{Place}
 use Rattle.tile_key.specs.Visible.{IsBefore}
 use Rattle.document_machine.specs.Keys.{Pairwise}
@@ -63,6 +63,13 @@ front_low (suc n) (suc m) (x ∷ old) (y ∷ new) same few low =
       | false ↦ λ le. let more : m ≤ due_place new = front_low n m old new rest (omega arith) (omega arith) in omega arith
     ] in
     rw first (go (slot_due x) low)
+
+-- what comes before one that is taken out stays
+pub take_removed : {X : Type 0} (xs : List X) (i : ℕ) → take i (remove xs i) ≡ take i xs
+take_removed [] zero = refl
+take_removed [] (suc i) = refl
+take_removed (x ∷ xs) zero = refl
+take_removed (x ∷ xs) (suc i) = ap (λ ys. x ∷ ys) (take_removed xs i)
 
 module _ (before : Option Place) where
   -- a slot that is due behind the key

@@ -1,6 +1,6 @@
 //! `Slot`: a key that a view sees or asks for, and what of it is on the screen. Lists of slots are in
 //! key order.
-ghost use Rattle.std.specs.Prelude.{◌≡◌, ◌≢◌, ◌+◌, ◌<◌, ◌≤◌, ◌&&◌, ◌||◌, true, [], not, length, map, filter, take, IfOk, IfErr, OnOk, OnErr, find, option_map};
+ghost use Rattle.std.specs.Prelude.{◌≡◌, ◌≢◌, ◌+◌, ◌<◌, ◌≤◌, ◌&&◌, ◌||◌, true, [], ◌⊎◌, not, length, map, filter, take, IfOk, IfErr, OnOk, OnErr, find, option_map};
 ghost use Rattle.std.specs.List.{list_any, AllByRecursion};
 ghost use Rattle.tile_key.specs.Places.{IsKey, same_place};
 ghost use Rattle.tile_key.specs.Visible.{IsBefore};
@@ -208,10 +208,11 @@ pub(crate) fn show(
     let slot = slots[i].showing(shown, ends);
     if slot.is_needed() {
         slots[i] = slot;
+        i
     } else {
         slots.remove(i);
+        i
     }
-    i
 }
 
 /// Slots of a view that sees these keys and asks for those, with what of them was on the screen.
@@ -340,8 +341,30 @@ pub(crate) fn next_due(slots: &[Slot], first: usize, before: Option<TileKey>) ->
     requires first { first ≡ due_place slots.now }
     ensures { result ≡ option_map (λ slot. slot.key) (find (λ slot. is_behind before slot.key && slot_due slot) slots.now) }
 {
-    let behind = behind_from(slots, before);
-    first_due(&slots[first.max(behind)..])
+    let start = later(first, behind_from(slots, before));
+    let (_front, back) = slots.split_at(start);
+    first_due(back)
+}
+
+/// The later of two places.
+fn later(first: usize, second: usize) -> usize
+    ensures behind { (first ≤ result) × (second ≤ result) }
+    ensures one { (result ≡ first) ⊎ (result ≡ second) }
+{
+    if first < second {
+        return second;
+    }
+    first
+}
+
+/// The earlier of two places.
+pub(crate) fn earlier(first: usize, second: usize) -> usize
+    ensures { (result ≤ first) × (result ≤ second) }
+{
+    if first < second {
+        return first;
+    }
+    second
 }
 
 /// How many slots come before the first that is due, where so many do at least.

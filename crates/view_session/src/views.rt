@@ -9,8 +9,8 @@ ghost use Rattle.view_session.specs.Keeps.{IsViewing};
 
 use crate::asking::{asks_too_many, is_asked};
 use crate::slots::{
-    OnScreen, Slot, ask_all, damage, due_keys, due_place, end_asking, find, first_due, keep_seen, keys,
-    next_due, see, seeing, sees_due, show,
+    OnScreen, Slot, ask_all, damage, due_keys, due_place, earlier, end_asking, find, first_due,
+    keep_seen, keys, next_due, see, seeing, sees_due, show,
 };
 use cool_base::{Memory, Rect, Size, Wid, Wids};
 use document_machine::{MOST_ASKED, Rights};
@@ -319,7 +319,8 @@ impl View {
         };
         end_asking(&mut self.asked, key, current);
         let place = show(&mut self.slots, key, shown, current);
-        self.first = due_place(self.slots.as_slice(), self.first.min(place));
+        let from = earlier(self.first, place);
+        self.first = due_place(self.slots.as_slice(), from);
         self.window.put(Wid(wid), key);
         self.next_wid = wid + 1;
         Wid(wid)
