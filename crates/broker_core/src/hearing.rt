@@ -141,6 +141,13 @@ impl Member {
         }
     }
 
+    /// Whether the view may write.
+    fn can_write(&self) -> bool
+        ensures { result ≡ self.now.view.rights.can_write }
+    {
+        self.view.rights().can_write
+    }
+
     /// An input of this command, in the part where the view stands.
     fn input(
         &self,
@@ -151,7 +158,7 @@ impl Member {
     ) -> Result<Outcome, Memory>
         ensures { IfOk result (λ outcome. (saves : List Waiting) (parts : ℕ) (sizes : ℕ → Extent) → effect_in (view_of self.now) outcome ≡ input_effect (record { inputs = count; saves = saves; parts = parts; sizes = sizes }) (view_of self.now) command.now what) }
     {
-        if !self.view.rights().can_write {
+        if !self.can_write() {
             return refuse(alloc, command, ErrorKind::ReadOnly);
         }
         if MOST_INPUTS <= count {
@@ -174,7 +181,7 @@ impl Member {
     ) -> Result<Outcome, Memory>
         ensures { IfOk result (λ outcome. (count parts : ℕ) (sizes : ℕ → Extent) → effect_in (view_of self.now) outcome ≡ saving_effect (record { inputs = count; saves = saves.now.saves; parts = parts; sizes = sizes }) (view_of self.now) command.now skip) }
     {
-        if !self.view.rights().can_write {
+        if !self.can_write() {
             return refuse(alloc, command, ErrorKind::ReadOnly);
         }
         if saves.is_full(Some(ViewId(self.id))) {
