@@ -97,11 +97,13 @@ module _ {C B S : Type 0} (rules : Rules C B) (cut : C → Place → S) (IsSound
       let e_is : effect_in (view_of now) outcome ≡ effect rules d (view_of member) text = hears.is ∙ ap (λ (l : Limits). effect_of l (view_of member) text) (limits_same rules cut IsSound contents members cache held h count count_is) in
       let views_are : views_of (set members i now) ≡ with_view d.views id (λ _. view_of now) =
       place_changes members id i member now (λ _. view_of now) place is refl ∙ ap (λ vs. with_view vs id (λ _. view_of now)) (sym h.views_are) in
+      let spoken : (heard_once held (set members i now) outcome saving).document ≡ heard_of d id (effect_in (view_of now) outcome) =
+      λ j. record d { journal = d.journal ++ inputs_in outcome; views = views_are j; saving = saving_is j } in
       let says : Says {S = S} rules d id text (frames_only frames) ((heard_once held (set members i now) outcome saving).document) = record {
         view = view_of member;
         live = ap (λ vs. find_view vs id) h.views_are ∙ place_finds members id i member place is;
         outs_are = ap (λ (fs : List (ViewId × Frame)). frames_only fs) frames_are ∙ ap (λ (e : Effect). reply {S = S} id e) e_is;
-        new_is = (λ j. record d { journal = d.journal ++ inputs_in outcome; views = views_are j; saving = saving_is j }) ∙ ap (λ (e : Effect). heard_of d id e) e_is;
+        new_is = spoken ∙ ap (λ (e : Effect). heard_of d id e) e_is;
       } in
       (says, refl)
 

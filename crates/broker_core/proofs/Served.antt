@@ -19,7 +19,7 @@ use Rattle.document_machine.specs.Held.{Held, current_version, kept_by}
 use Rattle.document_machine.specs.Next.{Work, Serve, Apply, next_pair, serving_next}
 use Rattle.document_machine.specs.Outputs.{frames_only}
 use Rattle.save_core.specs.declared.values.SaveAnswer.{SaveAnswer}
-use Rattle.document_machine.specs.Saves.{Serves, ending_frame, ending_frames, told_view, has_ready_save, receipt_of, unmodified_frames}
+use Rattle.document_machine.specs.Saves.{Serves, ending_frame, ending_frames, told_view, has_ready_save, receipt_of, served_outs, text_at, unmodified_frames}
 use Rattle.document_machine.specs.State.{Document, View, is_live}
 use Rattle.document_machine.specs.Step.{Does}
 use Rattle.document_machine.specs.declared.outs.Outs.{Outs}
@@ -64,10 +64,15 @@ module _ {C B S : Type 0} (rules : Rules C B) (cut : C → Place → S) (IsSound
       → DoesNext rules cut held (Worked outs) (saved_once held saving)
   serves_by text saving outs ready text_is saving_is outs_are =
       let d : Document S = held.document in
-      let text_at_is : text ≡ rules.text (rules.body _) = text_is ∙ ap (λ c. rules.text (rules.body c)) h.contents_are in
+      let text_at_is : text ≡ text_at rules d d.applied = text_is ∙ ap (λ c. rules.text (rules.body c)) h.contents_are in
+      let told : outs_served {S = S} members d text ≡ served_outs rules d = λ i. record {
+        frames = unmodified_frames (sym h.views_are i) d.applied (unmodified d.applied d.saving);
+        jobs = [];
+        errands = option_to_list (errand_for d.applied d.file (text_at_is i) d.saving);
+      } in
       let serves : Serves rules d outs ((saved_once held saving).document) = record {
         ready = ready;
-        outs_are = outs_are ∙ (λ i. record { frames = unmodified_frames (sym h.views_are i) d.applied (unmodified d.applied d.saving); jobs = []; errands = option_to_list (errand_for d.applied d.file (text_at_is i) d.saving) });
+        outs_are = outs_are ∙ told;
         new_is = ap (λ (s : Saving). record d { saving = s }) (saving_is ∙ ap (λ t. served d.applied d.file t d.saving) text_at_is);
       } in
       let work_is : next_work rules held ≡ Serve = ap (λ b. cond b Serve (cond (nat_lt d.applied (length d.journal)) Apply (serving_next rules (current_version rules held) d (next_pair rules (current_version rules held) d)))) ready in
