@@ -4,7 +4,7 @@ ghost use Rattle.std.specs.Option.{option_and_then, option_copied, option_map_or
 ghost use Rattle.document_machine.specs.Done.{is_done, is_lost};
 ghost use Rattle.document_machine.specs.Event.{PutAnswered};
 ghost use Rattle.document_machine.specs.Goes.{Goes};
-ghost use Rattle.broker_core.specs.Stored.{has_unstored};
+ghost use Rattle.broker_core.specs.Stored.{has_unstored, lock_token};
 
 use crate::broker::Broker;
 use cool_base::{Memory, Ticket, Token};
@@ -73,6 +73,17 @@ impl<K: Kit> Broker<K> {
     {
         match &self.core {
             Some(core) => core.last_token(),
+            None => None,
+        }
+    }
+
+    /// The token of the errand that the store answered by a receipt for the put under way; none for another
+    /// answer, and where the broker is spent. It is read before `put_done` takes the answer.
+    pub fn lock_token(&self, ticket: Ticket, answer: &Result<Receipt, StoreFault>) -> Option<&Token>
+        ensures { option_copied result ≡ option_and_then (λ held. lock_token ticket.0 answer.now held.document.saving) self.now }
+    {
+        match &self.core {
+            Some(core) => core.lock_token(ticket, answer),
             None => None,
         }
     }

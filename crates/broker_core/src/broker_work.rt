@@ -58,8 +58,8 @@ impl<K: Kit> Broker<K> {
     /// Whether a turn would be Idle, no job is out, no put is under way and every window is empty; false
     /// where the broker is spent.
     pub fn is_quiet(&self) -> bool
-        ensures quiet { IsTrue result ↔ IsSomeAnd self.now (IsQuiet K.rules) }
-        ensures test { result ≡ option_map_or (is_quiet K.rules) self.now false }
+        ensures quiet { IsTrue result ↔ IsSomeAnd self.now (λ held. IsQuiet K.rules held.document) }
+        ensures test { result ≡ option_map_or (λ held. is_quiet K.rules held.document) self.now false }
     {
         match &self.core {
             Some(core) => core.is_quiet(),

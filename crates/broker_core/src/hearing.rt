@@ -141,6 +141,13 @@ impl Member {
         }
     }
 
+    /// Whether the view may write.
+    fn can_write(&self) -> bool
+        ensures { result ≡ self.now.view.rights.can_write }
+    {
+        self.view.rights().can_write
+    }
+
     /// An input of this command, in the part where the view stands.
     fn input(
         &self,
@@ -151,7 +158,7 @@ impl Member {
     ) -> Result<Outcome, Memory>
         ensures { IfOk result (λ outcome. (saves : List Waiting) (parts : ℕ) (sizes : ℕ → Extent) → effect_in (view_of self.now) outcome ≡ input_effect (record { inputs = count; saves = saves; parts = parts; sizes = sizes }) (view_of self.now) command.now what) }
     {
-        if !self.view.rights().can_write {
+        if !self.can_write() {
             return refuse(alloc, command, ErrorKind::ReadOnly);
         }
         if MOST_INPUTS <= count {
@@ -174,7 +181,7 @@ impl Member {
     ) -> Result<Outcome, Memory>
         ensures { IfOk result (λ outcome. (count parts : ℕ) (sizes : ℕ → Extent) → effect_in (view_of self.now) outcome ≡ saving_effect (record { inputs = count; saves = saves.now.saves; parts = parts; sizes = sizes }) (view_of self.now) command.now skip) }
     {
-        if !self.view.rights().can_write {
+        if !self.can_write() {
             return refuse(alloc, command, ErrorKind::ReadOnly);
         }
         if saves.is_full(Some(ViewId(self.id))) {
@@ -269,14 +276,7 @@ impl<K: Kit> Core<K> {
         let member = &mut views.members[i];
         let outcome = member.hear(alloc, &kit, count, &saves, text)?;
         let token = &member.view.rights().token;
-        let frames = enter(
-            alloc,
-            id,
-            token,
-            outcome,
-            &mut inputs.accepted,
-            &mut saves,
-        )?;
+        let frames = enter(alloc, id, token, outcome, &mut inputs.accepted, &mut saves)?;
         let core = Core {
             kit,
             source,

@@ -7,11 +7,12 @@ ghost use Rattle.document_machine.specs.Saves.{ending_frame, ending_frames, has_
 ghost use Rattle.document_machine.specs.State.{is_live};
 ghost use Rattle.document_machine.specs.declared.outs.Turned.TheVariants.{Worked};
 ghost use Rattle.broker_core.specs.Members.{views_of};
+ghost use Rattle.broker_core.specs.Stored.{lock_token};
 
 use crate::core_of::{Core, Frames, frames_only};
 use crate::members::{Member, member_at};
 use bytes::Bytes;
-use cool_base::{ListOf, Memory, TextOf, Ticket, ViewId};
+use cool_base::{ListOf, Memory, TextOf, Ticket, Token, ViewId};
 use cool_frame::{ErrorKind, Frame};
 use document_machine::Outs;
 use kit_trait::Kit;
@@ -200,5 +201,19 @@ impl<K: Kit> Core<K> {
             saves,
         };
         Ok((core, frames_only(alloc, frames)))
+    }
+
+    /// The token of the errand that the store answered by a receipt for the put under way.
+    pub(crate) fn lock_token(
+        &self,
+        ticket: Ticket,
+        answer: &Result<Receipt, StoreFault>,
+    ) -> Option<&Token>
+        ensures { option_copied result ≡ lock_token ticket.0 answer.now self.now.document.saving }
+    {
+        match answer {
+            Ok(receipt) => self.saves.answered_token(ticket, Some(receipt)),
+            Err(_) => None,
+        }
     }
 }

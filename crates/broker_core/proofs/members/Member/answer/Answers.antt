@@ -10,26 +10,12 @@ pub returns-in-Load : goal.returns-in-Load
 returns-in-Load g c =
     let contents = g.K.Kit.contents c.args.kit.now in
     IfOk-weaker c.refuse.result _ _
-    (λ outcome is. refuses_hears (sizes_in g.K.Kit.rules contents) c.args.self.now _ _ _ outcome is (ap (message_effect (limits_in g.K.Kit.rules contents c.args.count) (view_of c.args.self.now)) (sym c.in-Load.is)) c.requires.seen)
+    (λ outcome is. refuses_hears (sizes_in g.K.Kit.rules contents) c.args.self.now _ _ _ outcome is (ap (message_effect (limits_in g.K.Kit.rules contents c.args.count c.args.saves.now.saves) (view_of c.args.self.now)) (sym c.in-Load.is)) c.requires.seen)
     c.refuse.ensures
-
-pub returns-in-Save : goal.returns-in-Save
-returns-in-Save g c =
-    let contents = g.K.Kit.contents c.args.kit.now in
-    IfOk-weaker c.refuse-in-Save.result _ _
-    (λ outcome is. refuses_hears (sizes_in g.K.Kit.rules contents) c.args.self.now _ _ _ outcome is (ap (message_effect (limits_in g.K.Kit.rules contents c.args.count) (view_of c.args.self.now)) (sym c.in-Save.is)) c.requires.seen)
-    c.refuse-in-Save.ensures
-
-pub returns : goal.returns
-returns g c =
-    let contents = g.K.Kit.contents c.args.kit.now in
-    IfOk-weaker c.refuse-in-UnoSave.result _ _
-    (λ outcome is. refuses_hears (sizes_in g.K.Kit.rules contents) c.args.self.now _ _ _ outcome is (ap (message_effect (limits_in g.K.Kit.rules contents c.args.count) (view_of c.args.self.now)) (sym c.in-UnoSave.is)) c.requires.seen)
-    c.refuse-in-UnoSave.ensures
 
 pub returns-in-SetPart : goal.returns-in-SetPart
 returns-in-SetPart g c =
     let contents = g.K.Kit.contents c.args.kit.now in
     IfOk-weaker c.go.result _ _
-    (λ outcome is. subst (λ message. Hears (sizes_in g.K.Kit.rules contents) c.args.self.now (message_effect (limits_in g.K.Kit.rules contents c.args.count) (view_of c.args.self.now) message) outcome c.go.new.self) (sym c.in-SetPart.is) (is c.args.count))
+    (λ outcome is. subst (λ message. Hears (sizes_in g.K.Kit.rules contents) c.args.self.now (message_effect (limits_in g.K.Kit.rules contents c.args.count c.args.saves.now.saves) (view_of c.args.self.now) message) outcome c.go.new.self) (sym c.in-SetPart.is) (is c.args.count c.args.saves.now.saves))
     c.go.ensures
