@@ -23,3 +23,5 @@ pub mod Pairs
 pub mod Sendings
 pub mod Cuttings
 pub mod Paintings
+pub mod Keepings
+pub mod Takings
