@@ -40,7 +40,8 @@ use Rattle.broker_core.proofs.Laws.{moves_keep}
 use Rattle.broker_core.proofs.Lists.{all_set}
 use Rattle.broker_core.proofs.Trackings.{tracked_sent}
 use Rattle.broker_core.proofs.Places.{place_finds, place_changes}
-use Rattle.broker_core.proofs.Words.{sent_same}
+use Rattle.broker_core.specs.Serving as serving
+use Rattle.broker_core.proofs.Words.{due_same, sent_same}
 
 -- a list is level where no input is behind it
 pub level_is : (applied count : ℕ) → nat_lt applied count ≡ false → applied ≤ count → applied ≡ count
@@ -108,6 +109,20 @@ view_has P (v ∷ views) id view all e =
     ] in
     go (nat_eq v.id id) e
 
+-- the tile that the cache tells as current is not met
+pub tile_found : (o : Option Tile) (number : ℕ) (rgba : List ℕ) → option_map (λ (tile : Tile). (tile.number, tile.rgba)) (unmet o) ≡ Some (number, rgba) → unmet o ≡ Some (record { number = number; rgba = rgba; is_met = false })
+tile_found None number rgba e = absurd (cc)
+tile_found (Some had) number rgba e =
+    let go : (b : Bool) → had.is_met ≡ b → option_map (λ (tile : Tile). (tile.number, tile.rgba)) (cond b None (Some had)) ≡ Some (number, rgba) → cond b None (Some had) ≡ Some (record { number = number; rgba = rgba; is_met = false }) = elim [
+      | true ↦ λ met none. absurd (cc)
+      | false ↦ λ unmet some.
+          let pair : (ℕ × List ℕ) = (had.number, had.rgba) in
+          let told : (ℕ × List ℕ) = (number, rgba) in
+          let same : pair ≡ told = cc in
+          ap Some (λ i. record { number = (ap (λ (p : ℕ × List ℕ). p.0) same) i; rgba = (ap (λ (p : ℕ × List ℕ). p.1) same) i; is_met = unmet i })
+    ] in
+    go had.is_met refl e
+
 -- what is kept once a tile that is kept was sent to the member at the place
 abbrev pub held_sent : {S : Type 0} → Held S → List Member → (i version : ℕ) → Ready → Member → Cached → Held S
 held_sent held members i version ready member cache = record {
@@ -152,6 +167,13 @@ module _ {C B S : Type 0} (rules : Rules C B) (cut : C → Place → S) (IsSound
       let there : find_view d.views id ≡ Some (view_of member) = ap (λ vs. find_view vs id) h.views_are ∙ place_finds members id i member place here in
       let same : found.0 ≡ view_of member = let both : Some found.0 ≡ Some (view_of member) = sym found.1 ∙ there in cc in
       subst (IsNextView rules (current_version rules held) d id key) same found.2
+
+  -- it has room, and is due the key
+  pub member_room : serving.has_room member.view ≡ true
+  member_room = next_view.room
+
+  pub member_due : viewing.is_due member.view key ≡ true
+  member_due = sym (due_same rules held.document member key (tracked_at members i place.within here h.tracked)) ∙ next_view.due
 
   -- the turn sends it
   pub sends_by : Sends rules held.document (frames_only (sent_frame tile.number (ready_of key tile) member ∷ [])) (held_sent held members i tile.number (ready_of key tile) member now).document

@@ -65,7 +65,8 @@ impl<K: Kit> Core<K> {
         } = self;
         let job = jobs.remove(i);
         let parts = cut(alloc, &job.group, &done.pixels)?;
-        let Finished::Keys(ends) = tiles.finish(alloc, Ticket(job.ticket), parts.as_slice())? else {
+        let finished = tiles.finish(alloc, Ticket(job.ticket), parts.as_slice())?;
+        let Finished::Keys(ends) = finished else {
             unreachable!()
         };
         let keys = job.group.keys();

@@ -89,7 +89,8 @@ impl<K: Kit> Core<K> {
             mut tiles,
             saves,
         } = self;
-        let Some((number, rgba)) = tiles.current(&key)? else {
+        let found = tiles.current(&key)?;
+        let Some((number, rgba)) = found else {
             unreachable!()
         };
         let Some(i) = member_at(&views.members, id) else {
@@ -101,7 +102,8 @@ impl<K: Kit> Core<K> {
             rgba,
         };
         let mut frames = ListOf::new(alloc);
-        views.members[i].send(&mut frames, number, &tile)?;
+        let member = &mut views.members[i];
+        member.send(&mut frames, number, &tile)?;
         let core = Core {
             kit,
             source,
