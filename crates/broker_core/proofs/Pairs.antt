@@ -1,6 +1,6 @@
 -- The machine's search for the pair that is served next, and the members' own.
 use Rattle.std.proofs.Common.{◌≡◌, ℕ, zero, suc, ◌<◌, ◌≤◌, Bool, true, false, not, ◌&&◌, ◌||◌, cond, List, [], ◌∷◌, length, map, find, Option, Some, None, is_some, refl, sym, ap, subst, ◌∙◌, arith, nat_eq}
-use Rattle.std.specs.Prelude.{option_map, nat_lt, ◌⊎◌}
+use Rattle.std.specs.Prelude.{option_map, nat_lt, IsSome}
 use Rattle.std.specs.List.{list_any, AllByRecursion}
 use Rattle.std.proofs.lemmas.Bool.{and_parts, eqb-true}
 use Rattle.kit_trait.specs.Rules.{Rules}
@@ -41,6 +41,15 @@ right_same (suc n) p q same key =
 is_some_map : {X Y : Type 0} (f : X → Y) (o : Option X) → is_some (option_map f o) ≡ is_some o
 is_some_map f None = refl
 is_some_map f (Some x) = refl
+
+-- what the test says of an option
+pub some_is : (o : Option ℕ) → is_some o ≡ true → IsSome o
+some_is None e = absurd (cc)
+some_is (Some n) e = tt
+
+pub none_is : (o : Option ℕ) → is_some o ≡ false → o ≡ None
+none_is None e = refl
+none_is (Some n) e = absurd (cc)
 
 -- some view is owed the key exactly where some member is due it
 owed_same : {C B S : Type 0} (rules : Rules C B) (d : Document S) (members : List Member) (key : Place) → AllByRecursion (IsTracked rules d.base d.journal d.applied) members → list_any (λ view. is_due rules d view key) (views_of members) ≡ choosing.is_owed members key

@@ -18,13 +18,13 @@ use Rattle.document_machine.specs.Goes.{DoesNext, next_work}
 use Rattle.document_machine.specs.Keys.{Pairwise}
 use Rattle.document_machine.specs.Held.{Held, KeptTile, current_version, kept_by, kept_version, where_current, with_kept}
 use Rattle.document_machine.specs.Kept.{IsHeld, IsKept, IsPresentKept, IsTileKept}
-use Rattle.document_machine.specs.Next.{Work, Serve, Apply, Send, Cut, group_at, next_pair, pick, serving, serving_next}
+use Rattle.document_machine.specs.Next.{Work, Serve, Apply, Send, Cut, Rest, group_at, next_pair, pick, serving, serving_next}
 use Rattle.document_machine.specs.Outputs.{frames_only, named}
 use Rattle.document_machine.specs.Saves.{has_ready_save}
 use Rattle.document_machine.specs.State.{Document, Shown, View, find_view, with_view}
 use Rattle.document_machine.specs.Step.{Does, Sends}
 use Rattle.document_machine.specs.declared.outs.Outs.{Outs}
-use Rattle.document_machine.specs.declared.outs.Turned.TheVariants.{Worked}
+use Rattle.document_machine.specs.declared.outs.Turned.TheVariants.{Worked, Idle}
 use Rattle.view_session.specs.Viewing as viewing
 use Rattle.view_session.proofs.OrderFacts.{same_is}
 use Rattle.broker_core.specs.Caching.{IsTileOf, kept_tile, kept_tiles}
@@ -36,7 +36,7 @@ use Rattle.broker_core.specs.declared.members.Member.{Member}
 use Rattle.broker_core.specs.declared.sending.Ready.{Ready}
 use Rattle.broker_core.proofs.Caches.{current_same, found_mark, kept_same}
 use Rattle.broker_core.proofs.Pairs.{IsNextView, pair_found}
-use Rattle.broker_core.proofs.Laws.{moves_keep}
+use Rattle.broker_core.proofs.Laws.{moves_keep, rests_by}
 use Rattle.broker_core.proofs.Lists.{all_set}
 use Rattle.broker_core.proofs.Trackings.{tracked_sent}
 use Rattle.broker_core.proofs.Places.{place_finds, place_changes}
@@ -55,6 +55,17 @@ work_is rules held id key no_save level next =
     ap (λ b. cond b Serve (cond (nat_lt d.applied (length d.journal)) Apply (serving_next rules kept d (next_pair rules kept d)))) no_save
     ∙ ap (λ b. cond b Apply (serving_next rules kept d (next_pair rules kept d))) level
     ∙ ap (serving_next rules kept d) next
+
+-- where no pair is next a turn is Idle
+pub idles : {C B S : Type 0} (rules : Rules C B) (cut : C → Place → S) (held : Held S) → has_ready_save held.document ≡ false → nat_lt held.document.applied (length held.document.journal) ≡ false → next_pair rules (current_version rules held) held.document ≡ None → DoesNext rules cut held Idle held
+idles rules cut held no_save level next =
+    let d = held.document in
+    let kept : Place → Option ℕ = current_version rules held in
+    let work : next_work rules held ≡ Rest =
+    ap (λ b. cond b Serve (cond (nat_lt d.applied (length d.journal)) Apply (serving_next rules kept d (next_pair rules kept d)))) no_save
+    ∙ ap (λ b. cond b Apply (serving_next rules kept d (next_pair rules kept d))) level
+    ∙ ap (serving_next rules kept d) next in
+    (subst (λ (w : Work). Does rules cut d w Idle d) (sym work) (rests_by rules kept d work, refl), ap (kept_by held.kept) (sym work))
 
 -- what holds of all kept tiles holds of the one that is found
 kept_has : (P : KeptTile → Type 0) (tiles : List KeptTile) (key : Place) (version : ℕ) → AllByRecursion P tiles → kept_version tiles key ≡ Some version → P (record { key = key; version = version })
