@@ -24,5 +24,5 @@ invariant_of-self c =
     sym c.if-asks_too_many.false ∙ c.asks_too_many.ensures
     ∙ ap (λ (a : List Place). nat_lt MOST_ASKED (length (asked_with_all a c.args.keys.now))) c.as_slice-2.ensures.value
     ∙ ap (λ (a : List Place). nat_lt MOST_ASKED (length a)) (sym e)));
-    first = c.due_place.ensures ∙ ap due_place c.as_slice-5.ensures.value;
+    placed = c.due_place-self-inside.ensures ∙ ap due_place c.as_slice-5.ensures.value;
     }

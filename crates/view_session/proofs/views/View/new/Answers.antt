@@ -17,7 +17,7 @@ invariant_of-result c =
     (ap (λ ks. is_too_large c.in-Some.zoom (length ks)) c.in-Ok.ensures.keys ∙ not_large _ (λ h. let e = c.in-Ok.ensures.too_large.1 h in absurd (cc)))
     (all_contained IsKey c.in-Ok.keys.items (λ key has. ((c.in-Ok.ensures.each key).0 has).form))
     c.new.ensures.items c.new-2.ensures;
-    first = c.due_place-first.ensures ∙ ap due_place c.as_slice-2.ensures.value;
+    placed = c.due_place-first.ensures ∙ ap due_place c.as_slice-2.ensures.value;
     }
 
 pub returns : goal.returns
