@@ -28,6 +28,7 @@ use Rattle.broker_core.specs.Caching.{IsTileOf, kept_tiles, out_of, outs_of}
 use Rattle.broker_core.specs.Held.{Holds, IsTracked}
 use Rattle.broker_core.specs.Members.{view_of, views_of}
 use Rattle.broker_core.specs.Painting.{IsJobAt}
+use Rattle.broker_core.specs.Serving.{Ignores}
 use Rattle.broker_core.specs.Sending.{all_offered, all_frames, ready_tiles}
 use Rattle.broker_core.specs.declared.members.Member.{Member}
 use Rattle.broker_core.specs.declared.sending.Ready.{Ready}
@@ -36,6 +37,16 @@ use Rattle.broker_core.proofs.Lists.{all_remove}
 use Rattle.broker_core.proofs.Keepings.{job_finds, job_leaves, own_same, other_same, out_here, shown_here, sized, ready_are, ready_keys, painted_same, tiles_all, take_all, take_kept, sound_after, parts_after, rows_size}
 use Rattle.broker_core.proofs.Paintings.{IsReady, marked_by, views_same, frames_same}
 use Rattle.broker_core.proofs.Trackings.{IsMarked, tracked_all}
+
+-- a result that is not taken changes nothing
+pub ignores : {C B S : Type 0} (rules : Rules C B) (cut : C → Place → S) (held : Held S) (ticket : ℕ) (scene : S) → Ignores scene (find_job held.document.jobs ticket) → Moves rules cut held (Painted ticket scene) (frames_only []) held
+ignores {C} {B} {S} rules cut held ticket scene other =
+    let d = held.document in
+    let go : (o : Option (Job S)) → Ignores scene o → Paints rules d ticket scene (frames_only []) d o × KeepsPainted rules held scene held.kept o = elim [
+      | None ↦ λ none. ((refl, refl), refl)
+      | Some job ↦ λ apart. (inl (apart, refl, refl), inl (apart, refl))
+    ] in
+    go (find_job d.jobs ticket) other
 
 -- what is kept once a painted result was taken
 abbrev pub held_painted : {S : Type 0} → Held S → List (Job S) → List Member → Cached → Held S
