@@ -20,8 +20,8 @@ invariant_of-self c =
     shown_by s.slots.items c.show-place.new.slots.items s.asked.items c.end_asking.new.asked.items c.args.key.now (record { version = c.args.ver; stale = not c.args.current }) c.args.current c.self.invariant.held.slotted
     (whole_wants s.rights s.part s.zoom s.area s.slots.items s.asked.items s.window s.next_wid c.args.self.now c.self.view_is c.args.key.now c.requires.wanted) c.show-place.ensures.shown c.end_asking.ensures in
     record {
-    held = held_sent s.zoom s.slots.items c.show-place.new.slots.items s.asked.items c.end_asking.new.asked.items s.window c.put.new.self s.next_wid c.args.key.now c.args.current c.self.invariant.held told.slotted told.seen c.end_asking.ensures c.put.ensures;
-    placed = c.due_place-self-inside.ensures ∙ ap due_place c.as_slice.ensures.value;
+      held = held_sent s.zoom s.slots.items c.show-place.new.slots.items s.asked.items c.end_asking.new.asked.items s.window c.put.new.self s.next_wid c.args.key.now c.args.current c.self.invariant.held told.slotted told.seen c.end_asking.ensures c.put.ensures;
+      placed = c.due_place-self-inside.ensures ∙ ap due_place c.as_slice.ensures.value;
     }
 
 pub returns-clause-sent : goal.returns-clause-sent
