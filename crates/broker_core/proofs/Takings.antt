@@ -1,5 +1,5 @@
 -- A painted result is taken: it is the machine's move, and the broker keeps what it kept.
-use Rattle.std.proofs.Common.{◌≡◌, ◌≢◌, ℕ, ◌<◌, ◌≤◌, true, false, List, [], ◌∷◌, length, map, filter, take, get_or, Option, Some, None, refl, sym, ap, subst, ◌∙◌, inl, inr, arith, nat_eq}
+use Rattle.std.proofs.Common.{◌≡◌, ◌≢◌, ℕ, suc, ◌<◌, ◌≤◌, true, false, List, [], ◌∷◌, length, map, filter, take, get_or, Option, Some, None, refl, sym, ap, subst, ◌∙◌, inl, inr, arith, nat_eq}
 use Rattle.std.specs.List.{AllByRecursion, remove}
 use Rattle.cool_base.specs.declared.ids.ViewId.{ViewId}
 use Rattle.cool_frame.specs.declared.frame.Frame.{Frame}
@@ -7,11 +7,13 @@ use Rattle.kit_trait.specs.Rules.{Rules, after, doc, shown}
 use Rattle.kit_trait.specs.declared.values.Input.{Input}
 use Rattle.kit_trait.specs.declared.values.Pixels.{Pixels}
 use Rattle.tile_cache.specs.Cached.{Cached}
-use Rattle.tile_cache.specs.Calls.{AreSized, end_of, finished, keep_all, new_tiles, outs_but}
+use Rattle.tile_cache.specs.Calls.{AreSized, end_of, ends_of, finished, keep_all, new_tiles, outs_but}
 use Rattle.tile_cache.specs.Calls as calls
 use Rattle.tile_cache.specs.declared.outs.Out.{Out}
-use Rattle.tile_combine.specs.Parts.{HasSize}
-use Rattle.tile_key.specs.Places.{Place, IsArea, place_of_keys}
+use Rattle.tile_combine.specs.Parts.{HasSize, picture_in}
+use Rattle.kit_trait.specs.Pictures.{Colour}
+use Rattle.tile_cache.specs.declared.tiles.KeyEnd.{KeyEnd}
+use Rattle.tile_key.specs.Places.{Place, IsArea, IsGroup, place_of_keys}
 use Rattle.document_machine.specs.Due.{parts_of}
 use Rattle.document_machine.specs.Event.{Painted}
 use Rattle.document_machine.specs.Goes.{Moves}
@@ -96,12 +98,46 @@ module _ {C B S : Type 0} (rules : Rules C B) (cut : C → Place → S) (paints 
       subst (λ (p : Pixels). HasSize area p) (sym (pixels_are pixels painted))
       (record { width = refl; height = refl; bytes = rows_size (rules.colour (rules.body (doc rules d.base d.journal job.number)) area.nviewid) area area.height })
 
+  -- the parts of it are the pictures of its keys
+  pub parts_by : (pixels : Pixels) (parts : List Pixels) → pixels ≡ paints scene → ((colour : ℕ → ℕ → ℕ → ℕ → Colour) → pixels ≡ picture_in colour (place_of_keys job.keys) → parts ≡ map (picture_in colour) job.keys) → parts ≡ map (shown_here rules held.document job) job.keys
+  parts_by pixels parts painted pictures_of = pictures_of (rules.colour (rules.body (doc rules held.document.base held.document.journal job.number))) (pixels_are pixels painted)
+
   -- the keys of the job in the cache
   pub own_are : filter (λ (out : Out). nat_eq out.ticket ticket) cache.outs ≡ map (out_here rules held.document job) job.keys
   own_are =
       let d = held.document in
       ap (λ (outs : List Out). filter (λ (out : Out). nat_eq out.ticket ticket) outs) h.cache.outs
       ∙ own_same rules d.base d.journal d.applied ticket d.jobs i job h.kept.document.tickets at.within job_ticket here at.before
+
+  -- what became of each key is told of the keys of the job
+  pub ends_by : (ends : List KeyEnd) → Some ends ≡ ends_of (calls.outs_of ticket cache) → ends ≡ map end_of (calls.outs_of ticket cache)
+  ends_by ends told = go (calls.outs_of ticket cache) told
+    where
+      go : (outs : List Out) → Some ends ≡ ends_of outs → ends ≡ map end_of outs
+      go [] e = absurd (cc)
+      go (out ∷ outs) e = cc
+
+  -- and they are some
+  pub some_ends : ends_of (calls.outs_of ticket cache) ≡ None → ⊥
+  some_ends none = go job.keys kept_job.group (sym (ap ends_of own_are) ∙ none)
+    where
+      go : (keys : List Place) → IsGroup keys → ends_of (map (out_here rules held.document job) keys) ≡ None → ⊥
+      go [] group e = group
+      go (key ∷ keys) group e = absurd (cc)
+
+  pub ends_count : (ends : List KeyEnd) → ends ≡ map end_of (calls.outs_of ticket cache) → length ends ≡ length job.keys
+  ends_count ends is = ap length is ∙ ap (λ outs. length (map end_of outs)) own_are ∙ count job.keys
+    where
+      count : (keys : List Place) → length (map end_of (map (out_here rules held.document job) keys)) ≡ length keys
+      count [] = refl
+      count (key ∷ keys) = ap suc (count keys)
+
+  pub parts_count : (parts : List Pixels) → parts ≡ map (shown_here rules held.document job) job.keys → length parts ≡ length job.keys
+  parts_count parts is = ap length is ∙ count job.keys
+    where
+      count : (keys : List Place) → length (map (shown_here rules held.document job) keys) ≡ length keys
+      count [] = refl
+      count (key ∷ keys) = ap suc (count keys)
 
   -- the parts of its picture have the sizes of its keys
   pub parts_sized : (parts : List Pixels) → parts ≡ map (shown_here rules held.document job) job.keys → AreSized (calls.outs_of ticket cache) parts

@@ -65,7 +65,7 @@ impl<K: Kit> Core<K> {
         } = self;
         let job = jobs.remove(i);
         let parts = cut(alloc, &job.group, &done.pixels)?;
-        let finished = tiles.finish(alloc, Ticket(job.ticket), parts.as_slice())?;
+        let finished = tiles.finish(alloc, Ticket(done.ticket.0), parts.as_slice())?;
         let Finished::Keys(ends) = finished else {
             unreachable!()
         };

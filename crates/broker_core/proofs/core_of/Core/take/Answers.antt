@@ -1,11 +1,15 @@
-use Rattle.std.proofs.Common.{◌≡◌, ◌∙◌, ℕ, List, [], ◌∷◌, map, get_or, sym, ap, subst}
-use Rattle.kit_trait.specs.Rules.{doc}
-use Rattle.tile_combine.specs.Parts.{HasSize}
+use Rattle.std.proofs.Common.{◌≡◌, ◌∙◌, ℕ, List, [], ◌∷◌, map, length, get_or, sym, ap, subst}
+use Rattle.kit_trait.specs.declared.values.Pixels.{Pixels}
+use Rattle.tile_cache.specs.Calls.{AreSized, end_of, finished, outs_of, told}
+use Rattle.document_machine.specs.Event.{Painted}
+use Rattle.document_machine.specs.Goes.{Moves}
 use Rattle.document_machine.specs.Held.{Held}
+use Rattle.document_machine.specs.Outputs.{frames_only}
 use Rattle.document_machine.specs.State.{Job}
 use Rattle.broker_core.specs.Held.{held_of}
 use Rattle.broker_core.specs.Painting.{IsJobAt}
-use Rattle.broker_core.proofs.Takings.{pixels_sized, pixels_are, parts_sized, moves_painted, holds_painted}
+use Rattle.broker_core.proofs.Keepings.{shown_here}
+use Rattle.broker_core.proofs.Takings.{ends_by, ends_count, held_painted, holds_painted, moves_painted, parts_by, parts_count, parts_sized, pixels_sized, some_ends}
 use Rattle.broker_core.proofs.core_of.Core.take.Goals as goal
 
 pub cut-requires : goal.cut-requires
@@ -18,3 +22,16 @@ cut-requires g c =
     let at : IsJobAt d.document.jobs c.args.done.now.ticket.0 c.args.done.now.scene c.args.i = subst (λ (o : Held _). IsJobAt o.document.jobs c.args.done.now.ticket.0 c.args.done.now.scene c.args.i) (sym c.self.view_is) c.requires in
     let here : get_or d.document.jobs c.args.i job ≡ job = subst (λ (x : Job _). get_or d.document.jobs c.args.i x ≡ x) (sym c.job.view_is) (sym c.remove-job.ensures.value) in
     pixels_sized g.K.Kit.rules g.K.Kit.cut g.K.Scene.Scene.paints g.K.Kit.IsSound laws.sound_start laws.sound_step laws.same_parts laws.pictures (g.K.Kit.contents i.kit) i.views.members.items i.tiles d c.self.invariant c.args.done.now.ticket.0 c.args.done.now.scene c.args.i job at here c.args.done.now.pixels c.args.done.now.painted
+
+pub finish-requires : goal.finish-requires
+finish-requires g c =
+    let i = c.self.inside in
+    let d : Held _ = held_of i.source.file i.source.base i.inputs.accepted.items i.inputs.applied i.views.members.items i.views.next i.jobs.items i.tiles i.saves in
+    let laws = g.met.K.Kit g.world.𝓛 g.world.𝓜 g.world.𝓡 ((λ s x. x), (λ x. x), (λ x. x), λ x. x) in
+    let j = c.job.inside in
+    let job : Job _ = record { ticket = j.ticket; number = j.number; keys = j.group; area = j.area; scene = j.scene } in
+    let at : IsJobAt d.document.jobs c.args.done.now.ticket.0 c.args.done.now.scene c.args.i = subst (λ (o : Held _). IsJobAt o.document.jobs c.args.done.now.ticket.0 c.args.done.now.scene c.args.i) (sym c.self.view_is) c.requires in
+    let here : get_or d.document.jobs c.args.i job ≡ job = subst (λ (x : Job _). get_or d.document.jobs c.args.i x ≡ x) (sym c.job.view_is) (sym c.remove-job.ensures.value) in
+    let parts_are : c.in_ok-parts.parts.items ≡ map (shown_here g.K.Kit.rules d.document job) job.keys = parts_by g.K.Kit.rules g.K.Kit.cut g.K.Scene.Scene.paints g.K.Kit.IsSound laws.sound_start laws.sound_step laws.same_parts laws.pictures (g.K.Kit.contents i.kit) i.views.members.items i.tiles d c.self.invariant c.args.done.now.ticket.0 c.args.done.now.scene c.args.i job at here c.args.done.now.pixels c.in_ok-parts.parts.items c.args.done.now.painted c.in_ok-parts.ensures.pictures in
+    subst (λ (ps : List Pixels). AreSized (outs_of c.args.done.now.ticket.0 i.tiles) ps) (sym c.as_slice.ensures.value)
+    (parts_sized g.K.Kit.rules g.K.Kit.cut g.K.Scene.Scene.paints g.K.Kit.IsSound laws.sound_start laws.sound_step laws.same_parts laws.pictures (g.K.Kit.contents i.kit) i.views.members.items i.tiles d c.self.invariant c.args.done.now.ticket.0 c.args.done.now.scene c.args.i job at here c.in_ok-parts.parts.items parts_are)
