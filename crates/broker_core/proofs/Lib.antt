@@ -14,3 +14,14 @@ pub mod Words
 pub mod Served
 pub mod Steps
 pub mod Rest
+pub mod Passing
+pub mod Groupings
+pub mod Caches
+pub mod Offerings
+pub mod Trackings
+pub mod Pairs
+pub mod Sendings
+pub mod Cuttings
+pub mod Paintings
+pub mod Keepings
+pub mod Takings

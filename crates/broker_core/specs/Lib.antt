@@ -5,3 +5,6 @@ pub mod Held
 pub mod Stored
 pub mod Hearing
 pub mod Serving
+pub mod Choosing
+pub mod Sending
+pub mod Painting

@@ -19,8 +19,10 @@ mod hearing;
 mod joining;
 mod members;
 mod painting;
+mod pairing;
 mod resting;
 mod saving;
+mod sending;
 mod turning;
 
 pub use broker::Broker;

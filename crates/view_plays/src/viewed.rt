@@ -95,6 +95,7 @@ impl Viewed {
     ///   is 1. `send_all`: present tiles of the due keys are sent while there is room. `process 3`.
     /// - `damage 0 3839 1`: so many twips of a part are damaged, from this one on.
     /// - `facts`, `tell`, `count`: what it is; its keys, with what is said of each; how many these are.
+    /// - `next`, `behind 9`: the first due key, and the first behind the key in this column.
     pub(crate) fn act(&mut self, alloc: Global, line: &str) -> Result<(), Memory> {
         let (word, rest) = line.split_once(' ').unwrap_or((line, ""));
         let numbers = numbers(alloc, rest)?;
@@ -139,6 +140,8 @@ impl Viewed {
             "facts" => self.facts(alloc),
             "tell" => self.tells(alloc),
             "count" => self.counts(alloc),
+            "next" => self.tells_next(alloc, None),
+            "behind" => self.tells_next(alloc, key(a, 256, 3_840, 0)),
             _ => self.write("no such act"),
         }
     }
@@ -260,6 +263,16 @@ impl Viewed {
             self.text.push_str(word.as_str())?;
         }
         self.write("")
+    }
+
+    fn tells_next(&mut self, alloc: Global, before: Option<TileKey>) -> Result<(), Memory> {
+        match self.view.next_due(before) {
+            Some(key) => {
+                let word = told(alloc, &self.view, &key)?;
+                self.write(word.as_str())
+            }
+            None => self.write("none is due"),
+        }
     }
 
     fn counts(&mut self, alloc: Global) -> Result<(), Memory> {

@@ -1,5 +1,5 @@
 -- Where the first due slot is, and the first one behind a key.
-use Rattle.std.proofs.Common.{◌≡◌, ℕ, zero, suc, ◌+◌, ◌<◌, ◌≤◌, Bool, true, false, ◌&&◌, cond, List, [], ◌∷◌, length, take, drop, find, get_or, Option, Some, None, refl, ap, sym, subst, ◌∙◌, inl, inr, arith}
+use Rattle.std.proofs.Common.{◌≡◌, ℕ, zero, suc, ◌+◌, ◌<◌, ◌≤◌, Bool, true, false, ◌&&◌, cond, List, [], ◌∷◌, length, take, drop, find, get_or, Option, Some, None, refl, ap, sym, subst, ◌∙◌, inl, inr, add-one, arith}
 use Rattle.std.specs.Prelude.{◌⊎◌, option_map}
 use Rattle.std.specs.List.{AllByRecursion, remove}
 use Rattle.tile_key.specs.Places.{Place}
@@ -140,7 +140,7 @@ all_back (slot ∷ slots) key all = (rw all.0 refl, all_back slots key all.1)
 pub behind_gap : (slots : List Slot) (key : Place) (i : ℕ) → IsGap slots key i → IsBehindFrom slots (Some key) i
 behind_gap slots key i gap = record { within = gap.within; front = all_front slots key i gap.before; back = all_back (drop i slots) key gap.after }
 
-at_front : (slots : List Slot) (key : Place) (i : ℕ) → Pairwise Comes slots → i < length slots → ((slot : Slot) → (get_or slots i slot).key ≡ key) → AllByRecursion (λ slot. is_behind (Some key) slot.key ≡ false) (take (i + 1) slots)
+at_front : (slots : List Slot) (key : Place) (i : ℕ) → Pairwise Comes slots → i < length slots → ((slot : Slot) → (get_or slots i slot).key ≡ key) → AllByRecursion (λ slot. is_behind (Some key) slot.key ≡ false) (take (suc i) slots)
 at_front [] key i order within here = absurd (omega arith)
 at_front (slot ∷ slots) key zero order within here =
     let same : slot.key ≡ key = here slot in
@@ -150,18 +150,20 @@ at_front (slot ∷ slots) key (suc i) order within here =
     let less : IsBefore slot.key (get_or slots i slot).key = all_get (Comes slot) slots i slot order.0 (omega arith) in
     (not_back slot.key key (subst (λ (k : Place). IsBefore slot.key k) next less), at_front slots key i order.1 (omega arith) here)
 
-at_back : (slots : List Slot) (key : Place) (i : ℕ) → Pairwise Comes slots → i < length slots → ((slot : Slot) → (get_or slots i slot).key ≡ key) → AllByRecursion (λ slot. is_behind (Some key) slot.key ≡ true) (drop (i + 1) slots)
+at_back : (slots : List Slot) (key : Place) (i : ℕ) → Pairwise Comes slots → i < length slots → ((slot : Slot) → (get_or slots i slot).key ≡ key) → AllByRecursion (λ slot. is_behind (Some key) slot.key ≡ true) (drop (suc i) slots)
 at_back [] key i order within here = absurd (omega arith)
 at_back (slot ∷ slots) key zero order within here = all_back slots key (subst (λ (k : Place). AllByRecursion (λ (s : Slot). IsBefore k s.key) slots) (here slot) order.0)
 at_back (slot ∷ slots) key (suc i) order within here = at_back slots key i order.1 (omega arith) here
 
 -- where a key has a slot, those behind it begin after it
 pub behind_at : (slots : List Slot) (key : Place) (i : ℕ) → Pairwise Comes slots → IsAt slots key i → IsBehindFrom slots (Some key) (i + 1)
-behind_at slots key i order at = record {
-  within = let low : i < length slots = at.within in omega arith;
-  front = at_front slots key i order at.within at.here;
-  back = at_back slots key i order at.within at.here;
-}
+behind_at slots key i order at =
+    let low : i < length slots = at.within in
+    rw add-one (record {
+      within = omega arith;
+      front = at_front slots key i order at.within at.here;
+      back = at_back slots key i order at.within at.here;
+    })
 
 -- the first due key of a view behind another, by its slots
 pub next_of : (v : Viewing) (slots : List Slot) (before : Option Place) → IsOf v slots → next_due before v ≡ option_map (λ slot. slot.key) (find (λ slot. is_behind before slot.key && slot_due slot) slots)

@@ -24,4 +24,4 @@ pub record IsHeld (zoom : Scale) (slots : List Slot) (asked : List Place) (windo
 -- and beside these, how many slots come before the first that is due
 pub record IsPlaced (zoom : Scale) (slots : List Slot) (asked : List Place) (window : List Sent) (next_wid first : ℕ) : Type 0 where
   pub held : IsHeld zoom slots asked window next_wid
-  pub first : first ≡ due_place slots
+  pub placed : first ≡ due_place slots

@@ -192,12 +192,7 @@ pub(crate) fn ask_all(
 
 /// What of the key is on the screen from now on; where `ends`, the asking for it ends. A slot that is
 /// needed no longer goes. How many slots before it are as they were.
-pub(crate) fn show(
-    slots: &mut Vec<Slot>,
-    key: &TileKey,
-    shown: OnScreen,
-    ends: bool,
-) -> usize
+pub(crate) fn show(slots: &mut Vec<Slot>, key: &TileKey, shown: OnScreen, ends: bool) -> usize
     requires { Pairwise (λ a b. IsBefore a.key b.key) slots.old.items }
     ensures shown { slots.new.items ≡ shown_in slots.old.items key.now shown ends }
     ensures front { take result slots.new.items ≡ take result slots.old.items }

@@ -12,4 +12,4 @@ pub returns : goal.returns
 returns c =
     let start = c.later-start.result in
     let found = next_from c.args.slots.now c.args.before c.args.first c.behind_from.result start c.requires.first c.behind_from.ensures c.later-start.ensures.behind.1 c.later-start.ensures.one in
-    c.first_due.ensures ∙ ap (λ (x : List Slot). option_map (λ (slot : Slot). slot.key) (find slot_due x)) c.split_at.ensures.1 ∙ ap (option_map (λ (slot : Slot). slot.key)) found
+    c.first_due.ensures ∙ ap (λ (x : List Slot). option_map (λ (slot : Slot). slot.key) (find slot_due x)) c.split_at.ensures.back ∙ ap (option_map (λ (slot : Slot). slot.key)) found

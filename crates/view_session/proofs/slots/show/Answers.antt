@@ -13,13 +13,13 @@ returns-in_default c = record {
 pub returns-then-is_needed : goal.returns-then-is_needed
 returns-then-is_needed c = record {
   shown = show_stays c.args.slots.now.items c.as_slice.result.now c.args.key.now c.in-Ok.i c.index.result.now c.showing-slot.result c.args.shown c.args.ends
-    c.requires c.as_slice.ensures.value c.in-Ok.ensures.found c.index.ensures c.showing-slot.ensures (sym c.is_needed.ensures ∙ c.if-is_needed.true);
+      c.requires c.as_slice.ensures.value c.in-Ok.ensures.found c.index.ensures c.showing-slot.ensures (sym c.is_needed.ensures ∙ c.if-is_needed.true);
   front = take-set c.args.slots.now.items c.in-Ok.i c.showing-slot.result;
 }
 
 pub returns-else-is_needed : goal.returns-else-is_needed
 returns-else-is_needed c = record {
   shown = show_goes c.args.slots.now.items c.as_slice.result.now c.remove.new.self.items c.args.key.now c.in-Ok.i c.index.result.now c.showing-slot.result c.args.shown c.args.ends
-    c.requires c.as_slice.ensures.value c.in-Ok.ensures.found c.index.ensures c.showing-slot.ensures (sym c.is_needed.ensures ∙ c.if-is_needed.false) c.remove.ensures.items;
+      c.requires c.as_slice.ensures.value c.in-Ok.ensures.found c.index.ensures c.showing-slot.ensures (sym c.is_needed.ensures ∙ c.if-is_needed.false) c.remove.ensures.items;
   front = ap (take c.in-Ok.i) c.remove.ensures.items ∙ take_removed c.args.slots.now.items c.in-Ok.i;
 }

@@ -1,5 +1,5 @@
 use Rattle.view_session.specs.Slots.{due_place}
-use Rattle.std.proofs.Common.{◌≡◌, filter, rules}
+use Rattle.std.proofs.Common.{◌≡◌, filter, rules, ap, ◌∙◌}
 use Rattle.std.proofs.lemmas.Fn.{filter_same}
 use Rattle.view_session.specs.declared.slots.Slot.{Slot}
 use Rattle.view_session.proofs.CancelFacts.{cancelled_by, order_kept}
@@ -18,8 +18,8 @@ invariant_of-self c =
     let is : c.retain.new.self.items ≡ filter (λ (slot : Slot). slot.visible) s.slots.items = filter_same _ (λ (slot : Slot). slot.visible) _ (λ x b f' k. search rules) _ _ c.retain.ensures.filtered in
     let told = cancelled_by s.slots.items c.as_slice.result.now c.retain.new.self.items s.asked.items c.keep_seen.new.asked.items c.self.invariant.held.slotted is c.as_slice.ensures.value c.keep_seen.ensures in
     record {
-    held = held_cancelled s.zoom s.slots.items c.retain.new.self.items s.asked.items c.keep_seen.new.asked.items s.window s.next_wid c.self.invariant.held told.slotted told.seen told.kept_are;
-    first = c.due_place.ensures ∙ ap due_place c.as_slice-2.ensures.value;
+      held = held_cancelled s.zoom s.slots.items c.retain.new.self.items s.asked.items c.keep_seen.new.asked.items s.window s.next_wid c.self.invariant.held told.slotted told.seen told.kept_are;
+      placed = c.due_place-self-inside.ensures ∙ ap due_place c.as_slice-2.ensures.value;
     }
 
 pub returns : goal.returns

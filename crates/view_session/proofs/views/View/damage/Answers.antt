@@ -13,8 +13,8 @@ invariant_of-self c =
     let e : (with_items s.slots c.damage.new.slots).items ≡ map (hit_slot c.args.part c.args.rect.now) s.slots.items =
     with_items_is s.slots c.damage.new.slots (hit_length c.args.part c.args.rect.now s.slots.items c.damage.new.slots is ∙ sym s.slots.ok.0) ∙ is in
     record {
-    held = held_hit c.args.part c.args.rect.now s.zoom s.slots.items (with_items s.slots c.damage.new.slots).items s.asked.items s.window s.next_wid c.self.invariant.held e;
-    first = c.due_place.ensures ∙ ap due_place c.as_slice.ensures.value;
+      held = held_hit c.args.part c.args.rect.now s.zoom s.slots.items (with_items s.slots c.damage.new.slots).items s.asked.items s.window s.next_wid c.self.invariant.held e;
+      placed = c.due_place-self-inside.ensures ∙ ap due_place c.as_slice.ensures.value;
     }
 
 pub returns : goal.returns

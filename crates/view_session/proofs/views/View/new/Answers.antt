@@ -11,13 +11,13 @@ use Rattle.view_session.proofs.views.View.new.Goals as goal
 pub invariant_of-result : goal.invariant_of-result
 invariant_of-result c =
     record {
-    held = held_fresh c.in-Some.zoom c.in_ok-slots.slots.items c.in-Ok.keys.items c.new.result.items c.new-2.result
-    (c.in_ok-slots.ensures ∙ ap (map seen_slot) c.as_slice.ensures.value)
-    (pairs_by_index IsBefore c.in-Ok.keys.items c.in-Ok.ensures.order)
-    (ap (λ ks. is_too_large c.in-Some.zoom (length ks)) c.in-Ok.ensures.keys ∙ not_large _ (λ h. let e = c.in-Ok.ensures.too_large.1 h in absurd (cc)))
-    (all_contained IsKey c.in-Ok.keys.items (λ key has. ((c.in-Ok.ensures.each key).0 has).form))
-    c.new.ensures.items c.new-2.ensures;
-    first = c.due_place-first.ensures ∙ ap due_place c.as_slice-2.ensures.value;
+      held = held_fresh c.in-Some.zoom c.in_ok-slots.slots.items c.in-Ok.keys.items c.new.result.items c.new-2.result
+          (c.in_ok-slots.ensures ∙ ap (map seen_slot) c.as_slice.ensures.value)
+          (pairs_by_index IsBefore c.in-Ok.keys.items c.in-Ok.ensures.order)
+          (ap (λ ks. is_too_large c.in-Some.zoom (length ks)) c.in-Ok.ensures.keys ∙ not_large _ (λ h. let e = c.in-Ok.ensures.too_large.1 h in absurd (cc)))
+          (all_contained IsKey c.in-Ok.keys.items (λ key has. ((c.in-Ok.ensures.each key).0 has).form))
+          c.new.ensures.items c.new-2.ensures;
+      placed = c.due_place-first.ensures ∙ ap due_place c.as_slice-2.ensures.value;
     }
 
 pub returns : goal.returns

@@ -11,7 +11,7 @@ pub next_due-requires-clause-order : goal.next_due-requires-clause-order
 next_due-requires-clause-order c = rw c.as_slice.ensures.value c.self.invariant.held.slotted.order
 
 pub next_due-requires-clause-first : goal.next_due-requires-clause-first
-next_due-requires-clause-first c = c.self.invariant.first ∙ ap due_place (sym c.as_slice.ensures.value)
+next_due-requires-clause-first c = c.self.invariant.placed ∙ ap due_place (sym c.as_slice.ensures.value)
 
 pub returns : goal.returns
 returns c =
