@@ -231,12 +231,12 @@ pub fn written_lowers<K: Kit>()
         → IsAcknowledged K.rules d id view outs new }
 {}
 
-/// Whatever is kept, there is nothing to do where no work is next (`idle`), and with nothing kept no work is
-/// next where there is nothing to do (`rests`). A pair that is next can be served, and is one of a view with
+/// Whatever is kept, there is nothing to do where no work is next (`idle`), if no more inputs are applied than
+/// accepted, and with nothing kept no work is next where there is nothing to do (`rests`). A pair that is next can be served, and is one of a view with
 /// room that is due the key (`next`). So a broker that does the work that is next leaves none undone.
 pub fn idle_exactly<K: Kit>()
     ensures idle { (kept : Place → Option ℕ) (d : Document K.Scene)
-        → pick K.rules kept d ≡ Rest → Rests K.rules d }
+        → d.applied ≤ length d.journal → pick K.rules kept d ≡ Rest → Rests K.rules d }
     ensures rests { (d : Document K.Scene) → Rests K.rules d → pick K.rules none_kept d ≡ Rest }
     ensures next { (kept : Place → Option ℕ) (d : Document K.Scene) (id : ℕ) (key : Place)
         → next_pair K.rules kept d ≡ Some (id, key)
