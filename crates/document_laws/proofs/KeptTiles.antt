@@ -141,6 +141,8 @@ apart_by p q apart = elim (cases_Bool (same_place p q)) [ inl same ↦ absurd (a
 pub tiles_found : (tiles : List KeptTile) → Pairwise AreOfTwo tiles → AllByRecursion (λ tile. kept_version tiles tile.key ≡ Some tile.version) tiles
 tiles_found [] once = tt
 tiles_found (t ∷ ts) once =
-    let here : kept_version (t ∷ ts) t.key ≡ Some t.version = rw (same_self t.key) refl in
-    (here, both (λ u. t.key ≢ u.key) (λ u. kept_version ts u.key ≡ Some u.version) (λ u. kept_version (t ∷ ts) u.key ≡ Some u.version) ts
-    (λ u apart is. let off : same_place t.key u.key ≡ false = apart_by t.key u.key apart in rw off is) once.0 (tiles_found ts once.1))
+    let here : kept_version (t ∷ ts) t.key ≡ Some t.version = rw (same_self t.key) refl in (
+      here,
+      both (λ u. t.key ≢ u.key) (λ u. kept_version ts u.key ≡ Some u.version) (λ u. kept_version (t ∷ ts) u.key ≡ Some u.version) ts
+          (λ u apart is. let off : same_place t.key u.key ≡ false = apart_by t.key u.key apart in rw off is) once.0 (tiles_found ts once.1),
+    )

@@ -12,8 +12,10 @@ pub mod KeyOrder
 pub mod Lower
 pub mod Moving
 pub mod Numbered
+pub mod Onward
 pub mod Ordered
 pub mod Picked
+pub mod PutContents
 pub mod Quiet
 pub mod QuietTest
 pub mod Rank

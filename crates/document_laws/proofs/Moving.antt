@@ -8,7 +8,7 @@ use Rattle.std.proofs.lemmas.List.{take-append-le}
 use Rattle.std.proofs.lemmas.List.Folds.{list_any-append}
 use Rattle.kit_trait.specs.Rules.{Rules, after, doc}
 use Rattle.kit_trait.specs.declared.values.Input.{Input}
-use Rattle.save_core.specs.Saving.{Saving}
+use Rattle.save_core.specs.Saving.{Saving, answered}
 use Rattle.tile_key.specs.Places.{Place, IsGroup, IsRun, place_of_keys, same_place}
 use Rattle.document_machine.proofs.Lists.{all_any, all_filter, all_push, same_self}
 use Rattle.document_machine.proofs.Turns.{moves_step}
@@ -22,7 +22,7 @@ use Rattle.document_machine.specs.Message.{Effect, effect, heard, saving_after}
 use Rattle.document_machine.specs.Next.{Work, Serve, Apply, Send, Cut, Rest}
 use Rattle.document_machine.specs.Outputs.{nothing, outs_of}
 use Rattle.document_machine.specs.Run.{Run}
-use Rattle.document_machine.specs.Saves.{Serves}
+use Rattle.document_machine.specs.Saves.{Serves, receipt_of, saving_left, saving_served}
 use Rattle.document_machine.specs.State.{Shown, View, Job, Document, find_job, find_view, opening_view, with_view, without_job, without_view}
 use Rattle.document_machine.specs.Step.{Applies, Cuts, Does, JoinsWhere, Paints, Sends, Step, views_offered}
 use Rattle.document_machine.specs.declared.limits.TheConstants.{MOST_KEPT, MOST_VIEWS}
@@ -36,7 +36,7 @@ use Rattle.document_laws.proofs.KeptTiles.{AreOfTwo, OnScreens, all_others, all_
 use Rattle.document_laws.proofs.KeptViews.{moved, with_all, without_all}
 use Rattle.document_laws.proofs.KeyOrder.{same_is, same_sym}
 use Rattle.document_laws.proofs.Ordered.{all_among, both, weaker}
-use Rattle.document_laws.proofs.Picked.{current_none, current_some, cuts_unkept, sends_kept}
+use Rattle.document_laws.proofs.Picked.{current_none, current_some, cuts_unkept, sends_next}
 use Rattle.document_laws.proofs.Views.{found_view}
 
 -- what was touched among the inputs that are applied stays so, whatever inputs are behind them
@@ -177,7 +177,7 @@ module _ {C B S : Type 0} (rules : Rules C B) (cut : C → Place → S) where
           kept_once = once_with tiles key version held.kept_once;
           kept_each = (
             let is : IsTileKept rules d (record { key = key; version = version }) = found_tile (IsTileKept rules d) tiles key version held.kept_each found in
-            record { part = is.part; version = is.version },
+                record { part = is.part; version = is.version },
             all_others (IsTileKept rules d) (IsTileKept rules now) tiles key (λ tile apart is. record { part = is.part; version = is.version }) held.kept_each,
           );
           kept_present = (
@@ -186,12 +186,12 @@ module _ {C B S : Type 0} (rules : Rules C B) (cut : C → Place → S) where
               not_ahead = screens (λ shown. shown.key ≡ key → shown.version ≤ version) (λ same. omega arith) had.not_ahead;
             },
             all_others (λ tile. is_current rules d tile.version tile.key ≡ true → IsPresentKept d tile) (λ tile. is_current rules now tile.version tile.key ≡ true → IsPresentKept now tile) tiles key
-            (λ tile apart is current.
-            let was : IsPresentKept d tile = is current in
-            record {
-              free = was.free;
-              not_ahead = screens (λ shown. shown.key ≡ tile.key → shown.version ≤ tile.version) (λ same. absurd (apart same)) was.not_ahead;
-            }) held.kept_present,
+                (λ tile apart is current.
+                let was : IsPresentKept d tile = is current in
+                record {
+                  free = was.free;
+                  not_ahead = screens (λ shown. shown.key ≡ tile.key → shown.version ≤ tile.version) (λ same. absurd (apart same)) was.not_ahead;
+                }) held.kept_present,
           );
           not_ahead = screens (IsNotAhead d.jobs) (free_above d.jobs key version had.free) held.not_ahead;
         }
@@ -323,14 +323,14 @@ module _ {C B S : Type 0} (rules : Rules C B) (cut : C → Place → S) where
 
     -- what each work keeps
     does_moves : (work : Work) (turned : TurnAnswer S) → next_work rules old ≡ work → Does rules cut old.document work turned new.document → new.kept ≡ kept_by old.kept work → IsKept rules cut new.document → IsHeld rules cut new
-    does_moves Serve (Worked outs) picked serves kept_is kept = views_stay old.document.views old.document.next_view _ serves.new_is kept_is (λ P all. all) kept
+    does_moves Serve (Worked outs) picked serves kept_is kept = views_stay old.document.views old.document.next_view (saving_served rules old.document) serves.new_is kept_is (λ P all. all) kept
     does_moves Apply (Worked outs) picked applies kept_is kept =
         let d : Document S = old.document in
         stays d.journal (d.applied + 1) d.views d.next_view d.saving (omega arith) applies.new_is kept_is
         (λ version key is. present_before rules d.base d.journal version key d.applied is) (λ P all. all) kept
     does_moves (Send id key version) (Worked outs) picked (sends, id_is, key_is, version_is) kept_is kept =
         let d : Document S = old.document in
-        let found : current_version rules old key ≡ Some version = sends_kept rules d (current_version rules old) id key version picked in
+        let found : current_version rules old key ≡ Some version = (sends_next rules d (current_version rules old) id key version picked).3 in
         let some = current_some rules d key (kept_version old.kept key) version found in
         let changed : new.document ≡ record d { views = with_view d.views sends.view.id (sent rules d version key) } =
         sends.new_is ∙ ap (λ k. record d { views = with_view d.views sends.view.id (sent rules d sends.version k) }) key_is
@@ -372,14 +372,14 @@ module _ {C B S : Type 0} (rules : Rules C B) (cut : C → Place → S) where
   event_keeps : ((base : List ℕ) → 0 < parts_of rules base) → (old new : Held S) (event : Event S) (outs : Outs S) → Moves rules cut old event outs new → IsHeld rules cut old → IsKept rules cut new.document → IsHeld rules cut new
   event_keeps some old new (Joined rights) outs moves held kept = join_moves old new held rights outs (nat_lt (length old.document.views) MOST_VIEWS) moves.0 moves.1 kept
   event_keeps some old new (Left id) outs moves held kept =
-      views_stay old new held (without_view old.document.views id) old.document.next_view _ moves.0.1 moves.1 (λ P. without_all (λ view. AllByRecursion P view.screen) old.document.views id) kept
+      views_stay old new held (without_view old.document.views id) old.document.next_view (saving_left old.document id) moves.0.1 moves.1 (λ P. without_all (λ view. AllByRecursion P view.screen) old.document.views id) kept
   event_keeps some old new (Said id text) outs moves held kept =
       let view : View = moves.0.view in
       let of_view : IsViewKept rules old.document view = found_view (IsViewKept rules old.document) old.document.views id view held.document.each moves.0.live in
       heard_moves old new held id view (effect rules old.document view text) moves.0.live (effect_good rules old.document view of_view text) moves.0.new_is moves.1 kept
   event_keeps some old new Turned outs moves held kept = does_moves old new held (next_work rules old) moves.0 refl moves.1.0 moves.1.1 kept
   event_keeps some old new (Painted ticket scene) outs moves held kept = paint_moves old new held ticket scene outs (find_job old.document.jobs ticket) refl moves.0 moves.1 kept
-  event_keeps some old new (PutAnswered ticket result) outs moves held kept = views_stay old new held old.document.views old.document.next_view _ moves.0.1 moves.1 (λ P all. all) kept
+  event_keeps some old new (PutAnswered ticket result) outs moves held kept = views_stay old new held old.document.views old.document.next_view (answered ticket (receipt_of result) old.document.saving) moves.0.1 moves.1 (λ P all. all) kept
 
   -- a move keeps it, in documents that have a part
   pub moves_keep : ((base : List ℕ) → 0 < parts_of rules base) → (old new : Held S) (event : Event S) (outs : Outs S) → Moves rules cut old event outs new → IsHeld rules cut old → IsHeld rules cut new

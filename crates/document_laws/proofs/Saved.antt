@@ -16,7 +16,7 @@ use Rattle.outside.specs.declared.errands.Receipt.{Receipt}
 use Rattle.outside.specs.declared.faults.StoreFault.{StoreFault}
 use Rattle.save_core.proofs.Bound.{under_way}
 use Rattle.save_core.specs.Runs.{IsBoundTo}
-use Rattle.save_core.specs.Saving.{Saving, answer_of, answered, answered_put, answers, begun, endings, ended, is_for, is_ready_save, is_unmodified, last_stored, left_over, served, token_for, unmodified}
+use Rattle.save_core.specs.Saving.{Saving, answer_of, answered, answered_put, answers, begun, endings, errand_for, ended, is_for, is_ready_save, is_unmodified, last_stored, left_over, served, token_for, unmodified}
 use Rattle.save_core.specs.declared.values.Put.{Put}
 use Rattle.save_core.specs.declared.values.Save.{Save}
 use Rattle.tile_key.specs.Places.{Place}
@@ -26,7 +26,7 @@ use Rattle.document_machine.specs.Event.{Event, Joined, Left, Said, Turned, Pain
 use Rattle.document_machine.specs.Kept.{IsKept, IsPutKept, IsViewKept}
 use Rattle.document_machine.specs.Message.{Effect, effect}
 use Rattle.document_machine.specs.Outputs.{named, outs_of}
-use Rattle.document_machine.specs.Saves.{EndsPut, Serves, ending_frame, ending_frames, receipt_of, saving_served, served_outs, told_view, unmodified_frames}
+use Rattle.document_machine.specs.Saves.{EndsPut, Serves, ending_frame, ending_frames, receipt_of, saving_served, served_outs, text_at, told_view, unmodified_frames}
 use Rattle.document_machine.specs.State.{View, Job, Document, find_job, is_live}
 use Rattle.document_machine.specs.Step.{JoinsWhere, Works, TurnsTo, Paints, Step, told, offered, tile_for, tiles_for}
 use Rattle.document_machine.specs.declared.limits.TheConstants.{MOST_VIEWS}
@@ -115,19 +115,18 @@ behind_in number numbers =
     ∙ rw (nat_eq_self number) (any (list_any (nat_eq number) numbers))
 
 -- a put that begins stores nothing
-begun_stored : (o : Option Errand) (s : Saving) → (begun o s).stored ≡ s.stored
+pub begun_stored : (o : Option Errand) (s : Saving) → (begun o s).stored ≡ s.stored
 begun_stored None s = refl
 begun_stored (Some errand) s = refl
 
 -- an answer that is taken is for the put's file and content
-for_put : (ticket : ℕ) (receipt : Receipt) (o : Option Put) (put : Put) → answered_put ticket (Some receipt) o ≡ Some put → (receipt.file ≡ put.file) × (receipt.content ≡ put.content)
+pub for_put : (ticket : ℕ) (receipt : Receipt) (o : Option Put) (put : Put) → answered_put ticket (Some receipt) o ≡ Some put → (receipt.file ≡ put.file) × (receipt.content ≡ put.content)
 for_put ticket receipt None put e = absurd (cc)
 for_put ticket receipt (Some other) put e =
     let go : (b : Bool) → (nat_eq other.ticket.0 ticket && (bytes_eq receipt.file other.file && bytes_eq receipt.content other.content)) ≡ b → cond b (Some other) None ≡ Some put → (receipt.file ≡ put.file) × (receipt.content ≡ put.content) = elim [
       | true ↦ λ is some.
           let same : other ≡ put = cc in
-          let parts = and_parts (bytes_eq receipt.file other.file) (bytes_eq receipt.content other.content) (and_parts (nat_eq other.ticket.0 ticket) _ is).1 in
-          (
+          let parts = and_parts (bytes_eq receipt.file other.file) (bytes_eq receipt.content other.content) (and_parts (nat_eq other.ticket.0 ticket) _ is).1 in (
             (bytes_eq-Decides receipt.file other.file).0 parts.0 ∙ ap (λ (p : Put). p.file) same,
             (bytes_eq-Decides receipt.content other.content).0 parts.1 ∙ ap (λ (p : Put). p.content) same,
           )
@@ -177,7 +176,7 @@ module _ {C B S : Type 0} (rules : Rules C B) (cut : C → Place → S) where
   serve_true old new outs kept serves =
       let s : Saving = old.saving in
       let last : ℕ = last_stored s in
-      let same : new.saving.stored ≡ s.stored = ap (λ (d : Document S). d.saving.stored) serves.new_is ∙ begun_stored _ _ in
+      let same : new.saving.stored ≡ s.stored = ap (λ (d : Document S). d.saving.stored) serves.new_is ∙ begun_stored (errand_for old.applied old.file (text_at rules old old.applied) s) (record s { saves = left_over old.applied last s.saves }) in
       let Q : ViewId → Type 0 = λ id. IsSaved rules old Turned new id old.applied false in
       let each : AllByRecursion Q (unmodified old.applied s) = views_all Q (is_unmodified old.applied last) s.saves
       (λ save has passes id of_view.
@@ -222,14 +221,17 @@ module _ {C B S : Type 0} (rules : Rules C B) (cut : C → Place → S) where
               mark = all_get (IsBoundTo (Some put)) s.saves has.0 save bound has.1 is_bound;
               past = mine.0;
               stored = ap (λ (numbers : List ℕ). list_any (nat_eq put.number) numbers) stored_is ∙ behind_in put.number s.stored;
-              by = (is_bound, record {
-                ticket = ticket;
-                receipt = receipt;
-                event_is = refl;
-                file_is = is_for.0 ∙ mine.1;
-                content_is = is_for.1 ∙ mine.2;
-                stored_is = stored_is;
-              });
+              by = (
+                is_bound,
+                record {
+                  ticket = ticket;
+                  receipt = receipt;
+                  event_is = refl;
+                  file_is = is_for.0 ∙ mine.1;
+                  content_is = is_for.1 ∙ mine.2;
+                  stored_is = stored_is;
+                },
+              );
             })
       ] in
       go (answered_put ticket (Some receipt) s.put) refl

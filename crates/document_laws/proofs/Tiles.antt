@@ -62,7 +62,7 @@ module _ {C B : Type 0} (rules : Rules C B) (base : List ℕ) (journal : List In
 
 -- a frame still shows what it says when inputs are behind those that there were
 module _ {C B : Type 0} (rules : Rules C B) (base : List ℕ) where
-  doc_more : (journal more : List Input) (n : ℕ) → n ≤ length journal → doc rules base (journal ++ more) n ≡ doc rules base journal n
+  pub doc_more : (journal more : List Input) (n : ℕ) → n ≤ length journal → doc rules base (journal ++ more) n ≡ doc rules base journal n
   doc_more journal more n le = ap (λ inputs. after rules (rules.start base) inputs) (take-append-le n journal more le)
 
   shown_more : (journal more : List Input) (most further : ℕ) → most ≤ length journal → most ≤ further → (frame : ViewId × Frame) → IsShown rules base journal most frame → IsShown rules base (journal ++ more) further frame
