@@ -190,7 +190,7 @@ taken_out = refl
 
 -- what messages do to it in a document of one part without inputs
 does : Bool → ClientMessage → Effect
-does can_write message = message_effect (record { inputs = 0; parts = 1; sizes = λ part. patch }) (looker can_write) message
+does can_write message = message_effect (record { inputs = 0; saves = []; parts = 1; sizes = λ part. patch }) (looker can_write) message
 
 tile_words : ℕ → ℕ → TileWords
 tile_words part x = record { part = part; width = 8; height = 8; tileposx = x; tileposy = 0; tilewidth = 240; tileheight = 240; nviewid = 0 }
@@ -260,7 +260,7 @@ other_area = refl
 sees_all : View
 sees_all = record (looker true) { area = area 3840 3840 }
 
-too_large_zoom : message_effect (record { inputs = 0; parts = 1; sizes = λ part. patch }) sees_all (Zoom 1 1 15 15 0) ≡ refuses sees_all (codes "clientzoom") TooLarge
+too_large_zoom : message_effect (record { inputs = 0; saves = []; parts = 1; sizes = λ part. patch }) sees_all (Zoom 1 1 15 15 0) ≡ refuses sees_all (codes "clientzoom") TooLarge
 unfolding sees_all looker tiny
 too_large_zoom =
     ap (λ n. cond (is_too_large tiny n) (refuses sees_all (codes "clientzoom") TooLarge) (becomes (forgets (λ part. patch) (record sees_all { zoom = tiny })))) too_many
@@ -306,7 +306,7 @@ applies_first : pick patch_rules none_kept (one_view click asking) ≡ Apply
 unfolding one_view click
 applies_first = refl
 
-cuts_then : pick patch_rules none_kept (one_view [] asking) ≡ Cut 3 (tile_at 0 small 240 0)
+cuts_then : pick patch_rules none_kept (one_view [] asking) ≡ Cut 3 (tile_at 0 small 240 0 ∷ [])
 unfolding one_view asking looker small visible_keys rows_of row_of
 cuts_then = refl
 

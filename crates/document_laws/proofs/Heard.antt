@@ -1,14 +1,15 @@
 -- What a message does: a view that is kept is kept after it, it has the same id and the same next number, its
--- screen takes no step back, inputs name one of the parts, and no frame is a tile.
+-- screen is a part of what it was and so takes no step back, inputs name one of the parts, a save is not one
+-- too many, and no frame is a tile or says that a save is done.
 use Rattle.std.proofs.Common.{◌≡◌, ◌≢◌, ℕ, ◌<◌, ◌≤◌, Bool, true, false, not, ◌||◌, cond, nat_eq, List, [], ◌∷◌, ◌++◌, length, filter, Option, None, Some, Ok, Err, refl, ap, sym, subst, ◌∙◌, arith}
 use Rattle.std.specs.Prelude.{nat_lt, nat_le, IfSome, Result}
 use Rattle.std.specs.List.{list_any, list_all, AllByRecursion}
 use Rattle.std.proofs.lemmas.Bool.{and_parts, or_parts, ltb-true, ltb-false}
 use Rattle.cool_message.specs.Asked.{is_key_of, keys_of, places_of}
 use Rattle.cool_frame.specs.declared.frame.Frame.{Frame}
-use Rattle.cool_frame.specs.declared.frame.Frame.TheVariants.{Error, Tile}
+use Rattle.cool_frame.specs.declared.frame.Frame.TheVariants.{Error, SaveDone, Tile}
 use Rattle.cool_frame.specs.declared.kind.ErrorKind.{ErrorKind}
-use Rattle.cool_frame.specs.declared.kind.ErrorKind.TheVariants.{InputsFull, ReadOnly, AskedFull, BadTile, TooLarge}
+use Rattle.cool_frame.specs.declared.kind.ErrorKind.TheVariants.{InputsFull, SavesFull, ReadOnly, AskedFull, BadTile, TooLarge}
 use Rattle.cool_message.specs.Reading.{reading}
 use Rattle.cool_message.specs.declared.fault.MessageFault.{MessageFault}
 use Rattle.cool_message.specs.declared.message.ClientMessage.{ClientMessage}
@@ -28,8 +29,11 @@ use Rattle.send_window.proofs.Closing.{filter_le}
 use Rattle.document_machine.specs.Due.{parts_of, size_of, visible, wants, sees_or_asks}
 use Rattle.document_machine.specs.Keys.{Pairwise, is_among}
 use Rattle.document_machine.specs.Kept.{IsViewKept}
-use Rattle.document_machine.specs.Message.{Effect, becomes, answers, enters, asked_with, asked_with_all, input_effect, key_effect, mouse_effect, asking_effect, seeing_effect, zooming_effect, going_effect, message_effect, reading_effect, effect, heard, limits_of, forgets, cancels, acknowledged}
+use Rattle.document_machine.specs.Message.{Effect, becomes, answers, enters, awaits, asked_with, asked_with_all, input_effect, saving_effect, saving_after, key_effect, mouse_effect, asking_effect, seeing_effect, zooming_effect, going_effect, message_effect, reading_effect, effect, heard, limits_of, forgets, cancels, acknowledged}
 use Rattle.document_machine.specs.State.{Shown, View, Document, find_view, with_view}
+use Rattle.document_machine.specs.Outputs.{named}
+use Rattle.save_core.specs.Saving.{is_full}
+use Rattle.save_core.specs.declared.values.Save.{Save as Waiting}
 use Rattle.send_window.specs.Tiles.{Sent}
 use Rattle.document_machine.specs.declared.limits.TheConstants.{MOST_ASKED, MOST_INPUTS}
 use Rattle.send_window.specs.declared.windows.TheConstants.{MOST_SENT}
@@ -52,7 +56,7 @@ all_asked P asked [] all ps = all
 all_asked P asked (key ∷ keys) all ps = all_asked P (asked_with asked key) keys (all_asked_with P asked key all ps.0) ps.1
 
 -- a key that is not among some is none of them
-none_of : (asked : List Place) (key : Place) → is_among asked key ≡ false → AllByRecursion (λ p. p ≢ key) asked
+pub none_of : (asked : List Place) (key : Place) → is_among asked key ≡ false → AllByRecursion (λ p. p ≢ key) asked
 none_of [] key e = tt
 none_of (other ∷ others) key e =
     let parts = or_parts (same_place other key) (is_among others key) e in
@@ -101,9 +105,10 @@ keys_are parts message =
     ] in
     go (list_all (is_key_of parts) (places_of message)) refl
 
--- a frame that is no tile
+-- a frame that is no tile and doesn't say that a save is done
 abbrev pub IsPlain : Frame → Type 0
 IsPlain (Tile key version wid rgba) = ⊥
+IsPlain (SaveDone inputs put) = ⊥
 IsPlain other = Unit {0}
 
 -- a view with another one's id
@@ -112,10 +117,20 @@ keeps now view = record now { id = view.id }
 
 -- the document after an effect, its view changed by a function that leaves ids
 pub heard_is : {S : Type 0} (d : Document S) (id : ℕ) (view : View) (e : Effect) → find_view d.views id ≡ Some view → e.view.id ≡ view.id
-    → heard d id e ≡ record d { journal = d.journal ++ e.inputs; views = with_view d.views id (keeps e.view) }
+    → heard d id e ≡ record d { journal = d.journal ++ e.inputs; views = with_view d.views id (keeps e.view); saving = saving_after id (length d.journal) e d.saving }
 heard_is d id view e live same =
-    ap (λ views. record d { journal = d.journal ++ e.inputs; views = views })
+    ap (λ views. record d { journal = d.journal ++ e.inputs; views = views; saving = saving_after id (length d.journal) e d.saving })
     (changed_same d.views id (λ _. e.view) (keeps e.view) view live (ap (λ n. record e.view { id = n }) same))
+
+-- a screen of which all stays
+all_kept : (screen : List Shown) → screen ≡ filter (λ _. true) screen
+all_kept [] = refl
+all_kept (shown ∷ screen) = ap (λ rest. shown ∷ rest) (all_kept screen)
+
+-- a save that waits now is not one too many of its view's
+abbrev pub Fits : List Waiting → ℕ → Option Bool → Type 0
+Fits saves id None = Unit {0}
+Fits saves id (Some skip) = is_full (Some (named id)) saves ≡ false
 
 module _ {C B S : Type 0} (rules : Rules C B) (d : Document S) (view : View) where
   -- what holds of an effect of a view's message
@@ -126,6 +141,8 @@ module _ {C B S : Type 0} (rules : Rules C B) (d : Document S) (view : View) whe
     pub inputs : AllByRecursion (λ input. input.part < parts_of rules d.base) e.inputs
     pub back : IsNoStepBack view e.view
     pub frames : AllByRecursion IsPlain e.frames
+    pub saves : Fits d.saving.saves view.id e.save
+    pub screen : (keep : Shown → Bool) × (e.view.screen ≡ filter keep view.screen)
 
   -- what a screen forgets
   forgotten_kept : (seen : View) → seen.screen ≡ view.screen → IsViewKept rules d view → seen.part < parts_of rules d.base → is_zoom seen.zoom ≡ true → is_too_large seen.zoom (length (visible rules d seen)) ≡ false
@@ -150,8 +167,8 @@ module _ {C B S : Type 0} (rules : Rules C B) (d : Document S) (view : View) whe
 
   module _ (kept : IsViewKept rules d view) where
     -- nothing changes, and these frames are given
-    same_good : (frames : List Frame) → AllByRecursion IsPlain frames → IsGood (record { frames = frames; inputs = []; view = view })
-    same_good frames plain = record { id = refl; next = refl; kept = kept; inputs = tt; back = same_screen view view refl; frames = plain }
+    same_good : (frames : List Frame) → AllByRecursion IsPlain frames → IsGood (record { frames = frames; inputs = []; save = None; view = view })
+    same_good frames plain = record { id = refl; next = refl; kept = kept; inputs = tt; back = same_screen view view refl; frames = plain; saves = tt; screen = (λ _. true, all_kept view.screen) }
 
     -- a screen forgets what its view, once changed, neither sees nor asks for
     forget_good : (seen : View) → seen.id ≡ view.id → seen.screen ≡ view.screen → seen.part < parts_of rules d.base → is_zoom seen.zoom ≡ true → is_too_large seen.zoom (length (visible rules d seen)) ≡ false
@@ -164,16 +181,30 @@ module _ {C B S : Type 0} (rules : Rules C B) (d : Document S) (view : View) whe
       inputs = tt;
       back = filtered (wants (size_of rules d.base) seen) view (forgets (size_of rules d.base) seen) (ap (λ s. filter (λ shown. wants (size_of rules d.base) seen shown.key) s) screen);
       frames = tt;
+      saves = tt;
+      screen = (λ shown. wants (size_of rules d.base) seen shown.key, ap (λ s. filter (λ shown. wants (size_of rules d.base) seen shown.key) s) screen);
     }
 
     input_good : (command : List ℕ) (what : What) → IsGood (input_effect (limits_of rules d) view command what)
     input_good command what =
         let input : Input = record { view = record { 0 = view.id }; part = view.part; what = what } in
-        let entered : IsGood (enters view input) = record { id = refl; next = refl; kept = kept; inputs = (kept.part, tt); back = same_screen view view refl; frames = tt } in
+        let entered : IsGood (enters view input) = record { id = refl; next = refl; kept = kept; inputs = (kept.part, tt); back = same_screen view view refl; frames = tt; saves = tt; screen = (λ _. true, all_kept view.screen) } in
         let refused : (kind : ErrorKind) → IsGood (answers view (Error command kind None)) = λ kind. same_good (Error command kind None ∷ []) (tt, tt) in
         let full : (b : Bool) → IsGood (cond b (answers view (Error command InputsFull None)) (enters view input)) = elim [ true ↦ refused InputsFull | false ↦ entered ] in
         elim view.rights.can_write as (λ b. IsGood (cond b (cond (nat_le MOST_INPUTS (length d.journal)) (answers view (Error command InputsFull None)) (enters view input)) (answers view (Error command ReadOnly None)))) [
           | true ↦ full (nat_le MOST_INPUTS (length d.journal))
+          | false ↦ refused ReadOnly
+        ]
+
+    saving_good : (command : List ℕ) (skip : Bool) → IsGood (saving_effect (limits_of rules d) view command skip)
+    saving_good command skip =
+        let refused : (kind : ErrorKind) → IsGood (answers view (Error command kind None)) = λ kind. same_good (Error command kind None ∷ []) (tt, tt) in
+        let few : (b : Bool) → is_full (Some (named view.id)) d.saving.saves ≡ b → IsGood (cond b (answers view (Error command SavesFull None)) (awaits view skip)) = elim [
+          | true ↦ λ full. refused SavesFull
+          | false ↦ λ fits. record { id = refl; next = refl; kept = kept; inputs = tt; back = same_screen view view refl; frames = tt; saves = fits; screen = (λ _. true, all_kept view.screen) }
+        ] in
+        elim view.rights.can_write as (λ b. IsGood (cond b (cond (is_full (Some (named view.id)) d.saving.saves) (answers view (Error command SavesFull None)) (awaits view skip)) (answers view (Error command ReadOnly None)))) [
+          | true ↦ few (is_full (Some (named view.id)) d.saving.saves) refl
           | false ↦ refused ReadOnly
         ]
 
@@ -220,6 +251,8 @@ module _ {C B S : Type 0} (rules : Rules C B) (d : Document S) (view : View) whe
             inputs = tt;
             back = same_screen view (record view { asked = asked }) refl;
             frames = tt;
+            saves = tt;
+            screen = (λ _. true, all_kept view.screen);
           }
         ] in
         go (nat_lt MOST_ASKED (length asked)) refl
@@ -285,6 +318,8 @@ module _ {C B S : Type 0} (rules : Rules C B) (d : Document S) (view : View) whe
           inputs = tt;
           back = same_screen view (acknowledged wids view) refl;
           frames = tt;
+          saves = tt;
+          screen = (λ _. true, all_kept view.screen);
         }
 
     message_good : (message : ClientMessage) → IsGood (message_effect (limits_of rules d) view message)
@@ -300,8 +335,8 @@ module _ {C B S : Type 0} (rules : Rules C B) (d : Document S) (view : View) whe
         zooming_good (record { pixel_w = pixel_w; pixel_h = pixel_h; twip_w = twip_w; twip_h = twip_h; nviewid = nviewid })
     message_good (SetPart part) = going_good part
     message_good (TileProcessed wids) = acknowledged_good wids
-    message_good (Save keep skip) = same_good _ (tt, tt)
-    message_good UnoSave = same_good _ (tt, tt)
+    message_good (Save keep skip) = saving_good _ skip
+    message_good UnoSave = saving_good _ false
 
     reading_good : (text : List ℕ) (read : Result ClientMessage MessageFault) → IsGood (reading_effect (limits_of rules d) view text read)
     reading_good text (Err why) = same_good _ (tt, tt)

@@ -1,5 +1,5 @@
 -- Every step keeps what a document keeps, and so every document that is reached keeps it.
-use Rattle.std.proofs.Common.{◌≡◌, ℕ, ◌+◌, ◌/◌, ◌<◌, ◌≤◌, Bool, true, false, ◌&&◌, ◌||◌, cond, nat_eq, List, [], ◌∷◌, ◌++◌, length, Option, None, Some, refl, ap, sym, subst, ◌∙◌, arith, inl, inr, length-append}
+use Rattle.std.proofs.Common.{◌≡◌, ℕ, ◌+◌, ◌/◌, ◌<◌, ◌≤◌, Bool, true, false, ◌&&◌, ◌||◌, cond, nat_eq, List, [], ◌∷◌, ◌++◌, length, Option, None, Some, is_some, refl, ap, sym, subst, ◌∙◌, arith, inl, inr, length-append}
 use Rattle.std.specs.Prelude.{nat_lt}
 use Rattle.std.specs.List.{list_any, AllByRecursion}
 use Rattle.std.proofs.lemmas.Bool.{or_parts, ltb-true}
@@ -8,28 +8,33 @@ use Rattle.std.proofs.lemmas.List.{take-append-le}
 use Rattle.cool_base.specs.Points.{Rectangle, Extent, do_meet, intersection_of, nowhere}
 use Rattle.kit_trait.specs.Rules.{Rules, after, doc}
 use Rattle.kit_trait.specs.declared.values.Input.{Input}
+use Rattle.outside.specs.declared.errands.Receipt.{Receipt}
+use Rattle.save_core.proofs.Bound.{under_way}
+use Rattle.save_core.specs.Saving.{Saving, answered, answered_put}
 use Rattle.tile_key.specs.Places.{Place, IsGroup, place_of_keys, same_place}
 use Rattle.tile_key.specs.Visible.{visible_keys, rows_of, is_too_large, tiles_to, whole_part}
 use Rattle.tile_key.proofs.GridFacts.{rows_all}
 use Rattle.document_machine.proofs.Lists.{all_push, holds_among}
-use Rattle.document_machine.specs.Due.{parts_of, size_of, is_due, is_lacking, is_out, version_of, visible, sent}
-use Rattle.document_machine.specs.Event.{Event, Joined, Left, Said, Turned, Painted}
+use Rattle.document_machine.specs.Due.{parts_of, size_of, is_due, is_owed, is_lacking, is_out, version_of, visible, sent}
+use Rattle.document_machine.specs.Event.{Event, Joined, Left, Said, Turned, Painted, PutAnswered}
 use Rattle.document_machine.specs.Keys.{Pairwise, is_among}
-use Rattle.document_machine.specs.Kept.{IsKept, IsViewKept, IsJobKept, ShareNone, AreApart}
-use Rattle.document_machine.specs.Message.{Effect, effect, heard}
+use Rattle.document_machine.specs.Kept.{IsKept, IsSavingKept, IsViewKept, IsJobKept, ShareNone, AreApart}
+use Rattle.document_machine.specs.Message.{Effect, effect, heard, saving_after}
 use Rattle.document_machine.specs.Run.{Segment}
+use Rattle.document_machine.specs.Saves.{has_ready_save, receipt_of, saving_left, saving_served}
 use Rattle.document_machine.specs.State.{View, Job, Document, opening, opening_view, first_zoom, no_area, find_view, with_view, without_view, find_job, without_job}
-use Rattle.document_machine.specs.Step.{JoinsWhere, Cuts, Works, TurnsTo, Paints, Step, views_offered, is_owed}
+use Rattle.document_machine.specs.Step.{JoinsWhere, Cuts, Works, TurnsTo, Paints, Step, views_offered}
 use Rattle.document_machine.specs.declared.limits.TheConstants.{MOST_JOBS, MOST_VIEWS}
 use Rattle.document_machine.specs.declared.outs.Outs.{Outs}
 use Rattle.document_machine.specs.declared.outs.Turned.{Turned as TurnAnswer}
 use Rattle.document_machine.specs.declared.outs.Turned.TheVariants.{Worked, Idle}
 use Rattle.document_machine.specs.declared.rights.Rights.{Rights}
-use Rattle.document_laws.proofs.Heard.{IsGood, effect_good, heard_is, keeps}
+use Rattle.document_laws.proofs.Heard.{Fits, IsGood, effect_good, heard_is, keeps}
 use Rattle.document_laws.proofs.KeptViews.{AreInOrder, pairwise_push, with_all, order_with, order_without, order_push, without_all, offers_order, offers_kept, sent_kept, moved, view_moved}
 use Rattle.document_laws.proofs.KeyOrder.{same_is}
-use Rattle.document_laws.proofs.Ordered.{weaker, all_by}
-use Rattle.document_laws.proofs.Views.{found_view, some_input}
+use Rattle.document_laws.proofs.Ordered.{all_both, all_by, weaker}
+use Rattle.document_laws.proofs.Saving.{ended_saving, hear_saving, left_saving, same_saving, served_saving}
+use Rattle.document_laws.proofs.Views.{found_id, found_view, some_input}
 
 -- a view that joins sees nothing
 no_meet : (size : Extent) → do_meet no_area (whole_part size) ≡ false
@@ -42,7 +47,7 @@ sees_none size =
     ap (λ (s : Rectangle). length (rows_of 0 first_zoom (s.x / 3840) (tiles_to s.x (s.x + s.w) 3840) (s.y / 3840) (tiles_to s.y (s.y + s.h) 3840))) cut
 
 -- jobs, all but the one with a ticket
-job_without_all : {S : Type 0} (P : Job S → Type 0) (jobs : List (Job S)) (ticket : ℕ) → AllByRecursion P jobs → AllByRecursion P (without_job jobs ticket)
+pub job_without_all : {S : Type 0} (P : Job S → Type 0) (jobs : List (Job S)) (ticket : ℕ) → AllByRecursion P jobs → AllByRecursion P (without_job jobs ticket)
 job_without_all P [] ticket all = tt
 job_without_all P (j ∷ js) ticket all =
     elim (nat_eq j.ticket ticket) as (λ b. AllByRecursion P (cond b js (j ∷ without_job js ticket))) [
@@ -75,11 +80,6 @@ found_job P (j ∷ js) ticket job all e =
       | false ↦ λ is. found_job P js ticket job all.1 is
     ] in
     go (nat_eq j.ticket ticket) e
-
--- what holds of two lists holds of both together
-pub all_both : {X : Type 0} (P : X → Type 0) (xs ys : List X) → AllByRecursion P xs → AllByRecursion P ys → AllByRecursion P (xs ++ ys)
-all_both P [] ys a b = b
-all_both P (x ∷ xs) ys a b = (a.0, all_both P xs ys a.1 b)
 
 -- a job whose keys are in no job out shares none with them
 apart_push : {S : Type 0} (jobs : List (Job S)) (job : Job S) → AreApart jobs → AllByRecursion (λ key. is_out jobs key ≡ false) job.keys → AreApart (jobs ++ job ∷ [])
@@ -178,9 +178,9 @@ module _ {C B S : Type 0} (rules : Rules C B) (d : Document S) where
 
 module _ {C B S : Type 0} (rules : Rules C B) (cut : C → Place → S) (d : Document S) where
   -- a job that is kept is kept where no fewer inputs are applied, and the document after those that were is the same
-  job_moved : (journal : List Input) (applied : ℕ) (views : List View) (next_view : ℕ) (jobs : List (Job S)) (ticket : ℕ) (job : Job S) → d.applied ≤ applied
-      → ((n : ℕ) → n ≤ d.applied → doc rules d.base d.journal n ≡ doc rules d.base journal n) → IsJobKept rules cut d job → IsJobKept rules cut (moved rules d journal applied views next_view jobs ticket) job
-  job_moved journal applied views next_view jobs ticket job le docs kept = record {
+  job_moved : (journal : List Input) (applied : ℕ) (views : List View) (next_view : ℕ) (jobs : List (Job S)) (ticket : ℕ) (saving : Saving) (job : Job S) → d.applied ≤ applied
+      → ((n : ℕ) → n ≤ d.applied → doc rules d.base d.journal n ≡ doc rules d.base journal n) → IsJobKept rules cut d job → IsJobKept rules cut (moved rules d journal applied views next_view jobs ticket saving) job
+  job_moved journal applied views next_view jobs ticket saving job le docs kept = record {
     number = let lt : job.number ≤ d.applied = kept.number in omega arith;
     group = kept.group;
     area_is = kept.area_is;
@@ -199,31 +199,40 @@ module _ {C B S : Type 0} (rules : Rules C B) (cut : C → Place → S) (d : Doc
     same_docs n le = refl
 
     -- it is kept, where its inputs go on and its views and jobs are kept
-    moved_kept : (journal : List Input) (applied : ℕ) (views : List View) (next_view : ℕ) (jobs : List (Job S)) (ticket : ℕ) → d.applied ≤ applied → applied ≤ length journal
+    moved_kept : (journal : List Input) (applied : ℕ) (views : List View) (next_view : ℕ) (jobs : List (Job S)) (ticket : ℕ) (saving : Saving) → d.applied ≤ applied → applied ≤ length journal
         → ((n : ℕ) → n ≤ d.applied → doc rules d.base d.journal n ≡ doc rules d.base journal n) → AllByRecursion (λ input. input.part < parts_of rules d.base) journal
         → AreInOrder next_view views → AllByRecursion (IsViewKept rules d) views → AreJobsInOrder ticket jobs → AllByRecursion (IsJobKept rules cut d) jobs
-        → IsKept rules cut (moved rules d journal applied views next_view jobs ticket)
-    moved_kept journal applied views next_view jobs ticket le level docs inputs o each jo all = record {
+        → IsSavingKept rules (moved rules d journal applied views next_view jobs ticket saving) → IsKept rules cut (moved rules d journal applied views next_view jobs ticket saving)
+    moved_kept journal applied views next_view jobs ticket saving le level docs inputs o each jo all saved = record {
       accepted = kept.accepted;
       level = level;
       inputs = inputs;
       few = o.few;
       ids = o.ids;
       ids_below = o.below;
-      each = weaker (IsViewKept rules d) (IsViewKept rules (moved rules d journal applied views next_view jobs ticket)) views (λ view is. view_moved rules d journal applied views next_view jobs ticket view le is) each;
-      jobs = weaker (IsJobKept rules cut d) (IsJobKept rules cut (moved rules d journal applied views next_view jobs ticket)) jobs (λ job is. job_moved journal applied views next_view jobs ticket job le docs is) all;
+      each = weaker (IsViewKept rules d) (IsViewKept rules (moved rules d journal applied views next_view jobs ticket saving)) views (λ view is. view_moved rules d journal applied views next_view jobs ticket saving view le is) each;
+      jobs = weaker (IsJobKept rules cut d) (IsJobKept rules cut (moved rules d journal applied views next_view jobs ticket saving)) jobs (λ job is. job_moved journal applied views next_view jobs ticket saving job le docs is) all;
       apart = jo.apart;
       jobs_few = jo.few;
       tickets = jo.tickets;
       tickets_below = jo.below;
+      saving = saved;
     }
 
     -- other views and jobs
     others_kept : (views : List View) (next_view : ℕ) (jobs : List (Job S)) (ticket : ℕ) → AreInOrder next_view views → AllByRecursion (IsViewKept rules d) views → AreJobsInOrder ticket jobs → AllByRecursion (IsJobKept rules cut d) jobs
-        → IsKept rules cut (moved rules d d.journal d.applied views next_view jobs ticket)
+        → IsKept rules cut (moved rules d d.journal d.applied views next_view jobs ticket d.saving)
     others_kept views next_view jobs ticket o each jo all =
         let le : d.applied ≤ d.applied = omega arith in
-        moved_kept d.journal d.applied views next_view jobs ticket le kept.level same_docs kept.inputs o each jo all
+        moved_kept d.journal d.applied views next_view jobs ticket d.saving le kept.level same_docs kept.inputs o each jo all
+        (same_saving rules d kept.level kept.saving d.applied views next_view jobs ticket le)
+
+    -- other views and saves
+    saves_kept : (views : List View) (saving : Saving) → AreInOrder d.next_view views → AllByRecursion (IsViewKept rules d) views
+        → IsSavingKept rules (record d { views = views; saving = saving }) → IsKept rules cut (record d { views = views; saving = saving })
+    saves_kept views saving o each saved =
+        let le : d.applied ≤ d.applied = omega arith in
+        moved_kept d.journal d.applied views d.next_view d.jobs d.next_ticket saving le kept.level same_docs kept.inputs o each job_order kept.jobs saved
 
     views_kept : (views : List View) (next_view : ℕ) → AreInOrder next_view views → AllByRecursion (IsViewKept rules d) views → IsKept rules cut (record d { views = views; next_view = next_view })
     views_kept views next_view o each = others_kept views next_view d.jobs d.next_ticket o each job_order kept.jobs
@@ -239,8 +248,20 @@ module _ {C B S : Type 0} (rules : Rules C B) (cut : C → Place → S) (d : Doc
         views_kept (d.views ++ opening_view d.next_view rights ∷ []) (d.next_view + 1) (order_push d.next_view d.views (opening_view d.next_view rights) refl few order)
         (all_push (IsViewKept rules d) d.views (opening_view d.next_view rights) kept.each (opening_kept rules d d.next_view rights some))
 
-    leave_kept : (id : ℕ) → IsKept rules cut (record d { views = without_view d.views id })
-    leave_kept id = views_kept (without_view d.views id) d.next_view (order_without d.next_view d.views id order) (without_all (IsViewKept rules d) d.views id kept.each)
+    leave_kept : (id : ℕ) → IsKept rules cut (record d { views = without_view d.views id; saving = saving_left d id })
+    leave_kept id =
+        saves_kept (without_view d.views id) (saving_left d id) (order_without d.next_view d.views id order)
+        (without_all (IsViewKept rules d) d.views id kept.each) (left_saving rules d kept.level kept.saving id (without_view d.views id))
+
+    -- the ready saves were served
+    serve_kept : has_ready_save d ≡ true → IsKept rules cut (record d { saving = saving_served rules d })
+    serve_kept ready = saves_kept d.views (saving_served rules d) order kept.each (served_saving rules d kept.level kept.saving ready)
+
+    -- the answer to a put came
+    answer_kept : (ticket : ℕ) (receipt : Option Receipt) → IsKept rules cut (record d { saving = answered ticket receipt d.saving })
+    answer_kept ticket receipt =
+        saves_kept d.views (answered ticket receipt d.saving) order kept.each
+        (ended_saving rules d kept.level kept.saving (answered_put ticket receipt d.saving.put) (is_some receipt) (under_way ticket receipt d.saving.put))
 
     -- a view and the journal, after an effect
     hear_kept : (id : ℕ) (view : View) (e : Effect) → find_view d.views id ≡ Some view → IsGood rules d view e → IsKept rules cut (heard d id e)
@@ -254,16 +275,18 @@ module _ {C B S : Type 0} (rules : Rules C B) (cut : C → Place → S) (d : Doc
         ap (λ inputs. after rules (rules.start d.base) inputs) (sym (take-append-le n d.journal e.inputs past)) in
         let same : IsViewKept rules d (keeps e.view view) = subst (IsViewKept rules d) (ap (λ n. record e.view { id = n }) good.id) good.kept in
         subst (IsKept rules cut) (sym (heard_is d id view e live good.id))
-        (moved_kept journal d.applied (with_view d.views id (keeps e.view)) d.next_view d.jobs d.next_ticket le level docs
+        (moved_kept journal d.applied (with_view d.views id (keeps e.view)) d.next_view d.jobs d.next_ticket (saving_after id (length d.journal) e d.saving) le level docs
         (all_both (λ input. input.part < parts_of rules d.base) d.journal e.inputs kept.inputs good.inputs)
         (order_with d.next_view d.views id (keeps e.view) (λ v. refl) order)
-        (with_all (IsViewKept rules d) d.views id (keeps e.view) view live same kept.each) job_order kept.jobs)
+        (with_all (IsViewKept rules d) d.views id (keeps e.view) view live same kept.each) job_order kept.jobs
+        (hear_saving rules d kept.level kept.saving (with_view d.views id (keeps e.view)) id e docs (subst (λ n. Fits d.saving.saves n e.save) (found_id d.views id view live) good.saves)))
 
     apply_kept : d.applied < length d.journal → IsKept rules cut (record d { applied = d.applied + 1 })
     apply_kept more =
         let le : d.applied ≤ d.applied + 1 = omega arith in
         let level : d.applied + 1 ≤ length d.journal = omega arith in
-        moved_kept d.journal (d.applied + 1) d.views d.next_view d.jobs d.next_ticket le level same_docs kept.inputs order kept.each job_order kept.jobs
+        moved_kept d.journal (d.applied + 1) d.views d.next_view d.jobs d.next_ticket d.saving le level same_docs kept.inputs order kept.each job_order kept.jobs
+        (same_saving rules d kept.level kept.saving (d.applied + 1) d.views d.next_view d.jobs d.next_ticket le)
 
     cut_kept : (outs : Outs S) (new : Document S) → Cuts rules cut d outs new → IsKept rules cut new
     cut_kept outs new cuts =
@@ -294,13 +317,16 @@ module _ {C B S : Type 0} (rules : Rules C B) (cut : C → Place → S) where
   pub works_keep : (old new : Document S) (outs : Outs S) → Works rules cut old outs new → IsKept rules cut old → IsKept rules cut new
   works_keep old new outs works kept =
       elim works [
-        | inl applies ↦ subst (IsKept rules cut) (sym applies.new_is) (apply_kept rules cut old kept (some_input old.journal old.applied applies.input applies.behind))
-        | inr other ↦ elim other [
-          | inl sends ↦
-              let of_view : IsViewKept rules old sends.view = found_view (IsViewKept rules old) old.views sends.view.id sends.view kept.each sends.live in
-              subst (IsKept rules cut) (sym sends.new_is)
-              (change_kept rules cut old kept sends.view.id sends.view (sent rules old sends.version sends.key) (λ v. refl) sends.live (sent_kept rules old sends.version sends.key sends.view sends.past sends.room of_view))
-          | inr cuts ↦ cut_kept rules cut old kept outs new cuts
+        | inl serves ↦ subst (IsKept rules cut) (sym serves.new_is) (serve_kept rules cut old kept serves.ready)
+        | inr later ↦ elim later [
+          | inl applies ↦ subst (IsKept rules cut) (sym applies.new_is) (apply_kept rules cut old kept (some_input old.journal old.applied applies.input applies.behind))
+          | inr other ↦ elim other [
+            | inl sends ↦
+                let of_view : IsViewKept rules old sends.view = found_view (IsViewKept rules old) old.views sends.view.id sends.view kept.each sends.live in
+                subst (IsKept rules cut) (sym sends.new_is)
+                (change_kept rules cut old kept sends.view.id sends.view (sent rules old sends.version sends.key) (λ v. refl) sends.live (sent_kept rules old sends.version sends.key sends.view sends.past sends.room of_view))
+            | inr cuts ↦ cut_kept rules cut old kept outs new cuts
+          ]
         ]
       ]
 
@@ -329,6 +355,7 @@ module _ {C B S : Type 0} (rules : Rules C B) (cut : C → Place → S) where
       subst (IsKept rules cut) (sym step.new_is) (hear_kept rules cut old kept id step.view (effect rules old step.view text) step.live (effect_good rules old step.view of_view text))
   steps_keep some old new Turned outs step kept = turn_keeps old new step.0 step.1 kept
   steps_keep some old new (Painted ticket scene) outs step kept = paints_keep old new ticket scene outs (find_job old.jobs ticket) refl step kept
+  steps_keep some old new (PutAnswered ticket result) outs step kept = subst (IsKept rules cut) (sym step.1) (answer_kept rules cut old kept ticket (receipt_of result))
 
   -- so does a run
   pub runs_keep : ((base : List ℕ) → 0 < parts_of rules base) → (events : List (Event S)) (old new : Document S) (outs : Outs S) → Segment rules cut old events outs new → IsKept rules cut old → IsKept rules cut new
@@ -351,4 +378,14 @@ module _ {C B S : Type 0} (rules : Rules C B) (cut : C → Place → S) where
     jobs_few = omega arith;
     tickets = tt;
     tickets_below = tt;
+    saving = record {
+      loaded = refl;
+      stored = (omega arith, tt);
+      marks = tt;
+      put = tt;
+      bound = tt;
+      few = λ view. omega arith;
+      token = λ none. refl;
+      room = λ lacks none. absurd (lacks refl);
+    };
   }

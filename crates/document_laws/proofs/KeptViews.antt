@@ -12,6 +12,7 @@ use Rattle.send_window.proofs.Closing.{filter_le}
 use Rattle.document_machine.specs.Due.{parts_of, has_room, is_current, is_due, takes, visible, with_version, asked_after, screen_after, sent}
 use Rattle.document_machine.specs.Keys.{Pairwise, is_among}
 use Rattle.document_machine.specs.Kept.{IsViewKept}
+use Rattle.save_core.specs.Saving.{Saving}
 use Rattle.document_machine.specs.State.{Shown, View, Job, Document, find_view, with_view, without_view}
 use Rattle.document_machine.specs.Step.{offered, views_offered}
 use Rattle.document_machine.specs.declared.limits.TheConstants.{MOST_ASKED, MOST_VIEWS}
@@ -40,7 +41,7 @@ pairwise_push R (y ∷ ys) x order before = (all_push (R y) ys x order.0 before.
 abbrev Earlier : Shown → Shown → Type 0
 Earlier p q = IsBefore p.key q.key
 
-screen_all : (P : Shown → Type 0) (screen : List Shown) (key : Place) (version : ℕ) → P (record { key = key; version = version }) → AllByRecursion P screen → AllByRecursion P (with_version screen key version)
+pub screen_all : (P : Shown → Type 0) (screen : List Shown) (key : Place) (version : ℕ) → P (record { key = key; version = version }) → AllByRecursion P screen → AllByRecursion P (with_version screen key version)
 screen_all P [] key version here all = (here, tt)
 screen_all P (shown ∷ screen) key version here all =
     let go : (a b : Bool) → AllByRecursion P (cond a (record { key = key; version = version } ∷ (shown ∷ screen)) (cond b (record { key = key; version = version } ∷ screen) (shown ∷ with_version screen key version))) = elim [
@@ -266,13 +267,13 @@ module _ {C B S : Type 0} (rules : Rules C B) (d : Document S) where
   offers_kept version [] views past all = all
   offers_kept version (key ∷ keys) views past all = offers_kept version keys (map (offered rules d version key) views) past (map_all (IsViewKept rules d) views (offered rules d version key) (λ view kept. offered_kept rules d version key view past kept) all)
 
-  -- the document with other views, jobs, and inputs
-  abbrev pub moved : (journal : List Input) (applied : ℕ) → List View → ℕ → List (Job S) → ℕ → Document S
-  moved journal applied views next_view jobs ticket = record d { journal = journal; applied = applied; views = views; next_view = next_view; jobs = jobs; next_ticket = ticket }
+  -- the document with other views, jobs, inputs and saves
+  abbrev pub moved : (journal : List Input) (applied : ℕ) → List View → ℕ → List (Job S) → ℕ → Saving → Document S
+  moved journal applied views next_view jobs ticket saving = record d { journal = journal; applied = applied; views = views; next_view = next_view; jobs = jobs; next_ticket = ticket; saving = saving }
 
   -- a view that is kept is kept in it, where no fewer inputs are applied
-  pub view_moved : (journal : List Input) (applied : ℕ) (views : List View) (next_view : ℕ) (jobs : List (Job S)) (ticket : ℕ) (view : View) → d.applied ≤ applied → IsViewKept rules d view → IsViewKept rules (moved journal applied views next_view jobs ticket) view
-  view_moved journal applied views next_view jobs ticket view le kept = record {
+  pub view_moved : (journal : List Input) (applied : ℕ) (views : List View) (next_view : ℕ) (jobs : List (Job S)) (ticket : ℕ) (saving : Saving) (view : View) → d.applied ≤ applied → IsViewKept rules d view → IsViewKept rules (moved journal applied views next_view jobs ticket saving) view
+  view_moved journal applied views next_view jobs ticket saving view le kept = record {
     part = kept.part;
     zoom = kept.zoom;
     seen = kept.seen;

@@ -1,6 +1,6 @@
 -- Why a view's tiles are numbered one after the other.
-use Rattle.std.proofs.Common.{◌≡◌, ◌≢◌, ℕ, zero, suc, ◌+◌, ◌<◌, Bool, true, false, cond, nat_eq, List, [], ◌∷◌, ◌++◌, length, map, Option, None, Some, refl, ap, sym, subst, ◌∙◌, arith, inl, inr, append_assoc}
-use Rattle.std.specs.Prelude.{nat_lt}
+use Rattle.std.proofs.Common.{◌≡◌, ◌≢◌, ℕ, zero, suc, ◌+◌, ◌<◌, Bool, true, false, cond, nat_eq, List, [], ◌∷◌, ◌++◌, length, map, Option, None, Some, Ok, Err, refl, ap, sym, subst, ◌∙◌, arith, inl, inr, append_assoc}
+use Rattle.std.specs.Prelude.{nat_lt, Result}
 use Rattle.std.specs.List.{flat_map, AllByRecursion}
 use Rattle.std.proofs.lemmas.Bool.{cases_Bool, eqb-true}
 use Rattle.std.proofs.lemmas.Bool.Decides.{nat_tests}
@@ -9,13 +9,18 @@ use Rattle.cool_frame.specs.declared.frame.Frame.{Frame}
 use Rattle.cool_frame.specs.declared.frame.Frame.TheVariants.{Server, Status, Invalidate, SaveDone, Error, Tile}
 use Rattle.kit_trait.specs.Rules.{Rules, doc}
 use Rattle.kit_trait.specs.declared.values.Damage.{Damage}
+use Rattle.outside.specs.declared.errands.Receipt.{Receipt}
+use Rattle.outside.specs.declared.faults.StoreFault.{StoreFault}
+use Rattle.save_core.specs.Saving.{answers, unmodified}
+use Rattle.save_core.specs.declared.values.SaveAnswer.{SaveAnswer}
 use Rattle.tile_key.specs.Places.{Place}
 use Rattle.document_machine.specs.Due.{takes, tile_frame, sent}
-use Rattle.document_machine.specs.Event.{Event, Joined, Left, Said, Turned, Painted}
+use Rattle.document_machine.specs.Event.{Event, Joined, Left, Said, Turned, Painted, PutAnswered}
 use Rattle.document_machine.specs.Keys.{Pairwise}
 use Rattle.document_machine.specs.Kept.{IsKept, IsViewKept}
 use Rattle.document_machine.specs.Message.{Effect, effect, heard}
 use Rattle.document_machine.specs.Outputs.{named, outs_of}
+use Rattle.document_machine.specs.Saves.{ending_frame, ending_frames, receipt_of, unmodified_frames}
 use Rattle.document_machine.specs.State.{View, Job, Document, opening_view, find_view, with_view, without_view, find_job}
 use Rattle.document_machine.specs.Step.{JoinsWhere, Works, TurnsTo, Paints, Step, status, told, offered, views_offered, tile_for, tiles_for}
 use Rattle.document_machine.specs.declared.limits.TheConstants.{MOST_VIEWS}
@@ -26,6 +31,7 @@ use Rattle.document_machine.specs.declared.rights.Rights.{Rights}
 use Rattle.document_laws.specs.Tiles.{number_in, numbers_to, counted, AreNumbered}
 use Rattle.document_laws.proofs.Heard.{IsGood, IsPlain, effect_good, heard_is, keeps}
 use Rattle.document_laws.proofs.KeptViews.{map_ids}
+use Rattle.document_laws.proofs.SaveFrames.{ending_all, none_by, unmodified_all}
 use Rattle.document_laws.proofs.Rising.{find_map, find_push, find_without, offered_id}
 use Rattle.document_laws.proofs.Views.{found_other, found_view, found_with}
 
@@ -72,6 +78,19 @@ all_replied id to (Status kit parts size view readonly ∷ frames) plain = all_r
 all_replied id to (Invalidate part rect ∷ frames) plain = all_replied id to frames plain.1
 all_replied id to (SaveDone inputs put ∷ frames) plain = all_replied id to frames plain.1
 all_replied id to (Error command kind code ∷ frames) plain = all_replied id to frames plain.1
+
+-- saves are answered by no tile
+no_number : (id : ℕ) (view : ViewId) (number : ℕ) (result : Result Receipt StoreFault) → number_in id (view, ending_frame result number) ≡ []
+no_number id view number (Ok receipt) = refl
+no_number id view number (Err fault) = refl
+
+unmodified_none : (id : ℕ) (views : List View) (number : ℕ) (ids : List ViewId) → numbers_to id (unmodified_frames views number ids) ≡ []
+unmodified_none id views number ids =
+    none_by (number_in id) (unmodified_frames views number ids) (unmodified_all (λ frame. number_in id frame ≡ []) views number ids (λ view. refl))
+
+ending_none : (id : ℕ) (views : List View) (result : Result Receipt StoreFault) (given : List SaveAnswer) → numbers_to id (ending_frames views result given) ≡ []
+ending_none id views result given =
+    none_by (number_in id) (ending_frames views result given) (ending_all (λ frame. number_in id frame ≡ []) views result given (λ view number. no_number id view number result))
 
 module _ {C B S : Type 0} (rules : Rules C B) (d : Document S) (n : ℕ) where
   -- the tile of one view
@@ -205,12 +224,16 @@ module _ {C B S : Type 0} (rules : Rules C B) (cut : C → Place → S) where
   works_numbered : (old new : Document S) (outs : Outs S) → Works rules cut old outs new → AllNumbered old.views outs new
   works_numbered old new outs works =
       elim works [
-        | inl applies ↦ no_tile old.views old.views (told old.views (rules.hurt (doc rules old.base old.journal old.applied) applies.input)) outs new (ap (λ o. o.frames) applies.outs_are) (ap (λ e. e.views) applies.new_is)
-            (λ id. all_told id old.views (rules.hurt (doc rules old.base old.journal old.applied) applies.input)) (unchanged old.views)
-        | inr other ↦ elim other [
-          | inl sends ↦ gives old.views (with_view old.views sends.view.id (sent rules old sends.version sends.key)) (tile_frame rules old sends.version sends.key sends.view ∷ []) outs new (ap (λ o. o.frames) sends.outs_are) (ap (λ e. e.views) sends.new_is)
-              (send_numbered old sends.view sends.key sends.version sends.live)
-          | inr cuts ↦ no_tile old.views old.views [] outs new (ap (λ o. o.frames) cuts.outs_are) (ap (λ e. e.views) cuts.new_is) (λ id. refl) (unchanged old.views)
+        | inl serves ↦ no_tile old.views old.views (unmodified_frames old.views old.applied (unmodified old.applied old.saving)) outs new (ap (λ o. o.frames) serves.outs_are) (ap (λ e. e.views) serves.new_is)
+            (λ id. unmodified_none id old.views old.applied (unmodified old.applied old.saving)) (unchanged old.views)
+        | inr later ↦ elim later [
+          | inl applies ↦ no_tile old.views old.views (told old.views (rules.hurt (doc rules old.base old.journal old.applied) applies.input)) outs new (ap (λ o. o.frames) applies.outs_are) (ap (λ e. e.views) applies.new_is)
+              (λ id. all_told id old.views (rules.hurt (doc rules old.base old.journal old.applied) applies.input)) (unchanged old.views)
+          | inr other ↦ elim other [
+            | inl sends ↦ gives old.views (with_view old.views sends.view.id (sent rules old sends.version sends.key)) (tile_frame rules old sends.version sends.key sends.view ∷ []) outs new (ap (λ o. o.frames) sends.outs_are) (ap (λ e. e.views) sends.new_is)
+                (send_numbered old sends.view sends.key sends.version sends.live)
+            | inr cuts ↦ no_tile old.views old.views [] outs new (ap (λ o. o.frames) cuts.outs_are) (ap (λ e. e.views) cuts.new_is) (λ id. refl) (unchanged old.views)
+          ]
         ]
       ]
 
@@ -249,3 +272,6 @@ module _ {C B S : Type 0} (rules : Rules C B) (cut : C → Place → S) where
       (λ id. all_replied id to e.frames good.frames) (heard_same old to step.view e step.live good)
   steps_numbered old new Turned outs kept step = turn_numbered old new step.0 outs step.1 step.2
   steps_numbered old new (Painted ticket scene) outs kept step = paints_numbered old new ticket scene outs (find_job old.jobs ticket) kept step
+  steps_numbered old new (PutAnswered ticket result) outs kept step =
+      no_tile old.views old.views (ending_frames old.views result (answers ticket (receipt_of result) old.saving)) outs new (ap (λ o. o.frames) step.0) (ap (λ e. e.views) step.1)
+      (λ id. ending_none id old.views result (answers ticket (receipt_of result) old.saving)) (unchanged old.views)

@@ -1,5 +1,5 @@
 -- Keys put in order: which there are, and how many of them pass a test.
-use Rattle.std.proofs.Common.{◌≡◌, ◌≢◌, ◌<◌, ◌+◌, ℕ, suc, Bool, true, false, not, ◌&&◌, ◌||◌, cond, List, [], ◌∷◌, length, All, AllPairs, refl, sym, ap, subst, ◌∙◌, inl, inr, arith}
+use Rattle.std.proofs.Common.{◌≡◌, ◌≢◌, ◌<◌, ◌+◌, ℕ, suc, Bool, true, false, not, ◌&&◌, ◌||◌, cond, List, [], ◌∷◌, ◌++◌, length, All, AllPairs, refl, sym, ap, subst, ◌∙◌, inl, inr, arith}
 use Rattle.std.specs.List.{count_by, AllByRecursion}
 use Rattle.std.specs.Ordering.{is_lt}
 use Rattle.std.proofs.lemmas.Bool.{cases_Bool}
@@ -19,6 +19,11 @@ both P Q R (x ∷ xs) f ps qs = (f x ps.0 qs.0, both P Q R xs f ps.1 qs.1)
 pub weaker : {X : Type 0} (P Q : X → Type 0) (xs : List X) → ((x : X) → P x → Q x) → AllByRecursion P xs → AllByRecursion Q xs
 weaker P Q [] f ps = tt
 weaker P Q (x ∷ xs) f ps = (f x ps.0, weaker P Q xs f ps.1)
+
+-- what holds of two lists holds of both together
+pub all_both : {X : Type 0} (P : X → Type 0) (xs ys : List X) → AllByRecursion P xs → AllByRecursion P ys → AllByRecursion P (xs ++ ys)
+all_both P [] ys a b = b
+all_both P (x ∷ xs) ys a b = (a.0, all_both P xs ys a.1 b)
 
 -- what holds of the keys of a list and of one more holds once that one is put in
 pub all_inserted : (P : Place → Type 0) (list : List Place) (key : Place) → P key → AllByRecursion P list → AllByRecursion P (inserted list key)

@@ -7,7 +7,7 @@ use Rattle.std.proofs.lemmas.Bool.Decides.{nat_tests}
 use Rattle.kit_trait.specs.Rules.{Rules}
 use Rattle.tile_key.specs.Places.{Place, same_place}
 use Rattle.document_machine.specs.Due.{has_room, is_current, is_due, is_lacking, is_newer, is_not_back, takes, visible, version_of, without_version, asked_after, screen_after, sees_or_asks, sent}
-use Rattle.document_machine.specs.Event.{Event, Joined, Left, Said, Turned, Painted}
+use Rattle.document_machine.specs.Event.{Event, Joined, Left, Said, Turned, Painted, PutAnswered}
 use Rattle.document_machine.specs.Keys.{Pairwise, is_among}
 use Rattle.document_machine.specs.Kept.{IsKept, IsViewKept}
 use Rattle.document_machine.specs.Message.{Effect, effect, heard}
@@ -253,19 +253,22 @@ module _ {C B S : Type 0} (rules : Rules C B) (cut : C → Place → S) where
   works_rise : (old new : Document S) (outs : Outs S) → Works rules cut old outs new → AllRise old.views new
   works_rise old new outs works =
       elim works [
-        | inl applies ↦ subst (AllRise old.views) (sym applies.new_is) (unchanged_rise old.views)
-        | inr other ↦ elim other [
-          | inl sends ↦
-              let change : View → View = sent rules old sends.version sends.key in
-              subst (AllRise old.views) (sym sends.new_is)
-              (with_rise old.views sends.view.id change (λ v. refl)
-              (λ v live.
-              let e : Some sends.view ≡ Some v = sym sends.live ∙ live in
-              let eq : sends.view ≡ v = cc in
-              subst (λ x. IsNoStepBack x (change x)) eq
-              (no_step_back rules old sends.version sends.view (change sends.view)
-              (λ key. sent_follows rules old sends.version sends.view sends.key key sends.view sends.not_back sends.due (inl refl)))))
-          | inr cuts ↦ subst (AllRise old.views) (sym cuts.new_is) (unchanged_rise old.views)
+        | inl serves ↦ subst (AllRise old.views) (sym serves.new_is) (unchanged_rise old.views)
+        | inr later ↦ elim later [
+          | inl applies ↦ subst (AllRise old.views) (sym applies.new_is) (unchanged_rise old.views)
+          | inr other ↦ elim other [
+            | inl sends ↦
+                let change : View → View = sent rules old sends.version sends.key in
+                subst (AllRise old.views) (sym sends.new_is)
+                (with_rise old.views sends.view.id change (λ v. refl)
+                (λ v live.
+                let e : Some sends.view ≡ Some v = sym sends.live ∙ live in
+                let eq : sends.view ≡ v = cc in
+                subst (λ x. IsNoStepBack x (change x)) eq
+                (no_step_back rules old sends.version sends.view (change sends.view)
+                (λ key. sent_follows rules old sends.version sends.view sends.key key sends.view sends.not_back sends.due (inl refl)))))
+            | inr cuts ↦ subst (AllRise old.views) (sym cuts.new_is) (unchanged_rise old.views)
+          ]
         ]
       ]
 
@@ -294,3 +297,4 @@ module _ {C B S : Type 0} (rules : Rules C B) (cut : C → Place → S) where
   steps_rise old new Turned outs kept step =
       turn_rises old new step.0 step.1
   steps_rise old new (Painted ticket scene) outs kept step = paints_rise old new ticket scene outs (find_job old.jobs ticket) step
+  steps_rise old new (PutAnswered ticket result) outs kept step = subst (AllRise old.views) (sym step.1) (unchanged_rise old.views)

@@ -1,6 +1,6 @@
 -- Why a tile is what its view's screen then has, and why versions of tiles never go down.
-use Rattle.std.proofs.Common.{◌≡◌, ℕ, ◌<◌, ◌≤◌, Bool, true, false, ◌&&◌, ◌||◌, cond, nat_eq, List, [], ◌∷◌, ◌++◌, length, map, Option, None, Some, refl, ap, sym, subst, ◌∙◌, arith, inl, inr, append_assoc, append-nil}
-use Rattle.std.specs.Prelude.{◌⊎◌, nat_lt}
+use Rattle.std.proofs.Common.{◌≡◌, ℕ, ◌<◌, ◌≤◌, Bool, true, false, ◌&&◌, ◌||◌, cond, nat_eq, List, [], ◌∷◌, ◌++◌, length, map, Option, None, Some, Ok, Err, refl, ap, sym, subst, ◌∙◌, arith, inl, inr, append_assoc, append-nil}
+use Rattle.std.specs.Prelude.{◌⊎◌, nat_lt, Result}
 use Rattle.std.specs.List.{flat_map, AllByRecursion}
 use Rattle.std.proofs.lemmas.Bool.{cases_Bool, and_parts, eqb-true, leb-true}
 use Rattle.std.proofs.lemmas.Bool.Decides.{nat_tests}
@@ -9,14 +9,19 @@ use Rattle.cool_frame.specs.declared.frame.Frame.{Frame}
 use Rattle.cool_frame.specs.declared.frame.Frame.TheVariants.{Server, Status, Invalidate, SaveDone, Error, Tile}
 use Rattle.kit_trait.specs.Rules.{Rules, doc}
 use Rattle.kit_trait.specs.declared.values.Damage.{Damage}
+use Rattle.outside.specs.declared.errands.Receipt.{Receipt}
+use Rattle.outside.specs.declared.faults.StoreFault.{StoreFault}
+use Rattle.save_core.specs.Saving.{answers, unmodified}
+use Rattle.save_core.specs.declared.values.SaveAnswer.{SaveAnswer}
 use Rattle.tile_key.specs.Places.{Place, same_place}
 use Rattle.document_machine.specs.Due.{parts_of, has_room, is_current, is_due, is_newer, is_not_back, takes, visible, version_of, asked_after, screen_after, sees_or_asks, sent, tile_frame}
-use Rattle.document_machine.specs.Event.{Event, Joined, Left, Said, Turned, Painted}
+use Rattle.document_machine.specs.Event.{Event, Joined, Left, Said, Turned, Painted, PutAnswered}
 use Rattle.document_machine.specs.Keys.{Pairwise, is_among}
 use Rattle.document_machine.specs.Kept.{IsKept, IsViewKept}
 use Rattle.document_machine.specs.Message.{Effect, effect}
 use Rattle.document_machine.specs.Outputs.{named, outs_of}
 use Rattle.document_machine.specs.Run.{Run}
+use Rattle.document_machine.specs.Saves.{ending_frame, ending_frames, receipt_of, unmodified_frames}
 use Rattle.document_machine.specs.State.{View, Job, Document, find_view, with_view, find_job}
 use Rattle.document_machine.specs.Step.{JoinsWhere, Works, TurnsTo, Paints, Step, told, offered, views_offered, tile_for, tiles_for}
 use Rattle.document_machine.specs.declared.limits.TheConstants.{MOST_VIEWS}
@@ -28,10 +33,11 @@ use Rattle.document_laws.specs.Tiles.{IsOnScreen, AreDelivered, HasKey, StepsWit
 use Rattle.document_laws.proofs.Heard.{IsGood, IsPlain, effect_good}
 use Rattle.document_laws.proofs.KeyOrder.{same_is}
 use Rattle.document_laws.proofs.KeptViews.{asked_still, map_ids}
-use Rattle.document_laws.proofs.Ordered.{weaker}
+use Rattle.document_laws.proofs.Ordered.{all_both, weaker}
+use Rattle.document_laws.proofs.SaveFrames.{ending_all, none_by, unmodified_all}
 use Rattle.document_laws.proofs.Rising.{Follows, back_before, find_map, find_offers, newer_not_back, offered_follows, offered_id, offers_to, steps_rise, without_same}
 use Rattle.document_laws.proofs.Sending.{with_same, screen_other}
-use Rattle.document_laws.proofs.Kept.{all_both, steps_keep}
+use Rattle.document_laws.proofs.Kept.{steps_keep}
 use Rattle.document_laws.proofs.Views.{found_view, found_with}
 
 -- versions in two lists of frames
@@ -61,6 +67,19 @@ all_replied id key to (Status kit parts size view readonly ∷ frames) plain = a
 all_replied id key to (Invalidate part rect ∷ frames) plain = all_replied id key to frames plain.1
 all_replied id key to (SaveDone inputs put ∷ frames) plain = all_replied id key to frames plain.1
 all_replied id key to (Error command kind code ∷ frames) plain = all_replied id key to frames plain.1
+
+-- saves are answered by no tile
+no_version : (id : ℕ) (key : Place) (view : ViewId) (number : ℕ) (result : Result Receipt StoreFault) → version_in id key (view, ending_frame result number) ≡ []
+no_version id key view number (Ok receipt) = refl
+no_version id key view number (Err fault) = refl
+
+unmodified_none : (id : ℕ) (key : Place) (views : List View) (number : ℕ) (ids : List ViewId) → versions_to id key (unmodified_frames views number ids) ≡ []
+unmodified_none id key views number ids =
+    none_by (version_in id key) (unmodified_frames views number ids) (unmodified_all (λ frame. version_in id key frame ≡ []) views number ids (λ view. refl))
+
+ending_none : (id : ℕ) (key : Place) (views : List View) (result : Result Receipt StoreFault) (given : List SaveAnswer) → versions_to id key (ending_frames views result given) ≡ []
+ending_none id key views result given =
+    none_by (version_in id key) (ending_frames views result given) (ending_all (λ frame. version_in id key frame ≡ []) views result given (λ view number. no_version id key view number result))
 
 module _ {C B S : Type 0} (rules : Rules C B) (d : Document S) (n : ℕ) where
   -- a tile that was sent is on the screen, and stays there while others are offered
@@ -275,11 +294,15 @@ module _ {C B S : Type 0} (rules : Rules C B) (cut : C → Place → S) where
   works_deliver : (old new : Document S) (outs : Outs S) → Works rules cut old outs new → AllDelivered old outs new
   works_deliver old new outs works =
       elim works [
-        | inl applies ↦ no_tiles old new (told old.views (rules.hurt (doc rules old.base old.journal old.applied) applies.input)) outs (ap (λ o. o.frames) applies.outs_are)
-            (λ id key. all_told id key old.views (rules.hurt (doc rules old.base old.journal old.applied) applies.input))
-        | inr other ↦ elim other [
-          | inl sends ↦ send_delivers old new sends.view sends.key sends.version outs sends.live sends.not_back (ap (λ o. o.frames) sends.outs_are) sends.new_is
-          | inr cuts ↦ no_tiles old new [] outs (ap (λ o. o.frames) cuts.outs_are) (λ id key. refl)
+        | inl serves ↦ no_tiles old new (unmodified_frames old.views old.applied (unmodified old.applied old.saving)) outs (ap (λ o. o.frames) serves.outs_are)
+            (λ id key. unmodified_none id key old.views old.applied (unmodified old.applied old.saving))
+        | inr later ↦ elim later [
+          | inl applies ↦ no_tiles old new (told old.views (rules.hurt (doc rules old.base old.journal old.applied) applies.input)) outs (ap (λ o. o.frames) applies.outs_are)
+              (λ id key. all_told id key old.views (rules.hurt (doc rules old.base old.journal old.applied) applies.input))
+          | inr other ↦ elim other [
+            | inl sends ↦ send_delivers old new sends.view sends.key sends.version outs sends.live sends.not_back (ap (λ o. o.frames) sends.outs_are) sends.new_is
+            | inr cuts ↦ no_tiles old new [] outs (ap (λ o. o.frames) cuts.outs_are) (λ id key. refl)
+          ]
         ]
       ]
 
@@ -310,6 +333,9 @@ module _ {C B S : Type 0} (rules : Rules C B) (cut : C → Place → S) where
       no_tiles old new (map (λ frame. (named to, frame)) e.frames) outs (ap (λ o. o.frames) step.outs_are) (λ id key. all_replied id key to e.frames good.frames)
   steps_deliver old new Turned outs kept step = turn_delivers old new step.0 outs step.1 step.2
   steps_deliver old new (Painted ticket scene) outs kept step = paints_deliver old new ticket scene outs (find_job old.jobs ticket) kept step
+  steps_deliver old new (PutAnswered ticket result) outs kept step =
+      no_tiles old new (ending_frames old.views result (answers ticket (receipt_of result) old.saving)) outs (ap (λ o. o.frames) step.0)
+      (λ id key. ending_none id key old.views result (answers ticket (receipt_of result) old.saving))
 
   module _ (some : (base : List ℕ) → 0 < parts_of rules base) (id : ℕ) (key : Place) where
     -- while the screen of a view has a key, its version doesn't go down

@@ -1,6 +1,6 @@
 -- Why each tile shows the document after a prefix of its inputs.
-use Rattle.std.proofs.Common.{◌≡◌, ℕ, ◌+◌, ◌<◌, ◌≤◌, Bool, true, false, cond, List, [], ◌∷◌, ◌++◌, length, map, Option, None, Some, refl, ap, sym, subst, ◌∙◌, arith, inl, inr, length-append, append_assoc, append-nil}
-use Rattle.std.specs.Prelude.{nat_lt}
+use Rattle.std.proofs.Common.{◌≡◌, ℕ, ◌+◌, ◌<◌, ◌≤◌, Bool, true, false, cond, List, [], ◌∷◌, ◌++◌, length, map, Option, None, Some, Ok, Err, refl, ap, sym, subst, ◌∙◌, arith, inl, inr, length-append, append_assoc, append-nil}
+use Rattle.std.specs.Prelude.{nat_lt, Result}
 use Rattle.std.specs.List.{flat_map, AllByRecursion}
 use Rattle.std.proofs.lemmas.List.{take-append-le}
 use Rattle.cool_base.specs.declared.ids.ViewId.{ViewId}
@@ -9,13 +9,17 @@ use Rattle.cool_frame.specs.declared.frame.Frame.TheVariants.{Status, Invalidate
 use Rattle.kit_trait.specs.Rules.{Rules, after, doc, shown}
 use Rattle.kit_trait.specs.declared.values.Damage.{Damage}
 use Rattle.kit_trait.specs.declared.values.Input.{Input}
+use Rattle.outside.specs.declared.errands.Receipt.{Receipt}
+use Rattle.outside.specs.declared.faults.StoreFault.{StoreFault}
+use Rattle.save_core.specs.Saving.{answers, unmodified}
 use Rattle.tile_key.specs.Places.{Place}
 use Rattle.document_machine.specs.Due.{parts_of, takes, tile_frame}
-use Rattle.document_machine.specs.Event.{Event, Joined, Left, Said, Turned, Painted}
+use Rattle.document_machine.specs.Event.{Event, Joined, Left, Said, Turned, Painted, PutAnswered}
 use Rattle.document_machine.specs.Kept.{IsKept, IsViewKept, IsJobKept}
 use Rattle.document_machine.specs.Message.{Effect, effect, heard}
 use Rattle.document_machine.specs.Outputs.{named, outs_of}
 use Rattle.document_machine.specs.Run.{Segment}
+use Rattle.document_machine.specs.Saves.{ending_frame, receipt_of}
 use Rattle.document_machine.specs.State.{View, Job, Document, find_job}
 use Rattle.document_machine.specs.Step.{JoinsWhere, Works, TurnsTo, Paints, Step, told, offered, tile_for, tiles_for}
 use Rattle.document_machine.specs.declared.limits.TheConstants.{MOST_VIEWS}
@@ -25,8 +29,9 @@ use Rattle.document_machine.specs.declared.outs.Turned.TheVariants.{Worked, Idle
 use Rattle.document_machine.specs.declared.rights.Rights.{Rights}
 use Rattle.document_laws.specs.Tiles.{IsShown}
 use Rattle.document_laws.proofs.Heard.{IsGood, IsPlain, effect_good}
-use Rattle.document_laws.proofs.Kept.{all_both, found_job, steps_keep}
-use Rattle.document_laws.proofs.Ordered.{weaker}
+use Rattle.document_laws.proofs.Kept.{found_job, steps_keep}
+use Rattle.document_laws.proofs.Ordered.{all_both, weaker}
+use Rattle.document_laws.proofs.SaveFrames.{ending_all, unmodified_all}
 use Rattle.document_laws.proofs.Views.{found_view}
 
 module _ {C B : Type 0} (rules : Rules C B) (base : List ℕ) (journal : List Input) (most : ℕ) where
@@ -49,9 +54,15 @@ module _ {C B : Type 0} (rules : Rules C B) (base : List ℕ) (journal : List In
   all_replied id (SaveDone inputs put ∷ frames) plain = (tt, all_replied id frames plain.1)
   all_replied id (Error command kind code ∷ frames) plain = (tt, all_replied id frames plain.1)
 
+-- nor does the answer to a put give one
+module _ {C B : Type 0} (rules : Rules C B) (base : List ℕ) (journal : List Input) (most : ℕ) where
+  ending_shown : (id : ViewId) (number : ℕ) (result : Result Receipt StoreFault) → IsShown rules base journal most (id, ending_frame result number)
+  ending_shown id number (Ok receipt) = tt
+  ending_shown id number (Err fault) = tt
+
 -- a frame still shows what it says when inputs are behind those that there were
 module _ {C B : Type 0} (rules : Rules C B) (base : List ℕ) where
-  doc_more : (journal more : List Input) (n : ℕ) → n ≤ length journal → doc rules base (journal ++ more) n ≡ doc rules base journal n
+  pub doc_more : (journal more : List Input) (n : ℕ) → n ≤ length journal → doc rules base (journal ++ more) n ≡ doc rules base journal n
   doc_more journal more n le = ap (λ inputs. after rules (rules.start base) inputs) (take-append-le n journal more le)
 
   shown_more : (journal more : List Input) (most further : ℕ) → most ≤ length journal → most ≤ further → (frame : ViewId × Frame) → IsShown rules base journal most frame → IsShown rules base (journal ++ more) further frame
@@ -99,10 +110,13 @@ module _ {C B S : Type 0} (rules : Rules C B) (cut : C → Place → S) where
   works_show : (old new : Document S) (outs : Outs S) → Works rules cut old outs new → AllShown old outs
   works_show old new outs works =
       elim works [
-        | inl applies ↦ subst (AllShown old) (sym applies.outs_are) (all_told rules old.base old.journal old.applied old.views (rules.hurt (doc rules old.base old.journal old.applied) applies.input))
-        | inr other ↦ elim other [
-          | inl sends ↦ subst (AllShown old) (sym sends.outs_are) ((sends.past, refl), tt)
-          | inr cuts ↦ subst (AllShown old) (sym cuts.outs_are) tt
+        | inl serves ↦ subst (AllShown old) (sym serves.outs_are) (unmodified_all (Shows rules old) old.views old.applied (unmodified old.applied old.saving) (λ id. tt))
+        | inr later ↦ elim later [
+          | inl applies ↦ subst (AllShown old) (sym applies.outs_are) (all_told rules old.base old.journal old.applied old.views (rules.hurt (doc rules old.base old.journal old.applied) applies.input))
+          | inr other ↦ elim other [
+            | inl sends ↦ subst (AllShown old) (sym sends.outs_are) ((sends.past, refl), tt)
+            | inr cuts ↦ subst (AllShown old) (sym cuts.outs_are) tt
+          ]
         ]
       ]
 
@@ -134,6 +148,9 @@ module _ {C B S : Type 0} (rules : Rules C B) (cut : C → Place → S) where
       subst (AllShown old) (sym step.outs_are) (all_replied rules old.base old.journal old.applied id e.frames good.frames)
   step_shows old new Turned outs kept step = turn_shows old new step.0 outs step.1 step.2
   step_shows old new (Painted ticket scene) outs kept step = paints_show old new ticket scene outs (find_job old.jobs ticket) kept refl step
+  step_shows old new (PutAnswered ticket result) outs kept step =
+      subst (AllShown old) (sym step.0)
+      (ending_all (Shows rules old) old.views result (answers ticket (receipt_of result) old.saving) (λ id number. ending_shown rules old.base old.journal old.applied id number result))
 
   -- the inputs of a document go on, and its file stays
   abbrev GoesOn : Document S → Document S → Type 0
@@ -148,10 +165,13 @@ module _ {C B S : Type 0} (rules : Rules C B) (cut : C → Place → S) where
   works_on : (old new : Document S) (outs : Outs S) → Works rules cut old outs new → GoesOn old new
   works_on old new outs works =
       elim works [
-        | inl applies ↦ subst (GoesOn old) (sym applies.new_is) (stays old)
-        | inr other ↦ elim other [
-          | inl sends ↦ subst (GoesOn old) (sym sends.new_is) (stays old)
-          | inr cuts ↦ subst (GoesOn old) (sym cuts.new_is) (stays old)
+        | inl serves ↦ subst (GoesOn old) (sym serves.new_is) (stays old)
+        | inr later ↦ elim later [
+          | inl applies ↦ subst (GoesOn old) (sym applies.new_is) (stays old)
+          | inr other ↦ elim other [
+            | inl sends ↦ subst (GoesOn old) (sym sends.new_is) (stays old)
+            | inr cuts ↦ subst (GoesOn old) (sym cuts.new_is) (stays old)
+          ]
         ]
       ]
 
@@ -177,6 +197,7 @@ module _ {C B S : Type 0} (rules : Rules C B) (cut : C → Place → S) where
   step_on old new (Said id text) outs step = subst (GoesOn old) (sym step.new_is) (heard_on old id (effect rules old step.view text))
   step_on old new Turned outs step = turn_on old new step.0 step.1
   step_on old new (Painted ticket scene) outs step = paints_on old new ticket scene outs (find_job old.jobs ticket) step
+  step_on old new (PutAnswered ticket result) outs step = subst (GoesOn old) (sym step.1) (stays old)
 
   goes_on : (old mid new : Document S) → GoesOn old mid → GoesOn mid new → GoesOn old new
   goes_on old mid new a b = (b.0 ∙ a.0, a.1 ++ b.1, b.2 ∙ ap (λ j. j ++ b.1) a.2 ∙ append_assoc old.journal a.1 b.1)

@@ -22,6 +22,16 @@ found_view P (v ∷ vs) id view all e =
     ] in
     go (nat_eq v.id id) e
 
+-- the view with an id has it
+pub found_id : (views : List View) (id : ℕ) (view : View) → find_view views id ≡ Some view → view.id ≡ id
+found_id [] id view e = absurd (cc)
+found_id (v ∷ vs) id view e =
+    let go : (b : Bool) → nat_eq v.id id ≡ b → cond b (Some v) (find_view vs id) ≡ Some view → view.id ≡ id = elim [
+      | true ↦ λ here is. let same : view ≡ v = cc in ap (λ x. x.id) same ∙ eqb-true v.id id here
+      | false ↦ λ away is. found_id vs id view is
+    ] in
+    go (nat_eq v.id id) refl e
+
 -- an input behind the first n is there
 pub some_input : (journal : List Input) (n : ℕ) (input : Input) → slice_get journal n ≡ Some input → n < length journal
 some_input journal n input is =

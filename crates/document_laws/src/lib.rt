@@ -157,8 +157,8 @@ pub fn works_leave_less<K: Kit>()
         → IsKept K.rules K.cut old → left_to_do K.rules new < left_to_do K.rules old }
 {}
 
-/// A painted result of a job that is out leaves less to do, also where it is of fewer inputs than are applied
-/// and where no view takes it.
+/// A painted result of a job that is out leaves less to do, also where it is of fewer inputs than
+/// are applied and where no view takes it.
 pub fn painted_lowers<K: Kit>()
     ensures { (old new : Document K.Scene) (ticket : ℕ) (job : Job K.Scene) (outs : Given K.Scene)
         → find_job old.jobs ticket ≡ Some job → IsKept K.rules K.cut old
@@ -183,8 +183,9 @@ pub fn cut_and_painted_lowers<K: Kit>()
         → (new.jobs ≡ old.jobs) × (left_to_do K.rules new < left_to_do K.rules old) }
 {}
 
-/// A turn that does a work, with each job that it gives out painted directly behind it, in order, leaves less
-/// to do, and the jobs that were out. So turns whose jobs are painted at once come to an end.
+/// A turn that does a work, with each job that it gives out painted directly behind it, in order,
+/// leaves less to do, and the jobs that were out. So turns whose jobs are painted at once come to
+/// an end.
 pub fn at_once_lowers<K: Kit>()
     ensures { (old mid new : Document K.Scene) (outs later : Given K.Scene)
         → Works K.rules K.cut old outs mid → IsKept K.rules K.cut old
@@ -231,9 +232,10 @@ pub fn written_lowers<K: Kit>()
         → IsAcknowledged K.rules d id view outs new }
 {}
 
-/// Whatever is kept, there is nothing to do where no work is next (`idle`), if no more inputs are applied than
-/// accepted, and with nothing kept no work is next where there is nothing to do (`rests`). A pair that is next can be served, and is one of a view with
-/// room that is due the key (`next`). So a broker that does the work that is next leaves none undone.
+/// Whatever is kept, there is nothing to do where no work is next and no more inputs are applied
+/// than accepted (`idle`), and with nothing kept no work is next where there is nothing to do
+/// (`rests`). A pair that is next can be served, and is one of a view with room that is due the key
+/// (`next`). So a broker that does the work that is next leaves none undone.
 pub fn idle_exactly<K: Kit>()
     ensures idle { (kept : Place → Option ℕ) (d : Document K.Scene)
         → d.applied ≤ length d.journal → pick K.rules kept d ≡ Rest → Rests K.rules d }
@@ -252,8 +254,8 @@ pub fn next_is_done<K: Kit>()
         × DoesNext K.rules K.cut held turned new }
 {}
 
-/// Whatever is kept, each due pair has its key in a job out, or its view has no room, or 64 jobs are out, or a
-/// work is next.
+/// Whatever is kept, each due pair has its key in a job out, or its view has no room, or 64 jobs
+/// are out, or a work is next.
 pub fn due_is_under_way<K: Kit>()
     ensures { (kept : Place → Option ℕ) (d : Document K.Scene)
         → AllByRecursion (λ view. AllByRecursion (λ key. is_due K.rules d view key ≡ true
@@ -291,44 +293,50 @@ pub fn steps_keep<K: Kit>()
         → IsKept K.rules K.cut new }
 {}
 
-/// A document as it is loaded, of which no tile is kept, has all that holds of one that a broker keeps with its
-/// tiles (`IsHeld`), and so has every move.
+/// A document as it is loaded, of which no tile is kept, has all that holds of one that a broker
+/// keeps with its tiles (`IsHeld`), and so has every move.
 pub fn moves_keep<K: Kit>()
     ensures opening { (file base : List ℕ) → K.rules.accepts base ≡ true
         → IsHeld K.rules K.cut (opening_held {S = K.Scene} file base) }
     ensures step { (old new : Held K.Scene) (event : Happening K.Scene) (outs : Given K.Scene)
         → Moves K.rules K.cut old event outs new → IsHeld K.rules K.cut old
         → IsHeld K.rules K.cut new }
-    ensures run { (events : List (Happening K.Scene)) (old new : Held K.Scene) (outs : Given K.Scene)
+    ensures run { (events : List (Happening K.Scene)) (old new : Held K.Scene)
+        (outs : Given K.Scene)
         → Run (Moves K.rules K.cut) old events outs new → IsHeld K.rules K.cut old
         → IsHeld K.rules K.cut new }
 {}
 
-/// Each view that a step tells that its save is done had one that waited: no more inputs were accepted before
-/// it than the number in the frame says, that many are applied, and a content of that many is stored. Where
-/// the frame says `put`, the step is a receipt of that very content in the document's file (`step`). In a run
-/// that began with a loaded document each save that waits was said by its view, where as many inputs were
-/// accepted as its mark says (`waiting`), and each view that is told that its save is done said one before,
-/// with no more inputs accepted than the number says (`run`).
+/// Each view that a step tells that its save is done had one that waited: no more inputs were
+/// accepted before it than the number in the frame says, that many are applied, and a content of
+/// that many is stored. Where the frame says `put`, the step is a receipt of that very content in
+/// the document's file (`step`). In a run that began with a loaded document each save that waits
+/// was said by its view, where as many inputs were accepted as its mark says (`waiting`), and each
+/// view that is told that its save is done said one before, with no more inputs accepted than the
+/// number says (`run`).
 pub fn saves_are_stored<K: Kit>()
     ensures step { (old new : Document K.Scene) (event : Happening K.Scene) (outs : Given K.Scene)
         → IsKept K.rules K.cut old → Step K.rules K.cut old event outs new
         → AllByRecursion (IsTrue K.rules old event new) outs.frames }
-    ensures waiting { (file base : List ℕ) (events : List (Happening K.Scene)) (outs : Given K.Scene) (d : Document K.Scene)
+    ensures waiting { (file base : List ℕ) (events : List (Happening K.Scene))
+        (outs : Given K.Scene) (d : Document K.Scene)
         → Segment K.rules K.cut (opening file base) events outs d
         → AllByRecursion (IsOfRun K.rules K.cut (opening file base) events d) d.saving.saves }
-    ensures run { (file base : List ℕ) (events : List (Happening K.Scene)) (given : Given K.Scene) (d : Document K.Scene)
+    ensures run { (file base : List ℕ) (events : List (Happening K.Scene))
+        (given : Given K.Scene) (d : Document K.Scene)
         (event : Happening K.Scene) (outs : Given K.Scene) (new : Document K.Scene)
-        → K.rules.accepts base ≡ true → Segment K.rules K.cut (opening file base) events given d
+        → K.rules.accepts base ≡ true
+        → Segment K.rules K.cut (opening file base) events given d
         → Step K.rules K.cut d event outs new
         → AllByRecursion (FollowsItsSave K.rules K.cut (opening file base) events d) outs.frames }
 {}
 
-/// In a run that began with a loaded document each stored content but the loaded file was put: a receipt of it
-/// came, and it is the document's after as many inputs as its number says.
+/// In a run that began with a loaded document each stored content but the loaded file was put: a
+/// receipt of it came, and it is the document's after as many inputs as its number says.
 pub fn contents_were_put<K: Kit>()
-    ensures { (file base : List ℕ) (events : List (Happening K.Scene)) (outs : Given K.Scene) (d : Document K.Scene)
-        → K.rules.accepts base ≡ true → Segment K.rules K.cut (opening file base) events outs d
+    ensures { (file base : List ℕ) (events : List (Happening K.Scene)) (outs : Given K.Scene)
+        (d : Document K.Scene) → K.rules.accepts base ≡ true
+        → Segment K.rules K.cut (opening file base) events outs d
         → ArePut K.rules events d }
 {}
 

@@ -95,9 +95,8 @@ pub record IsKept {C B S : Type 0} (rules : Rules C B) (cut : C → Place → S)
   pub tickets_below : AllByRecursion (λ job. job.ticket < d.next_ticket) d.jobs
   pub saving : IsSavingKept rules d
 
--- a kept tile is of a key of the document's parts, in a version that is applied
+-- a kept tile is of one of the document's parts, in a version that is applied
 pub record IsTileKept {C B S : Type 0} (rules : Rules C B) (d : Document S) (tile : KeptTile) : Type 0 where
-  pub key : IsKey tile.key
   pub part : tile.key.part < parts_of rules d.base
   pub version : tile.version ≤ d.applied
 
