@@ -12,6 +12,7 @@ pub mod KeyOrder
 pub mod Lower
 pub mod Moving
 pub mod Numbered
+pub mod Offers
 pub mod Onward
 pub mod Ordered
 pub mod Picked
@@ -26,6 +27,7 @@ pub mod Saved
 pub mod Saving
 pub mod Screens
 pub mod Sending
+pub mod Sums
 pub mod Tiles
 pub mod Untouched
 pub mod Views

@@ -52,7 +52,7 @@ module _ {C B S : Type 0} (rules : Rules C B) (d : Document S) where
       let move : (p q : Place) → same_place p q ≡ true → HasPoint p → HasPoint q = λ p q e here. subst HasPoint (same_is p q e) here in
       let seen_by : (a b c : Bool) → c ≡ false → ((a && b) || c) ≡ true → a ≡ true = elim [
         | true ↦ λ b c off e. refl
-        | false ↦ λ b c off e. absurd (cc)
+        | false ↦ λ b c off e. let on : c ≡ true = e in absurd (cc)
       ] in
       elim (cases_Bool (is_among view.asked key)) [
         | inl asked ↦ holds_among HasPoint view.asked key move ready.asked_points asked
@@ -88,7 +88,7 @@ module _ {C B S : Type 0} (rules : Rules C B) (d : Document S) where
   unwanted_same number (key ∷ keys) views none =
       let parts = or_parts (wanted_by views key) (list_any (wanted_by views) keys) none in
       let not_taken : list_any (takes rules d number key) views ≡ false = elim (cases_Bool (list_any (takes rules d number key) views)) [
-        | inl some ↦ absurd (let wanted : wanted_by views key ≡ true = any_le (takes rules d number key) (λ view. has_room view && is_due rules d view key) views (λ view taken. let is = taken_parts number key view taken in rw (is.0, is.1) refl) some in let off = parts.0 in cc)
+        | inl some ↦ absurd (let wanted : wanted_by views key ≡ true = any_le (takes rules d number key) (λ view. has_room view && is_due rules d view key) views (λ view taken. let is = taken_parts number key view taken in let yes : (has_room view && is_due rules d view key) ≡ true = rw (is.0, is.1) refl in yes) some in let off = parts.0 in cc)
         | inr none_takes ↦ none_takes
       ] in
       ap (λ vs. views_offered rules d number keys vs) (offers_same number key views not_taken) ∙ unwanted_same number keys views parts.1

@@ -166,14 +166,14 @@ module _ {C B S : Type 0} (rules : Rules C B) (d : Document S) where
       jobs_le (keys rules d) open_to (λ view key e. due_among rules d view key (and_parts (has_room view) (is_due rules d view key) e).1) d.views jobs apart in
       let here : (view : View) → count_by (open_to view) (keys rules d view) ≤ cond (has_room view) (count_by (is_due rules d view) (keys rules d view)) 0 = λ view.
       elim (has_room view) as (λ b. count_by (λ key. b && is_due rules d view key) (keys rules d view) ≤ cond b (count_by (is_due rules d view) (keys rules d view)) 0) [
-        | true ↦ omega arith
-        | false ↦ let none = count_none (keys rules d view) in omega (arith, none)
+        | true ↦ count_le (λ key. true && is_due rules d view key) (is_due rules d view) (keys rules d view) (λ key e. e)
+        | false ↦ let none : count_by (λ key. false && is_due rules d view key) (keys rules d view) ≡ 0 = count_none (keys rules d view) in omega (arith, none)
       ] in
       let same = sum_le (λ view. count_by (open_to view) (keys rules d view)) (λ view. cond (has_room view) (count_by (is_due rules d view) (keys rules d view)) 0) d.views here in
       omega (arith, most, same)
 
 -- the saves that no put is for yet
-abbrev is_unbound : Save → Bool
+abbrev pub is_unbound : Save → Bool
 is_unbound save = not save.bound
 
 -- a save is no less bound once the ready ones are, and a ready one is bound then
@@ -224,6 +224,9 @@ left_lt applied last (save ∷ saves) e =
     ] in
     go (is_ready_save applied save) (is_unmodified applied last save) refl e
 
+lower_by : (x jobs u w : ℕ) → u + 1 ≤ w → x + u + jobs < x + w + jobs
+lower_by x jobs u w less = omega arith
+
 -- a put that begins changes no save
 begun_saves : (o : Option Errand) (s : Saving) → (begun o s).saves ≡ s.saves
 begun_saves None s = refl
@@ -244,10 +247,7 @@ module _ {C B S : Type 0} (rules : Rules C B) (d : Document S) where
 
   served_lower : has_ready_save d ≡ true → IsLower rules served_now d
   served_lower ready =
-      let less = served_fewer ready in
-      let same : jobs_due rules served_now ≡ jobs_due rules d = refl in
-      let rest : still_to_come rules served_now ≡ (length d.journal - d.applied) * (2 * pairs rules d + 1) + 2 * due_pairs rules d + unbound_saves served_now = refl in
-      omega (arith, less, same, rest)
+      lower_by ((length d.journal - d.applied) * (2 * pairs rules d + 1) + 2 * due_pairs rules d) (jobs_due rules d) (unbound_saves served_now) (unbound_saves d) (served_fewer ready)
 
 -- an input more touches no less
 touched_more : {C B : Type 0} (rules : Rules C B) (base : List ℕ) (journal : List Input) (version : ℕ) (key : Place) (n : ℕ) → touched rules base journal version key n ≡ true → touched rules base journal version key (n + 1) ≡ true
@@ -302,12 +302,12 @@ module _ {C B S : Type 0} (rules : Rules C B) (d : Document S) where
       let same : still_to_come rules (cut_more job) ≡ still_to_come rules d = refl in
       omega (arith, push, yes, same)
 
-one_most : (b : Bool) → one b ≤ 1
+pub one_most : (b : Bool) → one b ≤ 1
 one_most true = omega arith
 one_most false = omega arith
 
 -- some of the views pass a test as before, where the one that has changed does
-any_with : (p : View → Bool) (views : List View) (id : ℕ) (change : View → View) → ((v : View) → p v ≡ true → p (change v) ≡ true) → list_any p views ≡ true → list_any p (with_view views id change) ≡ true
+pub any_with : (p : View → Bool) (views : List View) (id : ℕ) (change : View → View) → ((v : View) → p v ≡ true → p (change v) ≡ true) → list_any p views ≡ true → list_any p (with_view views id change) ≡ true
 any_with p [] id change imp e = e
 any_with p (v ∷ vs) id change imp e =
     let any : (b : Bool) → (b || true) ≡ true = elim [ true ↦ refl | false ↦ refl ] in
