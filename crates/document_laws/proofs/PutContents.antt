@@ -4,21 +4,20 @@ use Rattle.std.specs.Prelude.{◌⊎◌, nat_lt, Result}
 use Rattle.std.specs.List.{AllByRecursion}
 use Rattle.kit_trait.specs.Rules.{Rules, doc}
 use Rattle.kit_trait.specs.declared.values.Input.{Input}
-use Rattle.outside.specs.declared.errands.Errand.{Errand}
 use Rattle.outside.specs.declared.errands.Receipt.{Receipt}
 use Rattle.outside.specs.declared.faults.StoreFault.{StoreFault}
 use Rattle.save_core.proofs.Bound.{under_way}
-use Rattle.save_core.specs.Saving.{Saving, answered, answered_put, begun, ended, errand_for, final_waits, final_with, last_stored, left_over}
+use Rattle.save_core.specs.Saving.{Saving, answered, answered_put, ended, errand_for, final_waits, final_with, last_stored, left_over}
 use Rattle.save_core.specs.declared.values.Put.{Put}
 use Rattle.tile_key.specs.Places.{Place}
 use Rattle.document_machine.proofs.Lists.{all_push}
 use Rattle.document_machine.specs.Due.{parts_of}
 use Rattle.document_machine.specs.Event.{Event, Joined, Left, Said, Turned, Painted, PutAnswered}
 use Rattle.document_machine.specs.Kept.{IsKept, IsPutKept}
-use Rattle.document_machine.specs.Message.{Effect, effect, saving_after, with_save, with_token}
+use Rattle.document_machine.specs.Message.{Effect, effect, with_save, with_token}
 use Rattle.document_machine.specs.Run.{Segment}
 use Rattle.document_machine.specs.Saves.{is_last_view, needs_final_save, receipt_of, saving_left, text_at}
-use Rattle.document_machine.specs.State.{View, Job, Document, find_job, opening}
+use Rattle.document_machine.specs.State.{Job, Document, find_job, opening}
 use Rattle.document_machine.specs.Step.{JoinsWhere, Works, TurnsTo, Paints, Step}
 use Rattle.document_machine.specs.declared.limits.TheConstants.{MOST_VIEWS}
 use Rattle.document_machine.specs.declared.outs.Outs.{Outs}

@@ -1,15 +1,12 @@
 -- In a run each save that waits was said by its view.
-use Rattle.std.proofs.Common.{◌≡◌, ◌≢◌, ℕ, ◌+◌, ◌<◌, ◌≤◌, Bool, true, false, not, ◌&&◌, cond, List, [], ◌∷◌, ◌++◌, length, map, filter, Option, None, Some, Ok, Err, is_some, option_map, refl, ap, sym, subst, ◌∙◌, arith, inl, inr, append_assoc, append-nil}
-use Rattle.std.specs.Prelude.{nat_lt, Result}
+use Rattle.std.proofs.Common.{◌≡◌, ℕ, ◌+◌, ◌<◌, Bool, true, false, not, ◌&&◌, cond, List, [], ◌∷◌, ◌++◌, length, map, filter, Option, None, Some, is_some, refl, ap, sym, subst, ◌∙◌, inl, inr, append_assoc, append-nil}
+use Rattle.std.specs.Prelude.{nat_lt}
 use Rattle.std.specs.List.{AllByRecursion}
 use Rattle.cool_base.specs.declared.ids.ViewId.{ViewId}
 use Rattle.cool_frame.specs.declared.frame.Frame.{Frame}
 use Rattle.cool_frame.specs.declared.frame.Frame.TheVariants.{Status, Invalidate, Server, Error, SaveDone, Tile}
 use Rattle.kit_trait.specs.Rules.{Rules}
-use Rattle.kit_trait.specs.declared.values.Input.{Input}
 use Rattle.outside.specs.declared.errands.Errand.{Errand}
-use Rattle.outside.specs.declared.errands.Receipt.{Receipt}
-use Rattle.outside.specs.declared.faults.StoreFault.{StoreFault}
 use Rattle.save_core.specs.Saving.{Saving, answered, answered_put, begun, bound_to, ended, errand_for, final_waits, final_with, is_unmodified, last_stored, left_over, waits}
 use Rattle.save_core.specs.declared.values.Put.{Put}
 use Rattle.save_core.specs.declared.values.Save.{Save}
@@ -22,7 +19,7 @@ use Rattle.document_machine.specs.Kept.{IsKept}
 use Rattle.document_machine.specs.Message.{Effect, effect, saving_after, with_save, with_token}
 use Rattle.document_machine.specs.Outputs.{named, nothing, joined}
 use Rattle.document_machine.specs.Run.{Segment}
-use Rattle.document_machine.specs.Saves.{is_last_view, needs_final_save, receipt_of, saving_left, saving_served, text_at}
+use Rattle.document_machine.specs.Saves.{is_last_view, needs_final_save, receipt_of, saving_left, text_at}
 use Rattle.document_machine.specs.State.{View, Job, Document, find_job, find_view, opening}
 use Rattle.document_machine.specs.Step.{JoinsWhere, Works, TurnsTo, Paints, Step}
 use Rattle.document_machine.specs.declared.limits.TheConstants.{MOST_VIEWS}
@@ -30,7 +27,7 @@ use Rattle.document_machine.specs.declared.outs.Outs.{Outs}
 use Rattle.document_machine.specs.declared.outs.Turned.{Turned as TurnAnswer}
 use Rattle.document_machine.specs.declared.outs.Turned.TheVariants.{Worked, Idle}
 use Rattle.document_machine.specs.declared.rights.Rights.{Rights}
-use Rattle.document_laws.specs.Saved.{FollowsItsSave, IsOfRun, IsSaved, IsTrue, WasSaid}
+use Rattle.document_laws.specs.Saved.{FollowsItsSave, IsOfRun, IsTrue, WasSaid}
 use Rattle.document_laws.proofs.Kept.{opening_keeps, runs_keep}
 use Rattle.document_laws.proofs.Ordered.{weaker}
 use Rattle.document_laws.proofs.Saved.{all_get, steps_true}
