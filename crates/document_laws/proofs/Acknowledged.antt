@@ -36,26 +36,6 @@ some_tile : (window : List Sent) → window ≢ [] → 1 ≤ length window
 some_tile [] some = absurd (some refl)
 some_tile (tile ∷ tiles) some = omega arith
 
--- a sum stays where the one view that has changed counts as before
-sum_same : (f : View → ℕ) (views : List View) (id : ℕ) (change : View → View) → ((v : View) → f (change v) ≡ f v) → sum_by f (with_view views id change) ≡ sum_by f views
-sum_same f [] id change same = refl
-sum_same f (v ∷ vs) id change same =
-    let go : (b : Bool) → sum_by f (cond b (change v ∷ vs) (v ∷ with_view vs id change)) ≡ sum_by f (v ∷ vs) = elim [
-      | true ↦ omega (arith, same v, sum_by-cons f (change v) vs, sum_by-cons f v vs)
-      | false ↦ omega (arith, sum_same f vs id change same, sum_by-cons f v (with_view vs id change), sum_by-cons f v vs)
-    ] in
-    go (nat_eq v.id id)
-
--- and it is no larger where that view counts no more
-sum_with_le : (f : View → ℕ) (views : List View) (id : ℕ) (change : View → View) → ((v : View) → f (change v) ≤ f v) → sum_by f (with_view views id change) ≤ sum_by f views
-sum_with_le f [] id change le = omega arith
-sum_with_le f (v ∷ vs) id change le =
-    let go : (b : Bool) → sum_by f (cond b (change v ∷ vs) (v ∷ with_view vs id change)) ≤ sum_by f (v ∷ vs) = elim [
-      | true ↦ omega (arith, le v, sum_by-cons f (change v) vs, sum_by-cons f v vs)
-      | false ↦ omega (arith, sum_with_le f vs id change le, sum_by-cons f v (with_view vs id change), sum_by-cons f v vs)
-    ] in
-    go (nat_eq v.id id)
-
 -- a list of at least one and at most 64 is one of a message
 list_length : (n : ℕ) → 1 ≤ n → n ≤ 64 → IsListLength n
 list_length n low high = (low, omega arith)

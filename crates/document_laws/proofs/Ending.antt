@@ -4,7 +4,7 @@ use Rattle.kit_trait.specs.Rules.{Rules}
 use Rattle.tile_key.specs.Places.{Place}
 use Rattle.document_machine.specs.Event.{Event}
 use Rattle.document_machine.specs.Kept.{IsKept}
-use Rattle.document_machine.specs.Rank.{rank, still_to_come, jobs_due, due_pairs, pairs}
+use Rattle.document_machine.specs.Rank.{rank, still_to_come, jobs_due, due_pairs, pairs, unbound_saves}
 use Rattle.document_machine.specs.Run.{Run}
 use Rattle.document_machine.specs.State.{Document}
 use Rattle.document_machine.specs.Step.{Works}
@@ -17,14 +17,14 @@ use Rattle.document_laws.proofs.Kept.{works_keep}
 taken_off : (so jo sn jn : ℕ) → jo ≤ so → jn ≤ sn → sn + jo < so + jn → sn - jn + 1 ≤ so - jo
 taken_off so jo sn jn a b lower = omega arith
 
-more_than : (x due jobs : ℕ) → jobs ≤ due → jobs ≤ x + 2 * due
-more_than x due jobs le = omega arith
+more_than : (x due saves jobs : ℕ) → jobs ≤ due → jobs ≤ x + 2 * due + saves
+more_than x due saves jobs le = omega arith
 
 module _ {C B S : Type 0} (rules : Rules C B) (cut : C → Place → S) where
   -- no more is taken off than there is
   none_below : (d : Document S) → IsKept rules cut d → jobs_due rules d ≤ still_to_come rules d
   none_below d kept =
-      more_than ((length d.journal - d.applied) * (2 * pairs rules d + 1)) (due_pairs rules d) (jobs_due rules d) (rank_counts rules d kept.apart)
+      more_than ((length d.journal - d.applied) * (2 * pairs rules d + 1)) (due_pairs rules d) (unbound_saves d) (jobs_due rules d) (rank_counts rules d kept.apart)
 
   -- a work takes one at least from the rank
   rank_falls : (old new : Document S) (outs : Outs S) → Works rules cut old outs new → IsKept rules cut old → rank rules new + 1 ≤ rank rules old

@@ -1,32 +1,29 @@
--- Fewer pairs are due once a present tile was sent.
-use Rattle.std.proofs.Common.{◌≡◌, ◌≢◌, ℕ, ◌+◌, ◌*◌, ◌≤◌, Bool, true, false, not, ◌&&◌, ◌||◌, cond, List, [], ◌∷◌, length, filter, Option, None, Some, refl, ap, sym, ◌∙◌, arith, inl, inr, length-append}
+-- No more pairs are due once a tile was sent, and fewer once a present one was.
+use Rattle.std.proofs.Common.{◌≡◌, ◌≢◌, ℕ, ◌+◌, ◌*◌, ◌<◌, ◌≤◌, Bool, true, false, not, ◌&&◌, ◌||◌, cond, List, [], ◌∷◌, length, filter, Option, None, Some, refl, ap, sym, ◌∙◌, arith, inl, inr, length-append}
 use Rattle.std.specs.Prelude.{nat_lt, nat_le}
-use Rattle.std.specs.List.{count_by, AllByRecursion}
+use Rattle.std.specs.List.{count_by, sum_by, AllByRecursion}
 use Rattle.std.proofs.lemmas.Bool.{cases_Bool, cases_lt, and_parts}
 use Rattle.std.proofs.lemmas.Bool.Decides.{nat_tests}
-use Rattle.std.proofs.lemmas.List.Sums.{sum_by-cons}
+use Rattle.std.proofs.lemmas.List.Sums.{sum_by-cons, count_by-le-length}
 use Rattle.kit_trait.specs.Rules.{Rules}
-use Rattle.tile_key.specs.Places.{Place, same_place, key_order}
+use Rattle.tile_key.specs.Places.{Place, IsKey, same_place, key_order}
 use Rattle.tile_key.specs.Visible.{IsBefore}
 use Rattle.tile_key.proofs.VisibleFacts.{visible_order}
 use Rattle.std.specs.Ordering.{is_lt}
 use Rattle.document_machine.proofs.Lists.{same_self, all_filter}
 use Rattle.document_machine.proofs.Present.{untouched}
-use Rattle.document_machine.specs.Due.{is_due, is_lacking, has_room, touched, keys, size_of, visible, version_of, with_version, is_newer, takes, sent, is_current, asked_after, screen_after}
+use Rattle.document_machine.specs.Due.{is_due, is_lacking, has_room, touched, keys, parts_of, size_of, visible, version_of, with_version, is_newer, takes, sent, is_current, asked_after, screen_after}
 use Rattle.document_machine.specs.Keys.{Pairwise, is_among, ordered}
 use Rattle.document_machine.specs.Kept.{IsKept, IsViewKept}
 use Rattle.document_machine.specs.State.{Shown, View, Document}
 use Rattle.document_laws.proofs.KeyOrder.{same_is}
 use Rattle.document_laws.proofs.Ordered.{one, count_new, count_ordered, pairwise_by, weaker}
-use Rattle.document_laws.proofs.Quiet.{version_applied}
-use Rattle.document_laws.proofs.Sending.{without_key, sent_due}
+use Rattle.document_laws.proofs.Quiet.{HasPoint, seen_points, version_applied}
+use Rattle.document_laws.proofs.Sending.{without_key, sent_due, sent_other}
+use Rattle.document_laws.proofs.Sums.{count_all, one_le, sum_le}
 use Rattle.document_laws.proofs.Views.{asked_once, screen_versions}
 
 -- of a list and of what a filter keeps of it, no more pass a test that is no weaker
-pub one_le : (a b : Bool) → (a ≡ true → b ≡ true) → one a ≤ one b
-one_le true b f = let e : b ≡ true = f refl in rw e (omega arith)
-one_le false b f = omega arith
-
 pub count_le : (p q : Place → Bool) (xs : List Place) → ((x : Place) → p x ≡ true → q x ≡ true) → count_by p xs ≤ count_by q xs
 count_le p q [] imp = omega arith
 count_le p q (x ∷ xs) imp =
@@ -87,11 +84,24 @@ count_filter_lt p q f (x ∷ xs) key imp among off on =
     go (same_place x key) (f x) refl among
 
 -- what a broker keeps of a view, as far as what is due needs it: the keys that it sees are in order, those
--- that it asks for are there once, and the versions on its screen are of inputs that are applied
+-- that it asks for are there once, each of them has a point, and the versions on its screen are of inputs
+-- that are applied
 pub record IsReady {C B S : Type 0} (rules : Rules C B) (d : Document S) (view : View) : Type 0 where
   pub order : Pairwise IsBefore (visible rules d view)
   pub once : Pairwise (λ p q. p ≢ q) view.asked
+  pub points : AllByRecursion HasPoint (visible rules d view)
+  pub asked_points : AllByRecursion HasPoint view.asked
   pub versions : AllByRecursion (λ shown. shown.version ≤ d.applied) view.screen
+
+-- what holds of the keys asked for holds of those that are left
+asked_stay : (P : Place → Type 0) (asked : List Place) (key : Place) (current : Bool) → AllByRecursion P asked → AllByRecursion P (asked_after asked key current)
+asked_stay P asked key true all = all_filter P (λ other. not (same_place other key)) asked all
+asked_stay P asked key false all = all
+
+-- and no more of them pass a test
+asked_fewer : (p q : Place → Bool) (asked : List Place) (key : Place) (current : Bool) → ((x : Place) → p x ≡ true → q x ≡ true) → count_by p (asked_after asked key current) ≤ count_by q asked
+asked_fewer p q asked key true imp = count_filter_le p q (λ other. not (same_place other key)) asked imp
+asked_fewer p q asked key false imp = count_le p q asked imp
 
 module _ {C B S : Type 0} (rules : Rules C B) (d : Document S) where
   -- how many pairs of a view are due
@@ -106,6 +116,9 @@ module _ {C B S : Type 0} (rules : Rules C B) (d : Document S) where
   ready_by view kept = record {
     order = pairwise_by IsBefore (visible rules d view) (visible_order view.part view.zoom view.area (size_of rules d.base view.part) (visible rules d view) kept.zoom refl);
     once = kept.asked_once;
+    points = seen_points view.part view.zoom view.area (size_of rules d.base view.part) kept.zoom;
+    asked_points = weaker (λ key. IsKey key × (key.part < parts_of rules d.base)) HasPoint view.asked
+    (λ key is. (omega (arith, is.0.tilewidth_low), omega (arith, is.0.tileheight_low))) kept.asked;
     versions = kept.versions;
   }
 
@@ -116,8 +129,45 @@ module _ {C B S : Type 0} (rules : Rules C B) (d : Document S) where
   ready_sent version key view le ready = record {
     order = ready.order;
     once = asked_once view.asked key (is_current rules d version key) ready.once;
+    points = ready.points;
+    asked_points = asked_stay HasPoint view.asked key (is_current rules d version key) ready.asked_points;
     versions = screen_versions d.applied view.screen key version (is_among (visible rules d view) key || is_among (asked_after view.asked key (is_current rules d version key)) key) le ready.versions;
   }
+
+  -- no more keys of a view pass a test once a tile was sent to it
+  pub passing_le : (p q : Place → Bool) (version : ℕ) (key : Place) (view : View) → IsReady rules d view → ((x : Place) → p x ≡ true → q x ≡ true) → count_by p (keys rules d (sent rules d version key view)) ≤ count_by q (keys rules d view)
+  passing_le p q version key view ready imp =
+      let vis : List Place = visible rules d view in
+      let current : Bool = is_current rules d version key in
+      let gone : List Place = asked_after view.asked key current in
+      let after : count_by p (keys rules d (sent rules d version key view)) ≡ count_by p vis + count_new p vis gone = count_ordered p gone vis ready.order (asked_once view.asked key current ready.once) in
+      let before : count_by q (keys rules d view) ≡ count_by q vis + count_new q vis view.asked = count_ordered q view.asked vis ready.order ready.once in
+      let first : count_by p vis ≤ count_by q vis = count_le p q vis imp in
+      let second : count_new p vis gone ≤ count_new q vis view.asked =
+      asked_fewer (λ x. p x && not (is_among vis x)) (λ x. q x && not (is_among vis x)) view.asked key current
+      (λ x e. let parts = and_parts (p x) (not (is_among vis x)) e in let yes : q x ≡ true = imp x parts.0 in rw (yes, parts.1) refl) in
+      omega (arith, after, before, first, second)
+
+  -- so there are no more of them
+  pub keys_le : (version : ℕ) (key : Place) (view : View) → IsReady rules d view → length (keys rules d (sent rules d version key view)) ≤ length (keys rules d view)
+  keys_le version key view ready =
+      let less = passing_le (λ _. true) (λ _. true) version key view ready (λ x e. refl) in
+      let after = count_all (keys rules d (sent rules d version key view)) in
+      let before = count_all (keys rules d view) in
+      omega (arith, less, after, before)
+
+  -- and no more are due, where the one that was sent was
+  pub due_le : (version : ℕ) (key : Place) (view : View) → IsReady rules d view → is_due rules d view key ≡ true → due_of (sent rules d version key view) ≤ due_of view
+  due_le version key view ready due =
+      passing_le (is_due rules d (sent rules d version key view)) (is_due rules d view) version key view ready
+      (λ x e. elim (cases_Bool (same_place key x)) [
+        | inl here ↦ ap (is_due rules d view) (sym (same_is key x here)) ∙ due
+        | inr away ↦ sym (sent_other rules d version key view x away) ∙ e
+      ])
+
+  -- no more are due than there are
+  pub due_le_pairs : (views : List View) → sum_by due_of views ≤ sum_by (λ view. length (keys rules d view)) views
+  due_le_pairs views = sum_le due_of (λ view. length (keys rules d view)) views (λ view. count_by-le-length (is_due rules d view) (keys rules d view))
 
   -- a due pair fewer
   pub due_less : (version : ℕ) (key : Place) (view : View) → touched rules d.base d.journal version key d.applied ≡ false → version ≤ d.applied → IsReady rules d view → is_due rules d view key ≡ true → due_of (sent rules d version key view) + 1 ≤ due_of view

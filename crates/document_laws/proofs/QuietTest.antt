@@ -1,6 +1,6 @@
 -- Why the test of a quiet document tells.
-use Rattle.std.proofs.Common.{◌≡◌, ◌≤◌, Bool, true, false, not, ◌&&◌, List, [], ◌∷◌, length, nat_eq, refl, ap, sym, subst, arith}
-use Rattle.std.specs.Prelude.{◌⊎◌}
+use Rattle.std.proofs.Common.{◌≡◌, ◌≤◌, Bool, true, false, not, ◌&&◌, List, [], ◌∷◌, length, nat_eq, Option, None, Some, refl, ap, sym, subst, arith}
+use Rattle.std.specs.Prelude.{◌⊎◌, is_none}
 use Rattle.std.specs.List.{list_any, list_all, AllByRecursion}
 use Rattle.std.proofs.lemmas.Bool.{and_parts, or_parts, not-true}
 use Rattle.std.proofs.lemmas.Bool.Decides.{nat_tests}
@@ -9,6 +9,7 @@ use Rattle.tile_key.specs.Places.{Place}
 use Rattle.document_machine.specs.Due.{is_due, has_room, is_out, visible}
 use Rattle.document_machine.specs.Keys.{is_among, ordered}
 use Rattle.document_machine.specs.Quiet.{IsQuiet, is_quiet, is_still}
+use Rattle.document_machine.specs.Saves.{has_ready_save}
 use Rattle.document_machine.specs.State.{View, Document}
 use Rattle.document_machine.specs.Step.{IsServed}
 use Rattle.document_machine.specs.declared.limits.TheConstants.{MOST_JOBS}
@@ -19,6 +20,10 @@ use Rattle.document_laws.proofs.Quiet.{all_not_due, asked_due}
 none_there : {X : Type 0} (xs : List X) → nat_eq (length xs) 0 ≡ true → xs ≡ []
 none_there [] e = refl
 none_there (x ∷ xs) e = absurd (grind (arith, nat_tests))
+
+nothing_there : {X : Type 0} (o : Option X) → is_none o ≡ true → o ≡ None
+nothing_there None e = refl
+nothing_there (Some x) e = absurd (cc)
 
 -- what follows from a test that all pass
 all_pass : {X : Type 0} (t : X → Bool) (P : X → Type 0) (xs : List X) → ((x : X) → t x ≡ true → P x) → list_all t xs ≡ true → AllByRecursion P xs
@@ -78,23 +83,30 @@ module _ {C B S : Type 0} (rules : Rules C B) (d : Document S) (view : View) whe
 module _ {C B S : Type 0} (rules : Rules C B) (d : Document S) where
   pub passed_is_quiet : is_quiet rules d ≡ true → IsQuiet rules d
   passed_is_quiet test =
-      let one = and_parts (nat_eq d.applied (length d.journal)) (nat_eq (length d.jobs) 0 && list_all (is_still rules d) d.views) test in
+      let saves = and_parts (not (has_ready_save d) && is_none d.saving.put) (nat_eq d.applied (length d.journal) && (nat_eq (length d.jobs) 0 && list_all (is_still rules d) d.views)) test in
+      let put = and_parts (not (has_ready_save d)) (is_none d.saving.put) saves.0 in
+      let one = and_parts (nat_eq d.applied (length d.journal)) (nat_eq (length d.jobs) 0 && list_all (is_still rules d) d.views) saves.1 in
       let two = and_parts (nat_eq (length d.jobs) 0) (list_all (is_still rules d) d.views) one.1 in
       let level : d.applied ≡ length d.journal = grind (arith, nat_tests, one.0) in
       record {
         rests = record {
+          no_save = not-true (has_ready_save d) put.0;
           level = level;
           served = all_pass (is_still rules d) (IsServed rules d) d.views (λ view still. (still_is rules d view still).0) two.1;
         };
         no_job = none_there d.jobs two.0;
+        no_put = nothing_there d.saving.put put.1;
         empty = all_pass (is_still rules d) (λ view. view.window ≡ []) d.views (λ view still. (still_is rules d view still).1) two.1;
       }
 
   pub quiet_passes : IsQuiet rules d → is_quiet rules d ≡ true
   quiet_passes quiet =
       let level : nat_eq d.applied (length d.journal) ≡ true = let e = quiet.rests.level in grind (arith, nat_tests) in
+      let saves : not (has_ready_save d) ≡ true = ap not quiet.rests.no_save in
+      let put : is_none d.saving.put ≡ true = ap is_none quiet.no_put in
       let none : nat_eq (length d.jobs) 0 ≡ true = ap (λ jobs. nat_eq (length jobs) 0) quiet.no_job in
       let still : list_all (is_still rules d) d.views ≡ true = passes (is_still rules d) d.views
       (both (IsServed rules d) (λ view. view.window ≡ []) (λ view. is_still rules d view ≡ true) d.views
       (λ view served empty. is_still_by rules d view quiet.no_job served empty) quiet.rests.served quiet.empty) in
-      rw (level, none, still) refl
+      let go : (a b c d e : Bool) → a ≡ true → b ≡ true → c ≡ true → d ≡ true → e ≡ true → ((a && b) && (c && (d && e))) ≡ true = λ a b c d e p q r s t. rw (p, q, r, s, t) refl in
+      go (not (has_ready_save d)) (is_none d.saving.put) (nat_eq d.applied (length d.journal)) (nat_eq (length d.jobs) 0) (list_all (is_still rules d) d.views) saves put level none still

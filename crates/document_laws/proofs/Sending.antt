@@ -6,7 +6,7 @@ use Rattle.std.proofs.lemmas.Bool.{cases_Bool}
 use Rattle.kit_trait.specs.Rules.{Rules}
 use Rattle.tile_key.specs.Places.{Place, key_order, same_place}
 use Rattle.document_machine.proofs.Lists.{same_self, taken_out}
-use Rattle.document_machine.specs.Due.{is_due, is_lacking, touched, visible, version_of, with_version, without_version, screen_after, sent}
+use Rattle.document_machine.specs.Due.{asked_after, is_current, is_due, is_lacking, touched, visible, version_of, with_version, without_version, screen_after, sent}
 use Rattle.document_machine.specs.Keys.{is_among}
 use Rattle.document_machine.specs.State.{Shown, View, Document}
 use Rattle.document_laws.proofs.KeyOrder.{same_is, same_sym}
@@ -74,7 +74,22 @@ asked_other (other ∷ others) key x away =
     ] in
     go (same_place other key) refl
 
+-- whether another key is asked for stays, whatever became of the asking
+pub asked_after_other : (asked : List Place) (key : Place) (current : Bool) (x : Place) → same_place key x ≡ false → is_among (asked_after asked key current) x ≡ is_among asked x
+asked_after_other asked key true x away = asked_other asked key x away
+asked_after_other asked key false x away = refl
+
 module _ {C B S : Type 0} (rules : Rules C B) (d : Document S) (version : ℕ) (key : Place) (view : View) where
+  -- another pair is due as before, also where the tile isn't the present one
+  pub sent_other : (x : Place) → same_place key x ≡ false → is_due rules d (sent rules d version key view) x ≡ is_due rules d view x
+  sent_other x away =
+      let current : Bool = is_current rules d version key in
+      let gone : List Place = asked_after view.asked key current in
+      let a : is_among gone x ≡ is_among view.asked x = asked_after_other view.asked key current x away in
+      let v = screen_other view.screen key version (is_among (visible rules d view) key || is_among gone key) x away in
+      ap (λ o. (is_among (visible rules d view) x && is_lacking rules d x o) || is_among gone x) v
+      ∙ ap (λ b. (is_among (visible rules d view) x && is_lacking rules d x (version_of view.screen x)) || b) a
+
   -- the view after it
   abbrev after : View
   after = record view {
