@@ -43,6 +43,18 @@ final_stored : (mark : ℕ) (o : Option (List ℕ)) (s : Saving) → (final_with
 final_stored mark None s = refl
 final_stored mark (Some token) s = refl
 
+-- what was put in a run was put in a longer one
+pub put_more : {S : Type 0} (events : List (Event S)) (event : Event S) (file content : List ℕ) → WasPut events file content → WasPut (events ++ event ∷ []) file content
+put_more events event file content is = record {
+  before = is.before;
+  ticket = is.ticket;
+  receipt = is.receipt;
+  behind = is.behind ++ event ∷ [];
+  split = ap (λ es. es ++ event ∷ []) is.split ∙ append_assoc is.before (PutAnswered is.ticket (Ok is.receipt) ∷ is.behind) (event ∷ []);
+  file_is = is.file_is;
+  content_is = is.content_is;
+}
+
 module _ {C B S : Type 0} (rules : Rules C B) (cut : C → Place → S) where
   -- a step stores nothing, or the content of the put that a receipt came for
   abbrev Stores : Document S → Event S → Document S → Type 0
@@ -154,15 +166,9 @@ module _ {C B S : Type 0} (rules : Rules C B) (cut : C → Place → S) where
       let After : ℕ → Type 0 = λ n. WasPut (before ++ event ∷ []) new.file (text_at rules new n) in
       let past : AllByRecursion (λ n. n ≤ new.applied) was.later = weaker (λ n. n ≤ old.applied) (λ n. n ≤ new.applied) was.later (λ n le. omega arith) was.past in
       let put : AllByRecursion After was.later = both (λ n. n ≤ old.applied) (λ n. WasPut before old.file (text_at rules old n)) After was.later
-      (λ n le is. record {
-        before = is.before;
-        ticket = is.ticket;
-        receipt = is.receipt;
-        behind = is.behind ++ event ∷ [];
-        split = ap (λ es. es ++ event ∷ []) is.split ∙ append_assoc is.before (PutAnswered is.ticket (Ok is.receipt) ∷ is.behind) (event ∷ []);
-        file_is = is.file_is ∙ sym file;
-        content_is = is.content_is ∙ sym (text n le);
-      }) was.past was.put in
+      (λ n le is.
+      subst (λ f. WasPut (before ++ event ∷ []) f (text_at rules new n)) (sym file)
+      (subst (WasPut (before ++ event ∷ []) old.file) (sym (text n le)) (put_more before event old.file (text_at rules old n) is))) was.past was.put in
       elim stores.0 [
         | inl same ↦ record { later = was.later; stored_are = same ∙ was.stored_are; past = past; put = put }
         | inr one ↦
