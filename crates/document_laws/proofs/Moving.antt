@@ -1,8 +1,8 @@
 -- Every move keeps what holds of a document with its kept tiles.
-use Rattle.std.proofs.Common.{◌≡◌, ◌≢◌, ℕ, zero, suc, ◌+◌, ◌<◌, ◌≤◌, Bool, true, false, not, ◌&&◌, ◌||◌, cond, nat_eq, nat_le, List, [], ◌∷◌, ◌++◌, length, take, Option, None, Some, refl, ap, sym, subst, ◌∙◌, arith, inl, inr, length-append}
+use Rattle.std.proofs.Common.{◌≡◌, ◌≢◌, ℕ, zero, suc, ◌+◌, ◌<◌, ◌≤◌, Bool, true, false, not, ◌&&◌, ◌||◌, cond, nat_eq, nat_le, List, [], ◌∷◌, ◌++◌, length, Option, None, Some, refl, ap, sym, subst, ◌∙◌, arith, inl, inr}
 use Rattle.std.specs.Prelude.{nat_lt, slice_get}
 use Rattle.std.specs.Option.{option_map_or}
-use Rattle.std.specs.List.{list_any, AllByRecursion}
+use Rattle.std.specs.List.{AllByRecursion}
 use Rattle.std.proofs.lemmas.Bool.{or_parts}
 use Rattle.std.proofs.lemmas.List.{take-append-le}
 use Rattle.std.proofs.lemmas.List.Folds.{list_any-append}
@@ -10,21 +10,21 @@ use Rattle.kit_trait.specs.Rules.{Rules, after, doc}
 use Rattle.kit_trait.specs.declared.values.Input.{Input}
 use Rattle.save_core.specs.Saving.{Saving, answered}
 use Rattle.tile_key.specs.Places.{Place, IsGroup, IsRun, place_of_keys, same_place}
-use Rattle.document_machine.proofs.Lists.{all_any, all_filter, all_push, same_self}
+use Rattle.document_machine.proofs.Lists.{all_any, all_filter, all_push}
 use Rattle.document_machine.proofs.Turns.{moves_step}
 use Rattle.document_machine.specs.Due.{damage_of, is_current, is_hurt, is_out, parts_of, sent, touched}
 use Rattle.document_machine.specs.Event.{Event, Joined, Left, Said, Turned, Painted, PutAnswered}
-use Rattle.document_machine.specs.Goes.{DoesNext, Moves, next_work}
+use Rattle.document_machine.specs.Goes.{Moves, next_work}
 use Rattle.document_machine.specs.Held.{Held, KeepsPainted, KeptTile, current_version, kept_by, kept_painted, kept_version, opening_held, where_current, with_kept, with_painted}
-use Rattle.document_machine.specs.Keys.{Pairwise, is_among}
+use Rattle.document_machine.specs.Keys.{is_among}
 use Rattle.document_machine.specs.Kept.{AreApart, IsHeld, IsJobKept, IsKept, IsNotAhead, IsPresentKept, IsTileKept, IsViewKept, ShareNone}
 use Rattle.document_machine.specs.Message.{Effect, effect, heard, saving_after}
 use Rattle.document_machine.specs.Next.{Work, Serve, Apply, Send, Cut, Rest}
-use Rattle.document_machine.specs.Outputs.{nothing, outs_of}
+use Rattle.document_machine.specs.Outputs.{nothing}
 use Rattle.document_machine.specs.Run.{Run}
-use Rattle.document_machine.specs.Saves.{Serves, receipt_of, saving_left, saving_served}
+use Rattle.document_machine.specs.Saves.{receipt_of, saving_left, saving_served}
 use Rattle.document_machine.specs.State.{Shown, View, Job, Document, find_job, find_view, opening_view, with_view, without_job, without_view}
-use Rattle.document_machine.specs.Step.{Applies, Cuts, Does, JoinsWhere, Paints, Sends, Step, views_offered}
+use Rattle.document_machine.specs.Step.{Does, JoinsWhere, Paints, views_offered}
 use Rattle.document_machine.specs.declared.limits.TheConstants.{MOST_KEPT, MOST_VIEWS}
 use Rattle.document_machine.specs.declared.outs.Outs.{Outs}
 use Rattle.document_machine.specs.declared.outs.Turned.{Turned as TurnAnswer}

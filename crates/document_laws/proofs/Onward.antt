@@ -1,5 +1,5 @@
 -- The work that is next can be done.
-use Rattle.std.proofs.Common.{◌≡◌, ℕ, zero, suc, ◌+◌, ◌<◌, ◌≤◌, Bool, true, false, not, ◌&&◌, ◌||◌, cond, nat_eq, nat_le, List, [], ◌∷◌, ◌++◌, length, Option, None, Some, is_some, refl, ap, sym, subst, ◌∙◌, arith, inl, inr}
+use Rattle.std.proofs.Common.{◌≡◌, ℕ, zero, suc, ◌+◌, ◌<◌, ◌≤◌, Bool, true, false, not, ◌&&◌, ◌||◌, cond, nat_eq, List, [], ◌∷◌, ◌++◌, length, Option, Some, is_some, refl, ap, sym, subst, ◌∙◌, arith}
 use Rattle.std.specs.Prelude.{nat_lt, slice_get}
 use Rattle.std.specs.List.{list_any, AllByRecursion}
 use Rattle.std.proofs.lemmas.Bool.{and_parts, eqb-true, ltb-false, ltb-true, not-true}
@@ -13,9 +13,9 @@ use Rattle.document_machine.specs.Goes.{DoesNext, next_work}
 use Rattle.document_machine.specs.Held.{Held, current_version, kept_by, kept_version}
 use Rattle.document_machine.specs.Keys.{Pairwise}
 use Rattle.document_machine.specs.Kept.{IsHeld, IsPresentKept, IsTileKept}
-use Rattle.document_machine.specs.Next.{Work, Serve, Apply, Send, Cut, Rest, can_serve, group_at, is_free, joins_group, next_pair, right_of}
+use Rattle.document_machine.specs.Next.{Work, Serve, Apply, Send, Cut, Rest, group_at, is_free, joins_group}
 use Rattle.document_machine.specs.Outputs.{frames_only}
-use Rattle.document_machine.specs.Saves.{has_ready_save, saving_served, served_outs}
+use Rattle.document_machine.specs.Saves.{saving_served, served_outs}
 use Rattle.document_machine.specs.State.{Shown, View, Job, Document, find_view, with_view}
 use Rattle.document_machine.specs.Step.{Cuts, Does, Sends, given, told}
 use Rattle.document_machine.specs.declared.limits.TheConstants.{MOST_JOBS}

@@ -1,5 +1,5 @@
 -- What is kept of the keys of the work that is next.
-use Rattle.std.proofs.Common.{◌≡◌, ℕ, zero, suc, Bool, true, false, not, ◌&&◌, cond, List, [], ◌∷◌, length, Option, None, Some, is_some, refl, ap, sym, subst, ◌∙◌}
+use Rattle.std.proofs.Common.{◌≡◌, ℕ, zero, suc, Bool, true, false, not, cond, List, [], ◌∷◌, length, Option, None, Some, is_some, refl, ap, sym, subst, ◌∙◌}
 use Rattle.std.specs.Prelude.{nat_lt}
 use Rattle.std.specs.List.{AllByRecursion}
 use Rattle.std.proofs.lemmas.Bool.{and_parts}
@@ -7,7 +7,7 @@ use Rattle.kit_trait.specs.Rules.{Rules}
 use Rattle.tile_key.specs.Places.{Place, next_place}
 use Rattle.document_machine.specs.Due.{is_current, is_out, is_owed}
 use Rattle.document_machine.specs.Held.{where_current}
-use Rattle.document_machine.specs.Next.{Work, Serve, Apply, Send, Cut, Rest, group_at, joins_group, next_pair, pick, right_of, serving, serving_next}
+use Rattle.document_machine.specs.Next.{Work, Serve, Apply, Send, Cut, group_at, joins_group, next_pair, pick, right_of, serving, serving_next}
 use Rattle.document_machine.specs.Saves.{has_ready_save}
 use Rattle.document_machine.specs.State.{Document}
 

@@ -4,21 +4,20 @@ use Rattle.std.specs.Prelude.{◌⊎◌, nat_lt, Result}
 use Rattle.std.specs.List.{AllByRecursion}
 use Rattle.kit_trait.specs.Rules.{Rules, doc}
 use Rattle.kit_trait.specs.declared.values.Input.{Input}
-use Rattle.outside.specs.declared.errands.Errand.{Errand}
 use Rattle.outside.specs.declared.errands.Receipt.{Receipt}
 use Rattle.outside.specs.declared.faults.StoreFault.{StoreFault}
 use Rattle.save_core.proofs.Bound.{under_way}
-use Rattle.save_core.specs.Saving.{Saving, answered, answered_put, begun, ended, errand_for, final_waits, final_with, last_stored, left_over}
+use Rattle.save_core.specs.Saving.{Saving, answered, answered_put, ended, errand_for, final_waits, final_with, last_stored, left_over}
 use Rattle.save_core.specs.declared.values.Put.{Put}
 use Rattle.tile_key.specs.Places.{Place}
 use Rattle.document_machine.proofs.Lists.{all_push}
 use Rattle.document_machine.specs.Due.{parts_of}
 use Rattle.document_machine.specs.Event.{Event, Joined, Left, Said, Turned, Painted, PutAnswered}
 use Rattle.document_machine.specs.Kept.{IsKept, IsPutKept}
-use Rattle.document_machine.specs.Message.{Effect, effect, saving_after, with_save, with_token}
+use Rattle.document_machine.specs.Message.{Effect, effect, with_save, with_token}
 use Rattle.document_machine.specs.Run.{Segment}
 use Rattle.document_machine.specs.Saves.{is_last_view, needs_final_save, receipt_of, saving_left, text_at}
-use Rattle.document_machine.specs.State.{View, Job, Document, find_job, opening}
+use Rattle.document_machine.specs.State.{Job, Document, find_job, opening}
 use Rattle.document_machine.specs.Step.{JoinsWhere, Works, TurnsTo, Paints, Step}
 use Rattle.document_machine.specs.declared.limits.TheConstants.{MOST_VIEWS}
 use Rattle.document_machine.specs.declared.outs.Outs.{Outs}
@@ -43,6 +42,18 @@ save_stored (Some skip) id mark token s = refl
 final_stored : (mark : ℕ) (o : Option (List ℕ)) (s : Saving) → (final_with mark o s).stored ≡ s.stored
 final_stored mark None s = refl
 final_stored mark (Some token) s = refl
+
+-- what was put in a run was put in a longer one
+pub put_more : {S : Type 0} (events : List (Event S)) (event : Event S) (file content : List ℕ) → WasPut events file content → WasPut (events ++ event ∷ []) file content
+put_more events event file content is = record {
+  before = is.before;
+  ticket = is.ticket;
+  receipt = is.receipt;
+  behind = is.behind ++ event ∷ [];
+  split = ap (λ es. es ++ event ∷ []) is.split ∙ append_assoc is.before (PutAnswered is.ticket (Ok is.receipt) ∷ is.behind) (event ∷ []);
+  file_is = is.file_is;
+  content_is = is.content_is;
+}
 
 module _ {C B S : Type 0} (rules : Rules C B) (cut : C → Place → S) where
   -- a step stores nothing, or the content of the put that a receipt came for
@@ -155,15 +166,9 @@ module _ {C B S : Type 0} (rules : Rules C B) (cut : C → Place → S) where
       let After : ℕ → Type 0 = λ n. WasPut (before ++ event ∷ []) new.file (text_at rules new n) in
       let past : AllByRecursion (λ n. n ≤ new.applied) was.later = weaker (λ n. n ≤ old.applied) (λ n. n ≤ new.applied) was.later (λ n le. omega arith) was.past in
       let put : AllByRecursion After was.later = both (λ n. n ≤ old.applied) (λ n. WasPut before old.file (text_at rules old n)) After was.later
-      (λ n le is. record {
-        before = is.before;
-        ticket = is.ticket;
-        receipt = is.receipt;
-        behind = is.behind ++ event ∷ [];
-        split = ap (λ es. es ++ event ∷ []) is.split ∙ append_assoc is.before (PutAnswered is.ticket (Ok is.receipt) ∷ is.behind) (event ∷ []);
-        file_is = is.file_is ∙ sym file;
-        content_is = is.content_is ∙ sym (text n le);
-      }) was.past was.put in
+      (λ n le is.
+      subst (λ f. WasPut (before ++ event ∷ []) f (text_at rules new n)) (sym file)
+      (subst (WasPut (before ++ event ∷ []) old.file) (sym (text n le)) (put_more before event old.file (text_at rules old n) is))) was.past was.put in
       elim stores.0 [
         | inl same ↦ record { later = was.later; stored_are = same ∙ was.stored_are; past = past; put = put }
         | inr one ↦

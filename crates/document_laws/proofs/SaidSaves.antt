@@ -1,15 +1,12 @@
 -- In a run each save that waits was said by its view.
-use Rattle.std.proofs.Common.{◌≡◌, ◌≢◌, ℕ, ◌+◌, ◌<◌, ◌≤◌, Bool, true, false, not, ◌&&◌, cond, List, [], ◌∷◌, ◌++◌, length, map, filter, Option, None, Some, Ok, Err, is_some, option_map, refl, ap, sym, subst, ◌∙◌, arith, inl, inr, append_assoc, append-nil}
-use Rattle.std.specs.Prelude.{nat_lt, Result}
+use Rattle.std.proofs.Common.{◌≡◌, ◌-◌, ℕ, zero, suc, unwrap_or, slice_get, inl, inr, ◌+◌, ◌<◌, Bool, true, false, not, ◌&&◌, cond, List, [], ◌∷◌, ◌++◌, length, map, filter, Option, None, Some, is_some, refl, ap, sym, subst, ◌∙◌, append_assoc, append-nil}
+use Rattle.std.specs.Prelude.{nat_lt}
 use Rattle.std.specs.List.{AllByRecursion}
 use Rattle.cool_base.specs.declared.ids.ViewId.{ViewId}
 use Rattle.cool_frame.specs.declared.frame.Frame.{Frame}
 use Rattle.cool_frame.specs.declared.frame.Frame.TheVariants.{Status, Invalidate, Server, Error, SaveDone, Tile}
 use Rattle.kit_trait.specs.Rules.{Rules}
-use Rattle.kit_trait.specs.declared.values.Input.{Input}
 use Rattle.outside.specs.declared.errands.Errand.{Errand}
-use Rattle.outside.specs.declared.errands.Receipt.{Receipt}
-use Rattle.outside.specs.declared.faults.StoreFault.{StoreFault}
 use Rattle.save_core.specs.Saving.{Saving, answered, answered_put, begun, bound_to, ended, errand_for, final_waits, final_with, is_unmodified, last_stored, left_over, waits}
 use Rattle.save_core.specs.declared.values.Put.{Put}
 use Rattle.save_core.specs.declared.values.Save.{Save}
@@ -22,7 +19,7 @@ use Rattle.document_machine.specs.Kept.{IsKept}
 use Rattle.document_machine.specs.Message.{Effect, effect, saving_after, with_save, with_token}
 use Rattle.document_machine.specs.Outputs.{named, nothing, joined}
 use Rattle.document_machine.specs.Run.{Segment}
-use Rattle.document_machine.specs.Saves.{is_last_view, needs_final_save, receipt_of, saving_left, saving_served, text_at}
+use Rattle.document_machine.specs.Saves.{is_last_view, needs_final_save, receipt_of, saving_left, text_at}
 use Rattle.document_machine.specs.State.{View, Job, Document, find_job, find_view, opening}
 use Rattle.document_machine.specs.Step.{JoinsWhere, Works, TurnsTo, Paints, Step}
 use Rattle.document_machine.specs.declared.limits.TheConstants.{MOST_VIEWS}
@@ -30,9 +27,10 @@ use Rattle.document_machine.specs.declared.outs.Outs.{Outs}
 use Rattle.document_machine.specs.declared.outs.Turned.{Turned as TurnAnswer}
 use Rattle.document_machine.specs.declared.outs.Turned.TheVariants.{Worked, Idle}
 use Rattle.document_machine.specs.declared.rights.Rights.{Rights}
-use Rattle.document_laws.specs.Saved.{FollowsItsSave, IsOfRun, IsSaved, IsTrue, WasSaid}
+use Rattle.document_laws.specs.Saved.{ArePut, FollowsItsSave, IsOfRun, IsSavedBy, IsStoredBy, IsTrue, WasPut, WasSaid}
 use Rattle.document_laws.proofs.Kept.{opening_keeps, runs_keep}
 use Rattle.document_laws.proofs.Ordered.{weaker}
+use Rattle.document_laws.proofs.PutContents.{contents_were_put, put_more}
 use Rattle.document_laws.proofs.Saved.{all_get, steps_true}
 use Rattle.document_laws.proofs.Saving.{token_saves}
 
@@ -217,22 +215,55 @@ module _ {C B S : Type 0} (rules : Rules C B) (cut : C → Place → S) where
       → AllByRecursion (IsOfRun rules cut (opening file base) events d) d.saving.saves
   waiting_were_said file base events outs d run = run_said (opening file base) events [] nothing outs (opening file base) d (refl, refl) run tt
 
+  -- a content of as many inputs as were stored last was stored by then
+  stored_last : (events : List (Event S)) (event : Event S) (d : Document S) (stored : List ℕ) (place : ℕ) → AllByRecursion (λ n. WasPut events d.file (text_at rules d n)) stored
+      → IsStoredBy rules (events ++ event ∷ []) d (unwrap_or (slice_get stored place) 0)
+  stored_last events event d [] place all = inl refl
+  stored_last events event d (n ∷ ns) zero all = inr (put_more events event d.file (text_at rules d n) all.0)
+  stored_last events event d (n ∷ ns) (suc place) all = stored_last events event d ns place all.1
+
+  stored_by : (events : List (Event S)) (event : Event S) (d : Document S) (place : ℕ) → (put : ArePut rules events d) → IsStoredBy rules (events ++ event ∷ []) d (unwrap_or (slice_get (0 ∷ put.later) place) 0)
+  stored_by events event d zero put = inl refl
+  stored_by events event d (suc place) put = stored_last events event d put.later place put.put
+
   -- a frame that is true follows the save that it answers
-  follows : (first old new : Document S) (events : List (Event S)) (event : Event S) → AllByRecursion (IsOfRun rules cut first events old) old.saving.saves
-      → (frame : ViewId × Frame) → IsTrue rules old event new frame → FollowsItsSave rules cut first events old frame
-  follows first old new events event said (view, SaveDone number put) is =
-      (is.save.mark, is.save.skip, is.mark, all_get (IsOfRun rules cut first events old) old.saving.saves is.place is.save said is.waited view is.of_view)
-  follows first old new events event said (view, Tile key version wid rgba) is = tt
-  follows first old new events event said (view, Server) is = tt
-  follows first old new events event said (view, Status kit parts size to readonly) is = tt
-  follows first old new events event said (view, Invalidate part rect) is = tt
-  follows first old new events event said (view, Error command kind code) is = tt
+  by_then : (old new : Document S) (events : List (Event S)) (event : Event S) → ArePut rules events old → (number : ℕ) (save : Save) (put : Bool) → IsSavedBy rules old event new number save put
+      → IsStoredBy rules (events ++ event ∷ []) old number
+  by_then old new events event stored number save true by = inr (record {
+    before = events;
+    ticket = by.1.ticket;
+    receipt = by.1.receipt;
+    behind = [];
+    split = ap (λ (e : Event S). events ++ e ∷ []) by.1.event_is;
+    file_is = by.1.file_is;
+    content_is = by.1.content_is;
+  })
+  by_then old new events event stored number save false by =
+      let numbers : List ℕ = old.saving.stored in
+      let at : IsStoredBy rules (events ++ event ∷ []) old (unwrap_or (slice_get numbers (length numbers - 1)) 0) =
+      subst (λ ns. IsStoredBy rules (events ++ event ∷ []) old (unwrap_or (slice_get ns (length ns - 1)) 0)) (sym stored.stored_are) (stored_by events event old (length (0 ∷ stored.later) - 1) stored) in
+      subst (IsStoredBy rules (events ++ event ∷ []) old) by.1.last at
+
+  follows : (first old new : Document S) (events : List (Event S)) (event : Event S) → AllByRecursion (IsOfRun rules cut first events old) old.saving.saves → ArePut rules events old
+      → (frame : ViewId × Frame) → IsTrue rules old event new frame → FollowsItsSave rules cut first events old event frame
+  follows first old new events event said stored (view, SaveDone number put) is = (
+    is.save.mark,
+    is.save.skip,
+    is.mark,
+    all_get (IsOfRun rules cut first events old) old.saving.saves is.place is.save said is.waited view is.of_view,
+    by_then old new events event stored number is.save put is.by,
+  )
+  follows first old new events event said stored (view, Tile key version wid rgba) is = tt
+  follows first old new events event said stored (view, Server) is = tt
+  follows first old new events event said stored (view, Status kit parts size to readonly) is = tt
+  follows first old new events event said stored (view, Invalidate part rect) is = tt
+  follows first old new events event said stored (view, Error command kind code) is = tt
 
   -- so each view that is told that its save is done said one before
   pub done_were_said : ((base : List ℕ) → 0 < parts_of rules base) → (file base : List ℕ) (events : List (Event S)) (given : Outs S) (d : Document S) (event : Event S) (outs : Outs S) (new : Document S)
       → rules.accepts base ≡ true → Segment rules cut (opening file base) events given d → Step rules cut d event outs new
-      → AllByRecursion (FollowsItsSave rules cut (opening file base) events d) outs.frames
+      → AllByRecursion (FollowsItsSave rules cut (opening file base) events d event) outs.frames
   done_were_said some file base events given d event outs new accepted run step =
       let kept : IsKept rules cut d = runs_keep rules cut some events (opening file base) d given run (opening_keeps rules cut file base accepted) in
-      weaker (IsTrue rules d event new) (FollowsItsSave rules cut (opening file base) events d) outs.frames
-      (follows (opening file base) d new events event (waiting_were_said file base events given d run)) (steps_true rules cut d new event outs kept step)
+      weaker (IsTrue rules d event new) (FollowsItsSave rules cut (opening file base) events d event) outs.frames
+      (follows (opening file base) d new events event (waiting_were_said file base events given d run) (contents_were_put rules cut some file base events given d accepted run)) (steps_true rules cut d new event outs kept step)

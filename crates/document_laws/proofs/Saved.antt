@@ -1,5 +1,5 @@
 -- What stands behind each frame that says that a save is done.
-use Rattle.std.proofs.Common.{◌≡◌, ◌≢◌, ⊤, ℕ, zero, suc, ◌+◌, ◌-◌, ◌<◌, ◌≤◌, Bool, true, false, not, ◌&&◌, ◌||◌, cond, nat_eq, nat_le, List, [], ◌∷◌, ◌++◌, length, map, filter, Option, None, Some, Ok, Err, is_some, unwrap_or, option_map, refl, ap, sym, subst, ◌∙◌, arith, inl, inr}
+use Rattle.std.proofs.Common.{◌≡◌, ℕ, zero, suc, ◌+◌, ◌-◌, ◌<◌, Bool, true, false, not, ◌&&◌, ◌||◌, cond, nat_eq, nat_le, List, [], ◌∷◌, ◌++◌, length, map, filter, Option, None, Some, Ok, Err, unwrap_or, refl, ap, sym, subst, ◌∙◌, arith, inl, inr}
 use Rattle.std.specs.Prelude.{nat_lt, slice_get, Result}
 use Rattle.std.specs.List.{flat_map, filter_map, cons_option, list_any, AllByRecursion}
 use Rattle.std.specs.Str.{bytes_eq}
@@ -16,7 +16,7 @@ use Rattle.outside.specs.declared.errands.Receipt.{Receipt}
 use Rattle.outside.specs.declared.faults.StoreFault.{StoreFault}
 use Rattle.save_core.proofs.Bound.{under_way}
 use Rattle.save_core.specs.Runs.{IsBoundTo}
-use Rattle.save_core.specs.Saving.{Saving, answer_of, answered, answered_put, answers, begun, endings, errand_for, ended, is_for, is_ready_save, is_unmodified, last_stored, left_over, served, token_for, unmodified}
+use Rattle.save_core.specs.Saving.{Saving, answer_of, answered, answered_put, answers, begun, endings, errand_for, ended, is_for, is_ready_save, is_unmodified, last_stored, left_over, unmodified}
 use Rattle.save_core.specs.declared.values.Put.{Put}
 use Rattle.save_core.specs.declared.values.Save.{Save}
 use Rattle.tile_key.specs.Places.{Place}
@@ -26,7 +26,7 @@ use Rattle.document_machine.specs.Event.{Event, Joined, Left, Said, Turned, Pain
 use Rattle.document_machine.specs.Kept.{IsKept, IsPutKept, IsViewKept}
 use Rattle.document_machine.specs.Message.{Effect, effect}
 use Rattle.document_machine.specs.Outputs.{named, outs_of}
-use Rattle.document_machine.specs.Saves.{EndsPut, Serves, ending_frame, ending_frames, receipt_of, saving_served, served_outs, text_at, told_view, unmodified_frames}
+use Rattle.document_machine.specs.Saves.{Serves, ending_frame, ending_frames, receipt_of, text_at, told_view}
 use Rattle.document_machine.specs.State.{View, Job, Document, find_job, is_live}
 use Rattle.document_machine.specs.Step.{JoinsWhere, Works, TurnsTo, Paints, Step, told, offered, tile_for, tiles_for}
 use Rattle.document_machine.specs.declared.limits.TheConstants.{MOST_VIEWS}
@@ -34,7 +34,7 @@ use Rattle.document_machine.specs.declared.outs.Outs.{Outs}
 use Rattle.document_machine.specs.declared.outs.Turned.{Turned as TurnAnswer}
 use Rattle.document_machine.specs.declared.outs.Turned.TheVariants.{Worked, Idle}
 use Rattle.document_machine.specs.declared.rights.Rights.{Rights}
-use Rattle.document_laws.specs.Saved.{IsPut, IsSaved, IsTrue, IsUnmodified}
+use Rattle.document_laws.specs.Saved.{IsSaved, IsTrue}
 use Rattle.document_laws.proofs.Heard.{IsGood, IsPlain, effect_good}
 use Rattle.document_laws.proofs.Ordered.{all_both}
 use Rattle.document_laws.proofs.SaveFrames.{ending_all}

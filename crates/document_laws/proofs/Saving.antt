@@ -1,8 +1,8 @@
 -- What holds of a document's saves stays, whatever becomes of them.
-use Rattle.std.proofs.Common.{◌≡◌, ◌≢◌, ⊤, ℕ, zero, suc, ◌+◌, ◌-◌, ◌<◌, ◌≤◌, Bool, true, false, not, ◌&&◌, ◌||◌, cond, nat_eq, nat_le, List, [], ◌∷◌, ◌++◌, length, map, filter, Option, None, Some, is_none, is_some, unwrap_or, option_map, refl, ap, sym, subst, ◌∙◌, arith, inl, inr, length-append, append-nil}
+use Rattle.std.proofs.Common.{◌≡◌, ◌≢◌, ℕ, zero, suc, ◌+◌, ◌-◌, ◌<◌, ◌≤◌, Bool, true, false, not, ◌&&◌, ◌||◌, cond, nat_eq, nat_le, List, [], ◌∷◌, ◌++◌, length, map, filter, Option, None, Some, is_none, is_some, unwrap_or, option_map, refl, ap, sym, subst, ◌∙◌, arith, length-append, append-nil}
 use Rattle.std.specs.Prelude.{slice_get}
 use Rattle.std.specs.List.{list_any, AllByRecursion}
-use Rattle.std.proofs.lemmas.Bool.{cases_Bool, and_parts, or_parts, eqb-true, leb-true}
+use Rattle.std.proofs.lemmas.Bool.{and_parts, or_parts, eqb-true, leb-true}
 use Rattle.std.proofs.lemmas.Bool.Decides.{nat_tests}
 use Rattle.std.proofs.lemmas.List.Elements.{filter-append}
 use Rattle.std.proofs.lemmas.List.Folds.{list_any-append}
@@ -10,14 +10,11 @@ use Rattle.cool_base.specs.declared.ids.ViewId.{ViewId}
 use Rattle.kit_trait.specs.Rules.{Rules, doc}
 use Rattle.kit_trait.specs.declared.values.Input.{Input}
 use Rattle.outside.specs.declared.errands.Errand.{Errand}
-use Rattle.outside.specs.declared.errands.Receipt.{Receipt}
-use Rattle.save_core.proofs.Bound.{AreBound, served_bound, answered_bound, waits_bound, final_bound}
-use Rattle.save_core.specs.Runs.{IsBoundTo}
-use Rattle.save_core.specs.Saving.{Saving, answered, answered_put, begun, bound_to, ended, errand_for, final_with, final_waits, has_mark, is_full, is_of, is_ready, is_ready_save, is_unmodified, last_stored, left_over, needs_put, served, stored_with, token_for, token_kept, waits}
+use Rattle.save_core.proofs.Bound.{AreBound, served_bound, answered_bound, waits_bound}
+use Rattle.save_core.specs.Saving.{Saving, begun, bound_to, ended, final_with, final_waits, has_mark, is_full, is_of, is_ready_save, is_unmodified, last_stored, left_over, served, stored_with, token_for, token_kept, waits}
 use Rattle.save_core.specs.declared.values.Put.{Put}
 use Rattle.save_core.specs.declared.values.Save.{Save}
 use Rattle.save_core.specs.declared.values.TheConstants.{MOST_SAVES}
-use Rattle.send_window.proofs.Closing.{filter_le}
 use Rattle.document_machine.proofs.Lists.{all_push, all_filter, nat_eq_self}
 use Rattle.document_machine.specs.Kept.{IsPutKept, IsSavingKept}
 use Rattle.document_machine.specs.Message.{Effect, saving_after, with_save, with_token}

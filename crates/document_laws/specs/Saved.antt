@@ -1,5 +1,5 @@
 -- What stands behind a save that a view is told is done.
-use Rattle.std.specs.Prelude.{◌≡◌, ⊤, ℕ, ◌≤◌, Bool, true, false, nat_eq, List, [], ◌∷◌, ◌++◌, length, slice_get, Option, None, Some, Ok}
+use Rattle.std.specs.Prelude.{◌≡◌, ⊤, ◌⊎◌, ℕ, ◌≤◌, Bool, true, false, nat_eq, List, [], ◌∷◌, ◌++◌, length, slice_get, Some, Ok}
 use Rattle.std.specs.List.{list_any, AllByRecursion}
 use Rattle.cool_base.specs.declared.ids.ViewId.{ViewId}
 use Rattle.cool_frame.specs.declared.frame.Frame.{Frame}
@@ -90,14 +90,6 @@ IsOfRun rules cut old events new save =
     (view : ViewId) → save.view ≡ Some view
     → WasSaid rules cut old events new view save.mark save.skip
 
--- a view that is told that its save is done said one in the run before, with no more inputs accepted
--- before it than the stored content holds
-abbrev pub FollowsItsSave : {C B S : Type 0} → Rules C B → (C → Place → S)
-    → Document S → List (Event S) → Document S → ViewId × Frame → Type 0
-FollowsItsSave rules cut old events new (view, SaveDone number put) =
-    (mark : ℕ) × (skip : Bool) × (mark ≤ number) × WasSaid rules cut old events new view mark skip
-FollowsItsSave rules cut old events new _ = ⊤
-
 -- among the events is the receipt of a put of this content in this file
 pub record WasPut {S : Type 0} (events : List (Event S)) (file content : List ℕ) : Type 0 where
   pub before : List (Event S)
@@ -107,6 +99,20 @@ pub record WasPut {S : Type 0} (events : List (Event S)) (file content : List �
   pub split : events ≡ before ++ PutAnswered ticket (Ok receipt) ∷ behind
   pub file_is : receipt.file ≡ file
   pub content_is : receipt.content ≡ content
+
+-- a content of so many inputs was stored by then: the loaded file, or one that was put
+abbrev pub IsStoredBy : {C B S : Type 0} → Rules C B → List (Event S) → Document S → ℕ → Type 0
+IsStoredBy rules events d number =
+    (number ≡ 0) ⊎ WasPut events d.file (text_at rules d number)
+
+-- a view that is told in a step behind a run that its save is done said one in the run, with no more
+-- inputs accepted before it than the number says, and a content of that many was stored by then
+abbrev pub FollowsItsSave : {C B S : Type 0} → Rules C B → (C → Place → S)
+    → Document S → List (Event S) → Document S → Event S → ViewId × Frame → Type 0
+FollowsItsSave rules cut old events d event (view, SaveDone number put) =
+    (mark : ℕ) × (skip : Bool) × (mark ≤ number) × WasSaid rules cut old events d view mark skip
+    × IsStoredBy rules (events ++ event ∷ []) d number
+FollowsItsSave rules cut old events d event _ = ⊤
 
 -- what is stored once a run led here from a loaded document: the loaded file first, and then contents
 -- of the document after so many inputs, all applied, each put by a receipt of the run

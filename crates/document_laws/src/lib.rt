@@ -311,9 +311,10 @@ pub fn moves_keep<K: Kit>()
 /// accepted before it than the number in the frame says, that many are applied, and a content of
 /// that many is stored. Where the frame says `put`, the step is a receipt of that very content in
 /// the document's file (`step`). In a run that began with a loaded document each save that waits
-/// was said by its view, where as many inputs were accepted as its mark says (`waiting`), and each
-/// view that is told that its save is done said one before, with no more inputs accepted than the
-/// number says (`run`).
+/// was said by its view, where as many inputs were accepted as its mark says (`waiting`). And each
+/// view that is told behind such a run that its save is done said one in it, with no more inputs
+/// accepted than the number says, and by then a content of that many was stored: the loaded file,
+/// or one that a receipt came for (`run`).
 pub fn saves_are_stored<K: Kit>()
     ensures step { (old new : Document K.Scene) (event : Happening K.Scene) (outs : Given K.Scene)
         → IsKept K.rules K.cut old → Step K.rules K.cut old event outs new
@@ -328,7 +329,8 @@ pub fn saves_are_stored<K: Kit>()
         → K.rules.accepts base ≡ true
         → Segment K.rules K.cut (opening file base) events given d
         → Step K.rules K.cut d event outs new
-        → AllByRecursion (FollowsItsSave K.rules K.cut (opening file base) events d) outs.frames }
+        → AllByRecursion (FollowsItsSave K.rules K.cut (opening file base) events d event)
+        outs.frames }
 {}
 
 /// In a run that began with a loaded document each stored content but the loaded file was put: a
