@@ -289,11 +289,11 @@ module _ {C B S : Type 0} (rules : Rules C B) where
             falls d e (parts_fall d e 1 (input_gone ((MOST_JOBS + 2) * (length d.journal - d.applied)) (old_jobs e) (old_jobs d) gone) fewer rest) fewer few (same_le (saves_to_come d))
         | inr present ↦
             let none : one (is_old job) ≡ 0 = ap one present in
-            let at : job.number ≡ d.applied = let past = of_job.number in let low = ltb-false job.number d.applied present in omega (arith, past, low) in
+            let level : job.number ≡ d.applied = let past = of_job.number in let low = ltb-false job.number d.applied present in omega (arith, past, low) in
             elim (cases_Bool (is_for job)) [
               | inl wanted ↦
                   let less = all_offers_lt rules d job.keys d.views ready wanted in
-                  let same : sum_by (left_of rules d) e.views ≡ sum_by (left_of rules d) (views_offered rules d d.applied job.keys d.views) = ap (λ n. sum_by (left_of rules d) (views_offered rules d n job.keys d.views)) at in
+                  let same : sum_by (left_of rules d) e.views ≡ sum_by (left_of rules d) (views_offered rules d d.applied job.keys d.views) = ap (λ n. sum_by (left_of rules d) (views_offered rules d n job.keys d.views)) level in
                   let before : sum_by (left_of rules d) d.views ≡ 2 * due_pairs rules d + unacknowledged d = sum_apart (due_of rules d) (λ view. length view.window) d.views in
                   let after : sum_by (left_of rules d) e.views ≡ 2 * due_pairs rules e + unacknowledged e = sum_apart (due_of rules d) (λ view. length view.window) e.views in
                   let down : 2 * due_pairs rules e + unacknowledged e + 1 ≤ 2 * due_pairs rules d + unacknowledged d = omega (arith, less, same, before, after) in

@@ -34,7 +34,7 @@ among_ordered (key ∷ keys) list x =
     among_ordered keys (inserted list key) x ∙ ap (λ b. b || is_among keys x) (among_inserted list key x) ∙ join (is_among list x) (same_place key x) (is_among keys x)
 
 -- what is due is seen or asked for
-due_among : {C B S : Type 0} (rules : Rules C B) (d : Document S) (view : View) (key : Place) → is_due rules d view key ≡ true → is_among (keys rules d view) key ≡ true
+pub due_among : {C B S : Type 0} (rules : Rules C B) (d : Document S) (view : View) (key : Place) → is_due rules d view key ≡ true → is_among (keys rules d view) key ≡ true
 due_among rules d view key due =
     let go : (a b c : Bool) → ((a && b) || c) ≡ true → (a || c) ≡ true = elim [
       | true ↦ λ b c e. refl
