@@ -118,7 +118,7 @@ module _ {C B S : Type 0} (rules : Rules C B) (d : Document S) where
     once = kept.asked_once;
     points = seen_points view.part view.zoom view.area (size_of rules d.base view.part) kept.zoom;
     asked_points = weaker (λ key. IsKey key × (key.part < parts_of rules d.base)) HasPoint view.asked
-    (λ key is. (omega (arith, is.0.tilewidth_low), omega (arith, is.0.tileheight_low))) kept.asked;
+        (λ key is. (omega (arith, is.0.tilewidth_low), omega (arith, is.0.tileheight_low))) kept.asked;
     versions = kept.versions;
   }
 

@@ -239,4 +239,3 @@ module _ {C B S : Type 0} (rules : Rules C B) (d : Document S) where
             let is : sum_by (left_of rules d) (views_offered rules d d.applied keys (map (offered rules d d.applied key) views)) ≡ sum_by (left_of rules d) (views_offered rules d d.applied keys views) = ap (λ vs. sum_by (left_of rules d) (views_offered rules d d.applied keys vs)) same in
             omega (arith, rest, is)
       ]
-

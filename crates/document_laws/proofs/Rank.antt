@@ -397,12 +397,12 @@ module _ {C B S : Type 0} (rules : Rules C B) (cut : C → Place → S) where
         | inr more ↦ elim more [
           | inl applies ↦ subst (λ (e : Document S). IsLower rules e old) (sym applies.new_is) (applied_lower rules old (some_input old.journal old.applied applies.input applies.behind))
           | inr other ↦ elim other [
-          | inl sends ↦
-              let ready : IsReady rules old sends.view = found_view (IsReady rules old) old.views sends.view.id sends.view (all_ready rules old kept) sends.live in
-              let clean : touched rules old.base old.journal sends.version sends.key old.applied ≡ false = not-true (touched rules old.base old.journal sends.version sends.key old.applied) sends.current in
-              subst (λ (e : Document S). IsLower rules e old) (sym sends.new_is)
-              (sent_lower rules old sends.view.id sends.key sends.version clean sends.view ready sends.level refl sends.live sends.due sends.past kept.apart)
-          | inr cuts ↦ subst (λ (e : Document S). IsLower rules e old) (sym cuts.new_is) (cut_lower rules old cuts.job cuts.wanted)
+            | inl sends ↦
+                let ready : IsReady rules old sends.view = found_view (IsReady rules old) old.views sends.view.id sends.view (all_ready rules old kept) sends.live in
+                let clean : touched rules old.base old.journal sends.version sends.key old.applied ≡ false = not-true (touched rules old.base old.journal sends.version sends.key old.applied) sends.current in
+                subst (λ (e : Document S). IsLower rules e old) (sym sends.new_is)
+                (sent_lower rules old sends.view.id sends.key sends.version clean sends.view ready sends.level refl sends.live sends.due sends.past kept.apart)
+            | inr cuts ↦ subst (λ (e : Document S). IsLower rules e old) (sym cuts.new_is) (cut_lower rules old cuts.job cuts.wanted)
           ]
         ]
       ]
