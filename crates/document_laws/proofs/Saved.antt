@@ -52,7 +52,7 @@ all_get P (y ∷ ys) (suc place) x all e = all_get P ys place x all.1 e
 
 -- what holds of the view of each save that passes
 views_all : (Q : ViewId → Type 0) (p : Save → Bool) (saves : List Save) → ((save : Save) → Has saves save → p save ≡ true → (id : ViewId) → save.view ≡ Some id → Q id)
-    → AllByRecursion Q (filter_map (λ save. save.view) (filter p saves))
+    → AllByRecursion Q (filter_map (λ (save : Save). save.view) (filter p saves))
 views_all Q p [] hold = tt
 views_all Q p (save ∷ saves) hold =
     let rest : AllByRecursion Q (filter_map (λ (s : Save). s.view) (filter p saves)) = views_all Q p saves (λ s has. hold s (suc has.0, has.1)) in
