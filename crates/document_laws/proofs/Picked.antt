@@ -17,8 +17,8 @@ none_by None e = refl
 none_by (Some n) e = absurd (cc)
 
 -- a pair that is there
-abbrev paired : ℕ → Place → Option (ℕ × Place)
-paired id key = Some (id, key)
+abbrev a_pair : ℕ → Place → Option (ℕ × Place)
+a_pair id key = Some (id, key)
 
 -- what follows of the test holds of all keys to the right that pass it
 pub right_each : (P : Place → Type 0) (test : Place → Bool) → ((key : Place) → test key ≡ true → P key) → (most : ℕ) (key : Place) → AllByRecursion P (right_of most test key)
@@ -59,13 +59,13 @@ module _ {C B S : Type 0} (rules : Rules C B) (d : Document S) where
     send_serves : (o : Option (ℕ × Place)) (id : ℕ) (key : Place) (version : ℕ) → serving_next rules kept d o ≡ Send id key version → (o ≡ Some (id, key)) × (kept key ≡ Some version)
     send_serves None id key version e = absurd (cc)
     send_serves (Some (view, k)) id key version e =
-        let go : (o : Option ℕ) → kept k ≡ o → serving view k (group_at rules kept d k) o ≡ Send id key version → (paired view k ≡ paired id key) × (kept key ≡ Some version) = elim [
+        let go : (o : Option ℕ) → kept k ≡ o → serving view k (group_at rules kept d k) o ≡ Send id key version → (a_pair view k ≡ a_pair id key) × (kept key ≡ Some version) = elim [
           | None ↦ λ none is. absurd (cc)
           | Some had ↦ λ some is.
               let view_is : view ≡ id = cc in
               let same : k ≡ key = cc in
               let version_is : had ≡ version = cc in (
-                ap (λ v. paired v k) view_is ∙ ap (paired id) same,
+                ap (λ v. a_pair v k) view_is ∙ ap (λ x. a_pair id x) same,
                 subst (λ x. kept x ≡ Some version) same (some ∙ ap Some version_is),
               )
         ] in
@@ -74,11 +74,11 @@ module _ {C B S : Type 0} (rules : Rules C B) (d : Document S) where
     cut_serves : (o : Option (ℕ × Place)) (id : ℕ) (keys : List Place) → serving_next rules kept d o ≡ Cut id keys → (key : Place) × (o ≡ Some (id, key)) × (kept key ≡ None) × (group_at rules kept d key ≡ keys)
     cut_serves None id keys e = absurd (cc)
     cut_serves (Some (view, k)) id keys e =
-        let go : (o : Option ℕ) → kept k ≡ o → serving view k (group_at rules kept d k) o ≡ Cut id keys → (key : Place) × (paired view k ≡ paired id key) × (kept key ≡ None) × (group_at rules kept d key ≡ keys) = elim [
+        let go : (o : Option ℕ) → kept k ≡ o → serving view k (group_at rules kept d k) o ≡ Cut id keys → (key : Place) × (a_pair view k ≡ a_pair id key) × (kept key ≡ None) × (group_at rules kept d key ≡ keys) = elim [
           | None ↦ λ none is.
               let view_is : view ≡ id = cc in
               let same : group_at rules kept d k ≡ keys = cc in
-              (k, ap (λ v. paired v k) view_is, none, same)
+              (k, ap (λ v. a_pair v k) view_is, none, same)
           | Some had ↦ λ some is. absurd (cc)
         ] in
         go (kept k) refl e
