@@ -159,15 +159,10 @@ module _ {C B S : Type 0} (rules : Rules C B) (d : Document S) where
         (visible rules d view) kept.zoom refl);
     once = kept.asked_once;
     points = seen_points view.part view.zoom view.area (size_of rules d.base view.part) kept.zoom;
-<<<<<<< HEAD
-    asked_points = weaker (λ key. IsKey key × (key.part < parts_of rules d.base)) HasPoint view.asked
-        (λ key is. (omega (arith, is.0.tilewidth_low), omega (arith, is.0.tileheight_low))) kept.asked;
-=======
     asked_points =
         weaker (λ key. IsKey key × (key.part < parts_of rules d.base)) HasPoint view.asked
         (λ key is. (omega (arith, is.0.tilewidth_low), omega (arith, is.0.tileheight_low)))
         kept.asked;
->>>>>>> adac2c5181bac79cf72ee69ca1210685855432e2
     versions = kept.versions;
   }
 
