@@ -123,7 +123,8 @@ module _ {C B S : Type 0} (rules : Rules C B) (d : Document S) where
       ap (λ vs. views_offered rules d number keys vs) (offers_same number key views not_taken)
       ∙ unwanted_same number keys views parts.1
 
-module _ {C B S : Type 0} (rules : Rules C B) (d : Document S) (number : ℕ) (past : number ≤ d.applied) where
+module _ {C B S : Type 0} (rules : Rules C B) (d : Document S) (number : ℕ)
+    (past : number ≤ d.applied) where
   offered_ready : (key : Place) (view : View) → IsReady rules d view
       → IsReady rules d (offered rules d number key view)
   offered_ready key view ready =

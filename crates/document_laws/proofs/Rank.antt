@@ -81,7 +81,9 @@ apart_out job (other ∷ others) key apart among =
     ]
 
 -- jobs that share no key are no more than the pairs that they are for, whatever pairs those are
-module _ (keys_of : View → List Place) (asks : View → Place → Bool) (there : (view : View) (key : Place) → asks view key ≡ true → is_among (keys_of view) key ≡ true) where
+module _ (keys_of : View → List Place) (asks : View → Place → Bool)
+    (there : (view : View) (key : Place) → asks view key ≡ true
+    → is_among (keys_of view) key ≡ true) where
   -- the pairs of some keys
   abbrev asked_within : (Place → Bool) → View → ℕ
   asked_within some view = count_by (λ key. asks view key && some key) (keys_of view)
@@ -475,7 +477,8 @@ any_but p q key (x ∷ xs) imp none e =
     ] in
     go (p x) refl e
 
-module _ {C B S : Type 0} (rules : Rules C B) (d : Document S) (id : ℕ) (key : Place) (version : ℕ) (clean : touched rules d.base d.journal version key d.applied ≡ false) where
+module _ {C B S : Type 0} (rules : Rules C B) (d : Document S) (id : ℕ) (key : Place) (version : ℕ)
+    (clean : touched rules d.base d.journal version key d.applied ≡ false) where
   abbrev sent_to : Document S
   sent_to = record d { views = with_view d.views id (sent rules d version key) }
 

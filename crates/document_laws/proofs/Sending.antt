@@ -102,7 +102,8 @@ pub asked_after_other : (asked : List Place) (key : Place) (current : Bool) (x :
 asked_after_other asked key true x away = asked_other asked key x away
 asked_after_other asked key false x away = refl
 
-module _ {C B S : Type 0} (rules : Rules C B) (d : Document S) (version : ℕ) (key : Place) (view : View) where
+module _ {C B S : Type 0} (rules : Rules C B) (d : Document S) (version : ℕ) (key : Place)
+    (view : View) where
   -- another pair is due as before, also where the tile isn't the present one
   pub sent_other : (x : Place) → same_place key x ≡ false
       → is_due rules d (sent rules d version key view) x ≡ is_due rules d view x

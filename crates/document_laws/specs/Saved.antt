@@ -43,8 +43,9 @@ IsSavedBy rules old event new number save true =
 IsSavedBy rules old event new number save false =
     (save.skip ≡ true) × IsUnmodified old event number
 
--- a view is told that its save is done with so many inputs: a save of it waited, with no more inputs
--- accepted before it than so many; that many are applied, and a content of that many is stored
+-- a view is told that its save is done with so many inputs: a save of it waited, with no more
+-- inputs accepted before it than so many; that many are applied, and a content of that many is
+-- stored
 pub record IsSaved {C B S : Type 0} (rules : Rules C B) (old : Document S) (event : Event S)
     (new : Document S) (view : ViewId) (number : ℕ) (put : Bool) : Type 0 where
   pub save : Save
@@ -105,8 +106,9 @@ abbrev pub IsStoredBy : {C B S : Type 0} → Rules C B → List (Event S) → Do
 IsStoredBy rules events d number =
     (number ≡ 0) ⊎ WasPut events d.file (text_at rules d number)
 
--- a view that is told in a step behind a run that its save is done said one in the run, with no more
--- inputs accepted before it than the number says, and a content of that many was stored by then
+-- a view that is told in a step behind a run that its save is done said one in the run, with no
+-- more inputs accepted before it than the number says, and a content of that many was stored by
+-- then
 abbrev pub FollowsItsSave : {C B S : Type 0} → Rules C B → (C → Place → S)
     → Document S → List (Event S) → Document S → Event S → ViewId × Frame → Type 0
 FollowsItsSave rules cut old events d event (view, SaveDone number put) =
@@ -114,8 +116,8 @@ FollowsItsSave rules cut old events d event (view, SaveDone number put) =
     × IsStoredBy rules (events ++ event ∷ []) d number
 FollowsItsSave rules cut old events d event _ = ⊤
 
--- what is stored once a run led here from a loaded document: the loaded file first, and then contents
--- of the document after so many inputs, all applied, each put by a receipt of the run
+-- what is stored once a run led here from a loaded document: the loaded file first, and then
+-- contents of the document after so many inputs, all applied, each put by a receipt of the run
 pub record ArePut {C B S : Type 0} (rules : Rules C B) (events : List (Event S)) (d : Document S)
     : Type 0 where
   pub later : List ℕ
