@@ -1,5 +1,6 @@
-//! Laws of the document machine, for any kit: what follows from its definitions and from the laws of
-//! kits alone, whatever broker runs it. Each is a function with an empty body whose contract is the law.
+//! Laws of the document machine, for any kit: what follows from its definitions and from the laws
+//! of kits alone, whatever broker runs it. Each is a function with an empty body whose contract is
+//! the law.
 #![tactic(auto)]
 
 ghost use Rattle.std.specs.Prelude.{◌≡◌, ◌≢◌, ℕ, ◌+◌, ◌^◌, ◌≤◌, ◌<◌, ◌⊎◌, true, false, List, [], ◌∷◌, ◌++◌, length, nat_eq, ◌&&◌, Option, Some, Result, Ok};
@@ -38,18 +39,18 @@ ghost use Rattle.tile_key.specs.Places.{Place};
 
 use kit_trait::Kit;
 
-/// In a quiet document that a broker keeps every view has on its screen each key that it sees or asked for,
-/// in a version that looks like the document after all accepted inputs, point by point. Of what a broker
-/// keeps this wants that zooms are zooms, so that each tile has a point, and that the versions on screens
-/// are of inputs that are applied.
+/// In a quiet document that a broker keeps every view has on its screen each key that it sees or
+/// asked for, in a version that looks like the document after all accepted inputs, point by point.
+/// Of what a broker keeps this wants that zooms are zooms, so that each tile has a point, and that
+/// the versions on screens are of inputs that are applied.
 pub fn quiet_is_right<K: Kit>()
     ensures { (d : Document K.Scene) → IsKept K.rules K.cut d → IsQuiet K.rules d
         → AllRight K.rules d }
 {}
 
-/// A place looks the same after the first `n` inputs as after the first `version` of them, where no input
-/// between damaged a rectangle that meets it. The place is any of at least one twip each way, as every key
-/// and every area is.
+/// A place looks the same after the first `n` inputs as after the first `version` of them, where no
+/// input between damaged a rectangle that meets it. The place is any of at least one twip each way,
+/// as every key and every area is.
 pub fn untouched_is_unchanged<K: Kit>()
     ensures { (base : List ℕ) (journal : List Typed) (version n : ℕ) (place : Place)
         → 1 ≤ place.tilewidth → 1 ≤ place.tileheight → version ≤ n
@@ -64,19 +65,20 @@ pub fn quiet_test<K: Kit>()
     ensures passes { (d : Document K.Scene) → IsQuiet K.rules d → is_quiet K.rules d ≡ true }
 {}
 
-/// Each tile shows the document after as many inputs as its version says, in one step (`step`), where that
-/// many are applied, and in a run (`run`), where that many are accepted at its end.
+/// Each tile shows the document after as many inputs as its version says, in one step (`step`),
+/// where that many are applied, and in a run (`run`), where that many are accepted at its end.
 pub fn tiles_show_prefixes<K: Kit>()
     ensures step { (old new : Document K.Scene) (event : Happening K.Scene) (outs : Given K.Scene)
         → IsKept K.rules K.cut old → Step K.rules K.cut old event outs new
         → AllByRecursion (IsShown K.rules old.base old.journal old.applied) outs.frames }
-    ensures run { (events : List (Happening K.Scene)) (old new : Document K.Scene) (outs : Given K.Scene)
+    ensures run { (events : List (Happening K.Scene)) (old new : Document K.Scene)
+        (outs : Given K.Scene)
         → IsKept K.rules K.cut old → Segment K.rules K.cut old events outs new
         → AllByRecursion (IsShown K.rules new.base new.journal (length new.journal)) outs.frames }
 {}
 
-/// No event takes a screen a step back: what a view was sent of a key is later no older, as long as its
-/// screen has the key.
+/// No event takes a screen a step back: what a view was sent of a key is later no older, as long as
+/// its screen has the key.
 pub fn screens_never_step_back<K: Kit>()
     ensures { (old new : Document K.Scene) (event : Happening K.Scene) (outs : Given K.Scene)
         → IsKept K.rules K.cut old → Step K.rules K.cut old event outs new
@@ -84,25 +86,28 @@ pub fn screens_never_step_back<K: Kit>()
         → find_view new.views id ≡ Some later → IsNoStepBack before later }
 {}
 
-/// Of the tiles of a key that a step gives to a view none is a step back on the screen that the view had,
-/// and each is what its screen then has (`step`). Of two tiles of a key that a view was given in a run, and
-/// between which its screen had the key, the later has no lower version (`run`).
+/// Of the tiles of a key that a step gives to a view none is a step back on the screen that the
+/// view had, and each is what its screen then has (`step`). Of two tiles of a key that a view was
+/// given in a run, and between which its screen had the key, the later has no lower version
+/// (`run`).
 pub fn frames_never_step_back<K: Kit>()
     ensures step { (old new : Document K.Scene) (event : Happening K.Scene) (outs : Given K.Scene)
         → IsKept K.rules K.cut old → Step K.rules K.cut old event outs new
         → (id : ℕ) (key : Place) → (versions_to id key outs.frames ≡ [])
         ⊎ AreDelivered K.rules old new id key (versions_to id key outs.frames) }
     ensures run { (old mid late new : Document K.Scene) (first last : Happening K.Scene)
-        (between : List (Happening K.Scene)) (outs held later : Given K.Scene) (id : ℕ) (key : Place)
+        (between : List (Happening K.Scene)) (outs held later : Given K.Scene) (id : ℕ)
+        (key : Place)
         → IsKept K.rules K.cut old → StepsWith K.rules K.cut id key old first outs mid
-        → Run (StepsWith K.rules K.cut id key) mid between held late → Step K.rules K.cut late last later new
+        → Run (StepsWith K.rules K.cut id key) mid between held late
+        → Step K.rules K.cut late last later new
         → AllByRecursion (λ n. AllByRecursion (λ m. n ≤ m) (versions_to id key later.frames))
         (versions_to id key outs.frames) }
 {}
 
-/// The tiles that a step gives to a view that was there and stays have the view's next numbers, one after
-/// the other, whatever other views get. A view's first number is 1, so its tiles are numbered from 1 on
-/// without a gap.
+/// The tiles that a step gives to a view that was there and stays have the view's next numbers, one
+/// after the other, whatever other views get. A view's first number is 1, so its tiles are numbered
+/// from 1 on without a gap.
 pub fn tiles_are_numbered<K: Kit>()
     ensures { (old new : Document K.Scene) (event : Happening K.Scene) (outs : Given K.Scene)
         → IsKept K.rules K.cut old → Step K.rules K.cut old event outs new
@@ -112,13 +117,14 @@ pub fn tiles_are_numbered<K: Kit>()
 
 /// The accepted inputs of a run begin with those that there were, and the file stays.
 pub fn inputs_go_on<K: Kit>()
-    ensures { (events : List (Happening K.Scene)) (old new : Document K.Scene) (outs : Given K.Scene)
+    ensures { (events : List (Happening K.Scene)) (old new : Document K.Scene)
+        (outs : Given K.Scene)
         → Segment K.rules K.cut old events outs new
         → (new.base ≡ old.base) × (more : List Typed) × (new.journal ≡ old.journal ++ more) }
 {}
 
-/// In a document that a broker keeps each pair of a view and a key that it sees or asked for is right, or
-/// it is due, or an input is not applied yet.
+/// In a document that a broker keeps each pair of a view and a key that it sees or asked for is
+/// right, or it is due, or an input is not applied yet.
 pub fn right_or_due<K: Kit>()
     ensures { (d : Document K.Scene) → IsKept K.rules K.cut d
         → AllByRecursion (λ view. AllByRecursion (λ key. IsRight K.rules d view key
@@ -221,9 +227,9 @@ pub fn said_acknowledges<K: Kit>()
         → (outs ≡ nothing) × (new ≡ acknowledges d id wids) }
 {}
 
-/// A view that says the text that is written of all its numbers has acknowledged all that it was sent. The
-/// numbers are those of a broker, below 2^64; a window that a broker keeps has at most 64 of them, so they
-/// are one message.
+/// A view that says the text that is written of all its numbers has acknowledged all that it was
+/// sent. The numbers are those of a broker, below 2^64; a window that a broker keeps has at most 64
+/// of them, so they are one message.
 pub fn written_lowers<K: Kit>()
     ensures { (d new : Document K.Scene) (id : ℕ) (view : View) (outs : Given K.Scene)
         → IsKept K.rules K.cut d → find_view d.views id ≡ Some view → view.window ≢ []
@@ -268,8 +274,8 @@ pub fn work_lowers<K: Kit>()
         → IsKept K.rules K.cut old → IsLower K.rules new old }
 {}
 
-/// Where no key is in two jobs out, no more jobs have a due pair than there are due pairs. So the rank is
-/// never below nothing.
+/// Where no key is in two jobs out, no more jobs have a due pair than there are due pairs. So the
+/// rank is never below nothing.
 pub fn rank_counts<K: Kit>()
     ensures { (d : Document K.Scene) → AreApart d.jobs → jobs_due K.rules d ≤ due_pairs K.rules d }
 {}
@@ -281,14 +287,16 @@ pub fn turns_end<K: Kit>()
         → length turns + rank K.rules new ≤ rank K.rules old }
 {}
 
-/// A document as it is loaded keeps all that is said of documents (`IsKept`), and so does every step.
+/// A document as it is loaded keeps all that is said of documents (`IsKept`), and so does every
+/// step.
 pub fn steps_keep<K: Kit>()
     ensures opening { (file base : List ℕ) → K.rules.accepts base ≡ true
         → IsKept K.rules K.cut (opening {S = K.Scene} file base) }
     ensures step { (old new : Document K.Scene) (event : Happening K.Scene) (outs : Given K.Scene)
         → Step K.rules K.cut old event outs new → IsKept K.rules K.cut old
         → IsKept K.rules K.cut new }
-    ensures run { (events : List (Happening K.Scene)) (old new : Document K.Scene) (outs : Given K.Scene)
+    ensures run { (events : List (Happening K.Scene)) (old new : Document K.Scene)
+        (outs : Given K.Scene)
         → Segment K.rules K.cut old events outs new → IsKept K.rules K.cut old
         → IsKept K.rules K.cut new }
 {}
@@ -342,10 +350,11 @@ pub fn contents_were_put<K: Kit>()
         → ArePut K.rules events d }
 {}
 
-/// Whatever events come to a loaded document: whenever it is quiet, each key that a view sees is on its
-/// screen in a version that looks like the document after all accepted inputs.
+/// Whatever events come to a loaded document: whenever it is quiet, each key that a view sees is on
+/// its screen in a version that looks like the document after all accepted inputs.
 pub fn quiet_runs_are_right<K: Kit>()
-    ensures { (file base : List ℕ) (events : List (Happening K.Scene)) (outs : Given K.Scene) (d : Document K.Scene)
+    ensures { (file base : List ℕ) (events : List (Happening K.Scene)) (outs : Given K.Scene)
+        (d : Document K.Scene)
         → K.rules.accepts base ≡ true → Segment K.rules K.cut (opening file base) events outs d
         → IsQuiet K.rules d → AllRight K.rules d }
 {}
