@@ -6,16 +6,15 @@ use Rattle.std.proofs.lemmas.Bool.{cases_Bool, cases_lt, and_parts}
 use Rattle.std.proofs.lemmas.Bool.Decides.{nat_tests}
 use Rattle.std.proofs.lemmas.List.Sums.{sum_by-cons, count_by-le-length}
 use Rattle.kit_trait.specs.Rules.{Rules}
-use Rattle.tile_key.specs.Places.{Place, IsKey, same_place, key_order}
+use Rattle.tile_key.specs.Places.{Place, IsKey, same_place}
 use Rattle.tile_key.specs.Visible.{IsBefore}
 use Rattle.tile_key.proofs.VisibleFacts.{visible_order}
-use Rattle.std.specs.Ordering.{is_lt}
 use Rattle.document_machine.proofs.Lists.{same_self, all_filter}
 use Rattle.document_machine.proofs.Present.{untouched}
-use Rattle.document_machine.specs.Due.{is_due, is_lacking, has_room, touched, keys, parts_of, size_of, visible, version_of, with_version, is_newer, takes, sent, is_current, asked_after, screen_after}
+use Rattle.document_machine.specs.Due.{is_due, is_lacking, has_room, touched, keys, parts_of, size_of, visible, version_of, is_newer, takes, sent, is_current, asked_after}
 use Rattle.document_machine.specs.Keys.{Pairwise, is_among, ordered}
 use Rattle.document_machine.specs.Kept.{IsKept, IsViewKept}
-use Rattle.document_machine.specs.State.{Shown, View, Document}
+use Rattle.document_machine.specs.State.{View, Document}
 use Rattle.document_laws.proofs.KeyOrder.{same_is}
 use Rattle.document_laws.proofs.Ordered.{one, count_new, count_ordered, pairwise_by, weaker}
 use Rattle.document_laws.proofs.Quiet.{HasPoint, seen_points, version_applied}

@@ -1,5 +1,5 @@
 -- Less is left to do after each work of a turn, after a painted result, and after a store's answer.
-use Rattle.std.proofs.Common.{◌≡◌, ℕ, ◌+◌, ◌-◌, ◌*◌, ◌<◌, ◌≤◌, Bool, true, false, not, ◌&&◌, ◌||◌, cond, nat_eq, List, [], ◌∷◌, ◌++◌, length, map, filter, Option, None, Some, Result, refl, ap, sym, subst, ◌∙◌, arith, inl, inr, length-append}
+use Rattle.std.proofs.Common.{◌≡◌, ℕ, ◌+◌, ◌-◌, ◌*◌, ◌<◌, ◌≤◌, Bool, true, false, not, cond, nat_eq, List, [], ◌∷◌, ◌++◌, length, map, filter, Option, None, Some, Result, refl, ap, sym, subst, ◌∙◌, arith, inl, inr, length-append}
 use Rattle.std.specs.Prelude.{is_some, nat_lt}
 use Rattle.std.specs.List.{list_any, count_by, sum_by, AllByRecursion}
 use Rattle.std.proofs.lemmas.Bool.{cases_Bool, eqb-true, le-ltb, ltb-false, not-true}
@@ -8,13 +8,13 @@ use Rattle.kit_trait.specs.Rules.{Rules}
 use Rattle.kit_trait.specs.declared.jobs.PaintJob.{PaintJob}
 use Rattle.outside.specs.declared.errands.Receipt.{Receipt}
 use Rattle.outside.specs.declared.faults.StoreFault.{StoreFault}
-use Rattle.save_core.specs.Saving.{Saving, answered_put, ended}
+use Rattle.save_core.specs.Saving.{answered_put, ended}
 use Rattle.save_core.specs.declared.values.Put.{Put}
 use Rattle.save_core.specs.declared.values.Save.{Save}
 use Rattle.tile_key.specs.Places.{Place}
 use Rattle.document_machine.proofs.Lists.{nat_eq_self}
 use Rattle.document_machine.specs.Due.{is_due, is_wanted, has_room, touched, keys, sent}
-use Rattle.document_machine.specs.Event.{Event, Painted, PutAnswered}
+use Rattle.document_machine.specs.Event.{Painted, PutAnswered}
 use Rattle.document_machine.specs.Kept.{IsKept, IsJobKept}
 use Rattle.document_machine.specs.Rank.{above_jobs, due_pairs, jobs_to_come, jobs_wanted, left_to_do, old_jobs, pairs, pairs_with_room, saves_to_come, tiles_to_come, unacknowledged, unbound_saves}
 use Rattle.document_machine.specs.Run.{Segment}

@@ -1,11 +1,11 @@
 -- What the views of a document come to once the painted tiles of a job were offered to them.
-use Rattle.std.proofs.Common.{◌≡◌, ℕ, ◌+◌, ◌*◌, ◌<◌, ◌≤◌, Bool, true, false, ◌&&◌, ◌||◌, cond, List, [], ◌∷◌, length, map, refl, ap, sym, subst, ◌∙◌, arith, inl, inr, length-append}
+use Rattle.std.proofs.Common.{◌≡◌, ℕ, ◌+◌, ◌≤◌, Bool, true, false, ◌&&◌, ◌||◌, cond, List, [], ◌∷◌, length, map, refl, ap, subst, ◌∙◌, arith, inl, inr, length-append}
 use Rattle.std.specs.Prelude.{⊤}
 use Rattle.std.specs.List.{list_any, count_by, sum_by, AllByRecursion}
 use Rattle.std.proofs.lemmas.Bool.{cases_Bool, and_parts, or_parts}
 use Rattle.std.proofs.lemmas.List.Sums.{sum_by-cons, count_by-le-length}
 use Rattle.kit_trait.specs.Rules.{Rules}
-use Rattle.tile_key.specs.Places.{Place, IsGroup, IsRun, next_place, same_place}
+use Rattle.tile_key.specs.Places.{Place, IsGroup, IsRun, same_place}
 use Rattle.document_machine.proofs.Lists.{holds_among, same_self}
 use Rattle.document_machine.proofs.Present.{untouched}
 use Rattle.document_machine.specs.Due.{is_due, is_lacking, has_room, touched, keys, takes, sent, version_of, visible}
