@@ -12,8 +12,11 @@ pub mod KeyOrder
 pub mod Lower
 pub mod Moving
 pub mod Numbered
+pub mod Offers
+pub mod Onward
 pub mod Ordered
 pub mod Picked
+pub mod PutContents
 pub mod Quiet
 pub mod QuietTest
 pub mod Rank
@@ -24,6 +27,7 @@ pub mod Saved
 pub mod Saving
 pub mod Screens
 pub mod Sending
+pub mod Sums
 pub mod Tiles
 pub mod Untouched
 pub mod Views

@@ -15,8 +15,10 @@ abbrev pub TurnWorks : {C B S : Type 0} → Rules C B → (C → Place → S)
     → Document S → Event S → Outs S → Document S → Type 0
 TurnWorks rules cut old event outs new = (event ≡ Turned) × Works rules cut old outs new
 
--- a job of the key is out, or the view has no room, or as many jobs are out as may be, or a work is next
-abbrev pub IsUnderWay : {C B S : Type 0} → Rules C B → (kept : Place → Option ℕ) → Document S → View → Place → Type 0
+-- a job of the key is out, or the view has no room, or as many jobs are out as may be, or a work is
+-- next
+abbrev pub IsUnderWay : {C B S : Type 0} → Rules C B → (kept : Place → Option ℕ) → Document S → View
+    → Place → Type 0
 IsUnderWay rules kept d view key =
     (is_out d.jobs key ≡ true)
     ⊎ ((has_room view ≡ false) ⊎ ((MOST_JOBS ≤ length d.jobs) ⊎ (pick rules kept d ≢ Rest)))
