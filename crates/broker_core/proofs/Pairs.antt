@@ -61,13 +61,13 @@ owed_same rules d (member ∷ members) key all =
 module _ {C B S : Type 0} (rules : Rules C B) (cut : C → Place → S) (IsSound : C → Type 0) (contents : C) (members : List Member) (cache : Cached) (held : Held S) (h : Holds rules cut IsSound contents members cache held) where
   -- a present tile is kept exactly where the cache has a current one
   pub some_same : (key : Place) → is_some (current_version rules held key) ≡ is_some (current_tile cache key)
-  some_same key = ap is_some (current_same rules held cache key h.kept_are h.cache.tiles) ∙ is_some_map (λ (tile : Tile). tile.number) (current_tile cache key)
+  some_same key = ap is_some (current_same rules held cache key h.kept_are h.cached.tiles) ∙ is_some_map (λ (tile : Tile). tile.number) (current_tile cache key)
 
   -- a job of the key is out
   pub outs_same : (key : Place) → is_out held.document.jobs key ≡ cache_is_out cache key
   outs_same key =
       let d = held.document in
-      sym (ap (λ (outs : List Out). list_any (λ out. same_place out.key key) outs) h.cache.outs ∙ out_same rules d.base d.journal d.applied d.jobs key)
+      sym (ap (λ (outs : List Out). list_any (λ out. same_place out.key key) outs) h.cached.outs ∙ out_same rules d.base d.journal d.applied d.jobs key)
 
   serves_same : (key : Place) → can_serve (current_version rules held) held.document.jobs key ≡ choosing.can_serve cache (nat_lt (length held.document.jobs) MOST_JOBS) key
   serves_same key =

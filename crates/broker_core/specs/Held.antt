@@ -57,7 +57,7 @@ pub record Holds {C B S : Type 0} (rules : Rules C B) (cut : C → Place → S) 
   pub forms : AllByRecursion (λ job. IsArea job.area) held.document.jobs
   pub ticket_is : held.document.next_ticket ≡ cache.next
   pub kept_are : held.kept ≡ kept_tiles cache.tiles
-  pub cache : IsCacheOf rules held.document.base held.document.journal held.document.applied held.document.jobs cache
+  pub cached : IsCacheOf rules held.document.base held.document.journal held.document.applied held.document.jobs cache
 
 -- a broker that isn't spent has as many views as it may have
 abbrev pub IsFull : {S : Type 0} → Option (Held S) → Type 0
