@@ -121,10 +121,10 @@ view_has P (v ∷ views) id view all e =
     go (nat_eq v.id id) e
 
 -- the tile that the cache tells as current is not met
-pub tile_found : (o : Option Tile) (number : ℕ) (rgba : List ℕ) → option_map (λ (tile : Tile). (tile.number, tile.rgba)) (unmet o) ≡ Some (number, rgba) → unmet o ≡ Some (record { number = number; rgba = rgba; is_met = false })
+pub tile_found : (o : Option Tile) (number : ℕ) (rgba : List ℕ) → option_map {U = ℕ × List ℕ} (λ (tile : Tile). (tile.number, tile.rgba)) (unmet o) ≡ Some (number, rgba) → unmet o ≡ Some (record { number = number; rgba = rgba; is_met = false })
 tile_found None number rgba e = absurd (cc)
 tile_found (Some had) number rgba e =
-    let go : (b : Bool) → had.is_met ≡ b → option_map (λ (tile : Tile). (tile.number, tile.rgba)) (cond b None (Some had)) ≡ Some (number, rgba) → cond b None (Some had) ≡ Some (record { number = number; rgba = rgba; is_met = false }) = elim [
+    let go : (b : Bool) → had.is_met ≡ b → option_map {U = ℕ × List ℕ} (λ (tile : Tile). (tile.number, tile.rgba)) (cond b None (Some had)) ≡ Some (number, rgba) → cond b None (Some had) ≡ Some (record { number = number; rgba = rgba; is_met = false }) = elim [
       | true ↦ λ met none. absurd (cc)
       | false ↦ λ unmet some.
           let pair : (ℕ × List ℕ) = (had.number, had.rgba) in
