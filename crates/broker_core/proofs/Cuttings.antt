@@ -216,6 +216,7 @@ module _ {C B S : Type 0} (rules : Rules C B) (cut : C → Place → S) (IsSound
 
     -- it is the work that is next
     pub cuts_next : DoesNext rules cut held (Worked outs) (held_cut held job now)
+    unfolding cuts_by
     cuts_next =
         let d = held.document in
         let new : Held S = held_cut held job now in

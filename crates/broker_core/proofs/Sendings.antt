@@ -221,6 +221,7 @@ module _ {C B S : Type 0} (rules : Rules C B) (cut : C → Place → S) (IsSound
 
   -- it is the work that is next
   pub sends_next : DoesNext rules cut held (Worked (frames_only (sent_frame tile.number (ready_of key tile) member ∷ []))) (held_sent held members i tile.number (ready_of key tile) member now)
+  unfolding sends_by
   sends_next =
       let d = held.document in
       let work : next_work rules held ≡ Send id key tile.number = work_is rules held id key no_save level next ∙ ap (serving id key (group_at rules (current_version rules held) d key)) version_is in
