@@ -118,7 +118,7 @@ module _ {C B S : Type 0} (rules : Rules C B) (cut : C → Place → S) (IsSound
         forms = h.forms;
         ticket_is = h.ticket_is;
         kept_are = h.kept_are;
-        cache = record { tiles = h.cache.tiles; outs = h.cache.outs };
+        cached = record { tiles = h.cached.tiles; outs = h.cached.outs };
       }
 
   -- a view left
@@ -152,5 +152,5 @@ module _ {C B S : Type 0} (rules : Rules C B) (cut : C → Place → S) (IsSound
         forms = h.forms;
         ticket_is = h.ticket_is;
         kept_are = h.kept_are;
-        cache = record { tiles = h.cache.tiles; outs = h.cache.outs };
+        cached = record { tiles = h.cached.tiles; outs = h.cached.outs };
       }

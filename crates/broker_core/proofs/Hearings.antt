@@ -136,6 +136,6 @@ module _ {C B S : Type 0} (rules : Rules C B) (cut : C → Place → S) (IsSound
         forms = h.forms;
         ticket_is = h.ticket_is;
         kept_are = h.kept_are;
-        cache = cache_longer rules d.base d.journal journal d.applied d.jobs cache level (touched_heard rules d.base d.journal outcome) (doc_heard rules d.base d.journal outcome)
-            (tiles_past rules cut held cache h.kept h.kept_are) h.cache;
+        cached = cache_longer rules d.base d.journal journal d.applied d.jobs cache level (touched_heard rules d.base d.journal outcome) (doc_heard rules d.base d.journal outcome)
+            (tiles_past rules cut held cache h.kept h.kept_are) h.cached;
       }

@@ -46,13 +46,21 @@ map_map : {X Y Z : Type 0} (g : Y → Z) (f : X → Y) (xs : List X) → map g (
 map_map g f [] = refl
 map_map g f (x ∷ xs) = ap (λ ys. g (f x) ∷ ys) (map_map g f xs)
 
+-- a key of a job that is out
+abbrev out_at : (ticket number : ℕ) → Place → Bool → Out
+out_at ticket number key met = record { ticket = ticket; number = number; key = key; is_met = met }
+
+-- a tile with this mark
+abbrev tile_met : Place × Tile → Bool → Place × Tile
+tile_met entry met = (entry.0, record (entry.1) { is_met = met })
+
 -- the keys out in a longer journal
 outs_longer : {C B S : Type 0} (rules : Rules C B) (base : List ℕ) (journal longer : List Input) (applied : ℕ) (jobs : List (Job S)) → ((version : ℕ) (key : Place) → touched rules base longer version key applied ≡ touched rules base journal version key applied) → outs_of rules base journal applied jobs ≡ outs_of rules base longer applied jobs
 outs_longer rules base journal longer applied [] same = refl
 outs_longer rules base journal longer applied (job ∷ jobs) same =
     ap (λ os. os ++ outs_of rules base journal applied jobs)
     (map_same (out_of rules base journal applied job) (out_of rules base longer applied job)
-    (λ key. ap (λ (b : Bool). record { ticket = job.ticket; number = job.number; key = key; is_met = b }) (sym (same job.number key))) job.keys)
+    (λ key. ap (out_at job.ticket job.number key) (sym (same job.number key))) job.keys)
     ∙ ap (λ os. map (out_of rules base longer applied job) job.keys ++ os) (outs_longer rules base journal longer applied jobs same)
 
 -- the cache is that of the document with more inputs accepted
@@ -94,12 +102,12 @@ map_id f same (x ∷ xs) = ap (λ y. y ∷ map f xs) (same x) ∙ ap (λ ys. x �
 
 -- noting the damages one after the other notes them all
 pub tiles_noted : (damages : List Damage) (n : ℕ) (cache : Cached) → (cache_damaged damages n cache).tiles ≡ map (tile_noted damages n) cache.tiles
-tiles_noted [] n cache = sym (map_id (tile_noted [] n) (λ entry. ap (λ (b : Bool). (entry.0, record (entry.1) { is_met = b })) (or_none entry.1.is_met (nat_lt entry.1.number n))) cache.tiles)
+tiles_noted [] n cache = sym (map_id (tile_noted [] n) (λ entry. ap (tile_met entry) (or_none entry.1.is_met (nat_lt entry.1.number n))) cache.tiles)
 tiles_noted (damage ∷ damages) n cache =
     tiles_noted damages n (damaged damage.part damage.rect n cache)
     ∙ map_map (tile_noted damages n) (hit_tile damage.part damage.rect n) cache.tiles
     ∙ map_same (λ entry. tile_noted damages n (hit_tile damage.part damage.rect n entry)) (tile_noted (damage ∷ damages) n)
-    (λ entry. ap (λ (b : Bool). (entry.0, record (entry.1) { is_met = b })) (or_more entry.1.is_met (nat_lt entry.1.number n) (hits entry.0 damage) (is_hurt damages entry.0))) cache.tiles
+    (λ entry. ap (tile_met entry) (or_more entry.1.is_met (nat_lt entry.1.number n) (hits entry.0 damage) (is_hurt damages entry.0))) cache.tiles
 
 pub outs_noted : (damages : List Damage) (n : ℕ) (cache : Cached) → (cache_damaged damages n cache).outs ≡ map (out_noted damages n) cache.outs
 outs_noted [] n cache = sym (map_id (out_noted [] n) (λ out. ap (λ (b : Bool). record out { is_met = b }) (or_none out.is_met (nat_lt out.number n))) cache.outs)
@@ -132,7 +140,7 @@ outs_more rules base journal applied damages (job ∷ jobs) is past =
     ∙ ap (λ os. os ++ map (out_noted damages (applied + 1)) (outs_of rules base journal applied jobs))
     (map_map (out_noted damages (applied + 1)) (out_of rules base journal applied job) job.keys
     ∙ map_same (λ key. out_noted damages (applied + 1) (out_of rules base journal applied job key)) (out_of rules base journal (applied + 1) job)
-    (λ key. ap (λ (b : Bool). record { ticket = job.ticket; number = job.number; key = key; is_met = b })
+    (λ key. ap (out_at job.ticket job.number key)
     (met_more rules base journal applied damages job.number key (touched rules base journal job.number key applied) is past.0 refl)) job.keys)
     ∙ ap (λ os. map (out_of rules base journal (applied + 1) job) job.keys ++ os) (outs_more rules base journal applied damages jobs is past.1)
 

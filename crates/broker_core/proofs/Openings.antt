@@ -22,5 +22,5 @@ holds_opening rules cut IsSound contents file base accepted is sound some = reco
   forms = tt;
   ticket_is = refl;
   kept_are = refl;
-  cache = record { tiles = tt; outs = refl };
+  cached = record { tiles = tt; outs = refl };
 }

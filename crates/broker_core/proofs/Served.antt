@@ -1,5 +1,5 @@
 -- A document once its ready saves were served, or a store answered.
-use Rattle.std.proofs.Common.{◌≡◌, ◌∙◌, ℕ, ◌+◌, ◌<◌, Bool, true, false, cond, List, [], ◌∷◌, ◌++◌, length, drop, get_or, Option, Result, refl, sym, ap, subst, append_assoc}
+use Rattle.std.proofs.Common.{◌≡◌, ◌∙◌, ℕ, ◌+◌, ◌<◌, Bool, true, false, cond, List, [], ◌∷◌, ◌++◌, length, map, filter, drop, get_or, Option, Some, Result, refl, sym, ap, subst, append_assoc, append-nil}
 use Rattle.std.specs.Prelude.{nat_lt, option_to_list}
 use Rattle.std.proofs.lemmas.List.{drop_more}
 use Rattle.cool_base.specs.declared.ids.ViewId.{ViewId}
@@ -56,7 +56,7 @@ module _ {C B S : Type 0} (rules : Rules C B) (cut : C → Place → S) (IsSound
     forms = h.forms;
     ticket_is = h.ticket_is;
     kept_are = h.kept_are;
-    cache = record { tiles = h.cache.tiles; outs = h.cache.outs };
+    cached = record { tiles = h.cached.tiles; outs = h.cached.outs };
   }
 
   -- the ready saves are served
@@ -101,20 +101,28 @@ outs_by members d text ids slice errand frames errands slice_is ids_are errand_i
 pub turn_moves : {C B S : Type 0} (rules : Rules C B) (cut : C → Place → S) (old new : Held S) (outs : Outs S) → DoesNext rules cut old (Worked outs) new → Moves rules cut old Turned outs new
 turn_moves rules cut old new outs does = (Worked outs, does, refl)
 
+-- a view that is gone is told nothing, and one that is there gets its frame
+pub told_gone : (views : List View) (frames : List (ViewId × Frame)) (id : ViewId) (frame : Frame) → is_live views id.0 ≡ false → frames ≡ frames ++ told_view views frame (Some id)
+told_gone views frames id frame gone =
+    sym (ap (λ (b : Bool). frames ++ cond b ((id, frame) ∷ []) []) gone ∙ append-nil frames)
+
+pub told_there : (views : List View) (frames : List (ViewId × Frame)) (id : ViewId) (frame : Frame) → is_live views id.0 ≡ true → frames ++ (id, frame) ∷ [] ≡ frames ++ told_view views frame (Some id)
+told_there views frames id frame there = sym (ap (λ (b : Bool). frames ++ cond b ((id, frame) ∷ []) []) there)
+
 -- one view more is answered that nothing was new, where it is there
-pub unmodified_more : (views : List View) (number : ℕ) (ids : List ViewId) (n : ℕ) (id : ViewId) (live : Bool) (frames whole : List (ViewId × Frame)) → n < length ids → get_or ids n id ≡ id → is_live views id.0 ≡ live
-    → frames ++ unmodified_frames views number (drop n ids) ≡ whole
-    → (frames ++ cond live ((id, SaveDone number false) ∷ []) []) ++ unmodified_frames views number (drop (n + 1) ids) ≡ whole
-unmodified_more views number ids n id live frames whole lt is there before =
-    let rest : List (ViewId × Frame) = unmodified_frames views number (drop (n + 1) ids) in
-    let e : drop n ids ≡ id ∷ drop (n + 1) ids = drop_more ids n id lt ∙ ap (λ (x : ViewId). x ∷ drop (n + 1) ids) is in
-    let split : (b : Bool) → is_live views id.0 ≡ b → unmodified_frames views number (id ∷ drop (n + 1) ids) ≡ cond b ((id, SaveDone number false) ∷ []) [] ++ rest = elim [
-      | true ↦ λ so. rw so refl
-      | false ↦ λ so. rw so refl
-    ] in
-    append_assoc frames (cond live ((id, SaveDone number false) ∷ []) []) rest
-    ∙ ap (λ fs. frames ++ fs) (sym (split live there))
-    ∙ ap (λ (xs : List ViewId). frames ++ unmodified_frames views number xs) (sym e) ∙ before
+pub unmodified_more : (views : List View) (number : ℕ) (ids : List ViewId) (n : ℕ) (id : ViewId) (frames now whole : List (ViewId × Frame)) → n < length ids → get_or ids n id ≡ id
+    → now ≡ frames ++ told_view views (SaveDone number false) (Some id)
+    → frames ++ unmodified_frames views number (drop n ids) ≡ whole → now ++ unmodified_frames views number (drop (n + 1) ids) ≡ whole
+unmodified_more views number ids n id frames now whole lt is more before =
+    let f : ViewId → ViewId × Frame = λ v. (v, SaveDone number false) in
+    let P : ViewId → Bool = λ v. is_live views v.0 in
+    let xs : List ViewId = drop (n + 1) ids in
+    let piece : List (ViewId × Frame) = told_view views (SaveDone number false) (Some id) in
+    let e : drop n ids ≡ id ∷ xs = drop_more ids n id lt ∙ ap (λ (x : ViewId). x ∷ xs) is in
+    let go : (b : Bool) → cond b (f id ∷ []) [] ++ map f (filter P xs) ≡ map f (cond b (id ∷ filter P xs) (filter P xs)) = elim [ true ↦ refl | false ↦ refl ] in
+    ap (λ fs. fs ++ unmodified_frames views number xs) more ∙ append_assoc frames piece (unmodified_frames views number xs)
+    ∙ ap (λ fs. frames ++ fs) (go (is_live views id.0))
+    ∙ ap (λ (ys : List ViewId). frames ++ unmodified_frames views number ys) (sym e) ∙ before
 
 -- one save more is told how its put ended
 pub ending_more : (views : List View) (result : Result Receipt StoreFault) (given : List SaveAnswer) (n : ℕ) (save : SaveAnswer) (frames now whole : List (ViewId × Frame)) → n < length given → get_or given n save ≡ save

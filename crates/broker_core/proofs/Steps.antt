@@ -14,7 +14,7 @@ use Rattle.tile_cache.specs.Cached.{Cached}
 use Rattle.tile_key.specs.Places.{Place}
 use Rattle.document_machine.specs.Due.{parts_of, damage_of}
 use Rattle.document_machine.specs.Event.{Turned}
-use Rattle.document_machine.specs.Goes.{DoesNext, Goes, Moves, next_work}
+use Rattle.document_machine.specs.Goes.{Did, DoesNext, Goes, Moves, next_work}
 use Rattle.document_machine.specs.Held.{Held, current_version, kept_by}
 use Rattle.document_machine.specs.Kept.{IsHeld, IsKept, IsViewKept}
 use Rattle.document_machine.specs.Next.{Work, Serve, Apply, next_pair, serving_next}
@@ -116,8 +116,8 @@ module _ {C B S : Type 0} (rules : Rules C B) (cut : C → Place → S) (IsSound
         forms = h.forms;
         ticket_is = refl;
         kept_are = refl;
-        cache = subst (λ (c : Cached). IsCacheOf rules d.base d.journal (d.applied + 1) d.jobs c) (sym noted_is)
-            (cache_more rules d.base d.journal d.applied d.jobs damages cache damage (tiles_past rules cut held cache h.kept h.kept_are) (jobs_past rules cut held h.kept) h.cache);
+        cached = subst (λ (c : Cached). IsCacheOf rules d.base d.journal (d.applied + 1) d.jobs c) (sym noted_is)
+            (cache_more rules d.base d.journal d.applied d.jobs damages cache damage (tiles_past rules cut held cache h.kept h.kept_are) (jobs_past rules cut held h.kept) h.cached);
       }
 
 -- a work that was done lowers the rank
@@ -125,9 +125,21 @@ pub lowers_by : {C B S : Type 0} (rules : Rules C B) (cut : C → Place → S) (
 lowers_by rules cut old new (Worked outs) kept does = work_lowers rules cut old.document new.document outs (does_turn rules cut old.document new.document (next_work rules old) (Worked outs) does.0) kept.document
 lowers_by rules cut old new Idle kept does = tt
 
--- a turn that did the work that is next is a move
-pub did_goes : {C B S : Type 0} (rules : Rules C B) (cut : C → Place → S) (old new : Held S) (turned : TurnAnswer S) → DoesNext rules cut old turned new → Goes rules cut (Some old) Turned (outs_of turned) (Some new)
-did_goes rules cut old new turned does = (turned, does, refl)
+-- a turn of a broker that did the work that is next is a move, does it, and lowers the rank
+pub turn_goes : {C B S : Type 0} (rules : Rules C B) (cut : C → Place → S) (before after : Option (Held S)) (old new : Held S) (turned : TurnAnswer S) → before ≡ Some old → after ≡ Some new → DoesNext rules cut old turned new → Goes rules cut before Turned (outs_of turned) after
+turn_goes {C} {B} {S} rules cut before after old new turned is now does =
+    subst (λ (b : Option (Held S)). Goes rules cut b Turned (outs_of turned) after) (sym is)
+    (subst (λ (a : Option (Held S)). Goes rules cut (Some old) Turned (outs_of turned) a) (sym now) (turned, does, refl))
+
+pub turn_did : {C B S : Type 0} (rules : Rules C B) (cut : C → Place → S) (before after : Option (Held S)) (old new : Held S) (turned : TurnAnswer S) → before ≡ Some old → after ≡ Some new → DoesNext rules cut old turned new → Did rules cut before turned after
+turn_did {C} {B} {S} rules cut before after old new turned is now does =
+    subst (λ (b : Option (Held S)). Did rules cut b turned after) (sym is)
+    (subst (λ (a : Option (Held S)). Did rules cut (Some old) turned a) (sym now) does)
+
+pub turn_lowers : {C B S : Type 0} (rules : Rules C B) (cut : C → Place → S) (before after : Option (Held S)) (old new : Held S) (turned : TurnAnswer S) → before ≡ Some old → after ≡ Some new → IsHeld rules cut old → DoesNext rules cut old turned new → Lowers rules before turned after
+turn_lowers {C} {B} {S} rules cut before after old new turned is now kept does =
+    subst (λ (b : Option (Held S)). Lowers rules b turned after) (sym is)
+    (subst (λ (a : Option (Held S)). Lowers rules (Some old) turned a) (sym now) (lowers_by rules cut old new turned kept does))
 
 -- one more view is told
 pub told_more : (members : List Member) (i : ℕ) (member : Member) (damages : List Damage) (frames now whole : List (ViewId × Frame)) → i < length members → member ≡ get_or members i member

@@ -19,6 +19,7 @@ impl<K: Kit> Broker<K> {
     /// present tile of it that is kept is sent, or a job is cut for it and the keys to its right that join
     /// it. Idle exactly where there is nothing to do; a turn that is Worked lowers the rank of the document.
     /// After `Memory` the broker is spent.
+    #[tactic(auto, using(crate::proofs::Steps::turn_goes, crate::proofs::Steps::turn_did, crate::proofs::Steps::turn_lowers))]
     pub fn turn(&mut self) -> Result<Turned<K::Scene>, Memory>
         ensures step { IfOk result (λ turned. Goes K.rules K.cut self.old TurnMade (outs_of turned) self.new) }
         ensures does { IfOk result (λ turned. Did K.rules K.cut self.old turned self.new) }

@@ -1,16 +1,15 @@
 //! The ready saves are served, and puts come back.
-ghost use Rattle.std.specs.Prelude.{◌≡◌, ◌++◌, true, [], map, filter, codes, option_to_list, Some, IfOk, OnOk};
+ghost use Rattle.std.specs.Prelude.{◌≡◌, ◌++◌, true, option_to_list, Some, IfOk, OnOk};
 ghost use Rattle.std.specs.Option.{option_copied};
 ghost use Rattle.document_machine.specs.Event.{PutAnswered};
 ghost use Rattle.document_machine.specs.Goes.{DoesNext, Moves};
 ghost use Rattle.document_machine.specs.Saves.{ending_frame, ending_frames, has_ready_save, receipt_of, told_view, unmodified_frames};
-ghost use Rattle.document_machine.specs.State.{is_live};
 ghost use Rattle.document_machine.specs.declared.outs.Turned.TheVariants.{Worked};
 ghost use Rattle.broker_core.specs.Members.{views_of};
 ghost use Rattle.broker_core.specs.Stored.{lock_token};
 
 use crate::core_of::{Core, Frames, frames_only};
-use crate::members::{Member, member_at};
+use crate::members::{Member, is_there};
 use bytes::Bytes;
 use cool_base::{ListOf, Memory, TextOf, Ticket, Token, ViewId};
 use cool_frame::{ErrorKind, Frame};
@@ -19,6 +18,22 @@ use kit_trait::Kit;
 use outside::{Errand, Receipt, StoreFault};
 use save_core::SaveAnswer;
 use std::alloc::Global;
+
+/// Adds the frame for this view, where it is still there.
+#[tactic(auto, using(crate::proofs::Served::told_gone, crate::proofs::Served::told_there))]
+fn tell_view(
+    frames: &mut Frames,
+    members: &Vec<Member>,
+    id: ViewId,
+    frame: Frame,
+) -> Result<(), Memory>
+    ensures { OnOk result (frames.new ≡ frames.old ++ told_view (views_of members.now.items) frame (Some id)) }
+{
+    if !is_there(members, id.0) {
+        return Ok(());
+    }
+    frames.push((id, frame))
+}
 
 /// The frames that answer these views, as far as they are still there, that nothing was new since so many
 /// inputs were stored.
@@ -32,15 +47,11 @@ fn unmodified_frames(
 {
     let mut frames = ListOf::new(alloc);
     for id in ids {
-        if member_at(members, id.0).is_some() {
-            frames.push((
-                *id,
-                Frame::SaveDone {
-                    inputs: number,
-                    put: false,
-                },
-            ))?;
-        }
+        let frame = Frame::SaveDone {
+            inputs: number,
+            put: false,
+        };
+        tell_view(&mut frames, members, *id, frame)?;
     }
     Ok(frames)
 }
@@ -100,11 +111,8 @@ fn tell_ending(
     let Some(id) = save.view else {
         return Ok(());
     };
-    if member_at(members, id.0).is_none() {
-        return Ok(());
-    }
     let frame = ending_frame(alloc, answer, save.number)?;
-    frames.push((id, frame))
+    tell_view(frames, members, id, frame)
 }
 
 /// The frames that tell the views of these saves how their put ended.
