@@ -29,7 +29,7 @@ version_kept (entry ∷ tiles) key =
 
 module _ {C B : Type 0} (rules : Rules C B) (base : List ℕ) (journal : List Input) (applied : ℕ) where
   -- a tile that is found in the cache has its mark
-  found_mark : (tiles : List (Place × Tile)) (key : Place) (tile : Tile) → AllByRecursion (IsTileOf rules base journal applied) tiles → lookup (same_place key) tiles ≡ Some tile → IsTileOf rules base journal applied (key, tile)
+  pub found_mark : (tiles : List (Place × Tile)) (key : Place) (tile : Tile) → AllByRecursion (IsTileOf rules base journal applied) tiles → lookup (same_place key) tiles ≡ Some tile → IsTileOf rules base journal applied (key, tile)
   found_mark [] key tile all e = absurd (cc)
   found_mark (entry ∷ tiles) key tile all e =
       let go : (b : Bool) → same_place key entry.0 ≡ b → cond b (Some entry.1) (lookup (same_place key) tiles) ≡ Some tile → IsTileOf rules base journal applied (key, tile) = elim [

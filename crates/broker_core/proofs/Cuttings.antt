@@ -166,7 +166,7 @@ module _ {C B S : Type 0} (rules : Rules C B) (cut : C → Place → S) (IsSound
   cache_free : (keys : List Place) → AllByRecursion (λ k. (current_version rules held k ≡ None) × (is_out held.document.jobs k ≡ false)) keys → AllByRecursion (IsFree cache) keys
   cache_free [] all = tt
   cache_free (k ∷ keys) all =
-      ((none_map (λ (tile : Tile). tile.number) (current_tile cache k) (sym (current_same rules held cache k h.kept_are h.cache.tiles) ∙ all.0.0),
+      ((none_map (λ (tile : Tile). tile.number) (current_tile cache k) (sym (current_same rules held cache k h.kept_are h.cached.tiles) ∙ all.0.0),
       sym (outs_same rules cut IsSound contents members cache held h k) ∙ all.0.1), cache_free keys all.1)
 
   pub begins : All (IsFree cache) group
@@ -216,6 +216,7 @@ module _ {C B S : Type 0} (rules : Rules C B) (cut : C → Place → S) (IsSound
 
     -- it is the work that is next
     pub cuts_next : DoesNext rules cut held (Worked outs) (held_cut held job now)
+    unfolding cuts_by
     cuts_next =
         let d = held.document in
         let new : Held S = held_cut held job now in
@@ -256,10 +257,10 @@ module _ {C B S : Type 0} (rules : Rules C B) (cut : C → Place → S) (IsSound
           forms = all_push (λ (j : Job S). IsArea j.area) d.jobs job h.forms form;
           ticket_is = refl;
           kept_are = refl;
-          cache = record {
-            tiles = subst (λ (c : Cached). AllByRecursion (IsTileOf rules d.base d.journal d.applied) c.tiles) (sym now_is) h.cache.tiles;
+          cached = record {
+            tiles = subst (λ (c : Cached). AllByRecursion (IsTileOf rules d.base d.journal d.applied) c.tiles) (sym now_is) h.cached.tiles;
             outs = ap (λ (c : Cached). c.outs) now_is
-              ∙ ap (λ outs. outs ++ map (going cache.next d.applied) group) h.cache.outs
+              ∙ ap (λ outs. outs ++ map (going cache.next d.applied) group) h.cached.outs
               ∙ ap (λ outs. outs_of rules d.base d.journal d.applied d.jobs ++ outs) (going_same group ∙ ap (λ ks. map (out_of rules d.base d.journal d.applied job) ks) (sym keys_are))
               ∙ flat_more (λ (j : Job S). map (out_of rules d.base d.journal d.applied j) j.keys) d.jobs job;
           };

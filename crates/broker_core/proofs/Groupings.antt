@@ -73,8 +73,8 @@ where_not false place e = refl
 
 -- nothing is to the right of a key that the next one doesn't join
 right_none : (n : ℕ) (test : Place → Bool) (last : Place) → test (next_place last) ≡ false → right_of n test last ≡ []
-right_none zero test last no = refl
-right_none (suc n) test last no = rw no refl
+right_none zero test last fails = refl
+right_none (suc n) test last fails = rw fails refl
 
 -- the group so far and what is to the right of its last key, as the keys are taken
 pub record IsTaken (test : Place → Bool) (key : Place) (keys : List Place) (last : Place) : Type 0 where

@@ -30,7 +30,7 @@ use Rattle.broker_core.proofs.Paintings.{IsReady}
 
 -- the job at the place is found by its ticket
 pub job_finds : {S : Type 0} (jobs : List (Job S)) (ticket : ℕ) (scene : S) (i : ℕ) (job : Job S) → IsJobAt jobs ticket scene i → get_or jobs i job ≡ job → find_job jobs ticket ≡ Some job
-job_finds jobs ticket scene i job at is = found jobs i at.within (subst (λ j. nat_eq j.ticket ticket ≡ true) is (at.here job)) is at.before
+job_finds {S} jobs ticket scene i job at is = found jobs i at.within (subst (λ j. nat_eq j.ticket ticket ≡ true) is (at.here job)) is at.before
   where
     found : (list : List (Job S)) (k : ℕ) → k < length list → nat_eq job.ticket ticket ≡ true → get_or list k job ≡ job → AllByRecursion (λ (j : Job S). nat_eq j.ticket ticket ≡ false) (take k list) → find_job list ticket ≡ Some job
     found [] k within same here before = absurd (omega arith)
@@ -41,7 +41,7 @@ job_finds jobs ticket scene i job at is = found jobs i at.within (subst (λ j. n
 
 -- the jobs without it
 pub job_leaves : {S : Type 0} (jobs : List (Job S)) (ticket : ℕ) (scene : S) (i : ℕ) (job : Job S) → IsJobAt jobs ticket scene i → get_or jobs i job ≡ job → without_job jobs ticket ≡ remove jobs i
-job_leaves jobs ticket scene i job at is = left jobs i at.within (subst (λ j. nat_eq j.ticket ticket ≡ true) is (at.here job)) is at.before
+job_leaves {S} jobs ticket scene i job at is = left jobs i at.within (subst (λ j. nat_eq j.ticket ticket ≡ true) is (at.here job)) is at.before
   where
     left : (list : List (Job S)) (k : ℕ) → k < length list → nat_eq job.ticket ticket ≡ true → get_or list k job ≡ job → AllByRecursion (λ (j : Job S). nat_eq j.ticket ticket ≡ false) (take k list) → without_job list ticket ≡ remove list k
     left [] k within same here before = absurd (omega arith)
@@ -67,21 +67,22 @@ not_same m n lt =
     ] in
     go (nat_eq n m) refl
 
+-- a key out is of the job with the ticket, or of another
+abbrev own : (ticket : ℕ) → Out → Bool
+own ticket out = nat_eq out.ticket ticket
+
+abbrev other : (ticket : ℕ) → Out → Bool
+other ticket out = not (nat_eq out.ticket ticket)
+
 module _ {C B S : Type 0} (rules : Rules C B) (base : List ℕ) (journal : List Input) (applied ticket : ℕ) where
-  abbrev own : Out → Bool
-  own out = nat_eq out.ticket ticket
-
-  abbrev other : Out → Bool
-  other out = not (nat_eq out.ticket ticket)
-
   -- the keys of one job, by whether its ticket is the one
-  own_keys : (job : Job S) (b : Bool) (keys : List Place) → nat_eq job.ticket ticket ≡ b → filter own (map (out_of rules base journal applied job) keys) ≡ cond b (map (out_of rules base journal applied job) keys) []
+  own_keys : (job : Job S) (b : Bool) (keys : List Place) → nat_eq job.ticket ticket ≡ b → filter (own ticket) (map (out_of rules base journal applied job) keys) ≡ cond b (map (out_of rules base journal applied job) keys) []
   own_keys job true [] is = refl
   own_keys job false [] is = refl
   own_keys job true (key ∷ keys) is = rw is (ap (λ outs. out_of rules base journal applied job key ∷ outs) (own_keys job true keys is))
   own_keys job false (key ∷ keys) is = rw is (own_keys job false keys is)
 
-  other_keys : (job : Job S) (b : Bool) (keys : List Place) → nat_eq job.ticket ticket ≡ b → filter other (map (out_of rules base journal applied job) keys) ≡ cond b [] (map (out_of rules base journal applied job) keys)
+  other_keys : (job : Job S) (b : Bool) (keys : List Place) → nat_eq job.ticket ticket ≡ b → filter (other ticket) (map (out_of rules base journal applied job) keys) ≡ cond b [] (map (out_of rules base journal applied job) keys)
   other_keys job true [] is = refl
   other_keys job false [] is = refl
   other_keys job true (key ∷ keys) is = rw is (other_keys job true keys is)
@@ -91,17 +92,17 @@ module _ {C B S : Type 0} (rules : Rules C B) (base : List ℕ) (journal : List 
   all_out jobs = outs_of rules base journal applied jobs
 
   -- no key of these jobs is one of the job with the ticket
-  none_own : (jobs : List (Job S)) → AllByRecursion (λ (j : Job S). nat_eq j.ticket ticket ≡ false) jobs → filter own (all_out jobs) ≡ []
+  none_own : (jobs : List (Job S)) → AllByRecursion (λ (j : Job S). nat_eq j.ticket ticket ≡ false) jobs → filter (own ticket) (all_out jobs) ≡ []
   none_own [] all = refl
   none_own (j ∷ jobs) all =
-      filter_append own (map (out_of rules base journal applied j) j.keys) (all_out jobs)
-      ∙ ap (λ outs. outs ++ filter own (all_out jobs)) (own_keys j false j.keys all.0) ∙ none_own jobs all.1
+      filter_append (own ticket) (map (out_of rules base journal applied j) j.keys) (all_out jobs)
+      ∙ ap (λ outs. outs ++ filter (own ticket) (all_out jobs)) (own_keys j false j.keys all.0) ∙ none_own jobs all.1
 
-  all_other : (jobs : List (Job S)) → AllByRecursion (λ (j : Job S). nat_eq j.ticket ticket ≡ false) jobs → filter other (all_out jobs) ≡ all_out jobs
+  all_other : (jobs : List (Job S)) → AllByRecursion (λ (j : Job S). nat_eq j.ticket ticket ≡ false) jobs → filter (other ticket) (all_out jobs) ≡ all_out jobs
   all_other [] all = refl
   all_other (j ∷ jobs) all =
-      filter_append other (map (out_of rules base journal applied j) j.keys) (all_out jobs)
-      ∙ ap (λ outs. outs ++ filter other (all_out jobs)) (other_keys j false j.keys all.0)
+      filter_append (other ticket) (map (out_of rules base journal applied j) j.keys) (all_out jobs)
+      ∙ ap (λ outs. outs ++ filter (other ticket) (all_out jobs)) (other_keys j false j.keys all.0)
       ∙ ap (λ outs. map (out_of rules base journal applied j) j.keys ++ outs) (all_other jobs all.1)
 
   above : (jobs : List (Job S)) (low : ℕ) → low ≡ ticket → AllByRecursion (λ (j : Job S). low < j.ticket) jobs → AllByRecursion (λ (j : Job S). nat_eq j.ticket ticket ≡ false) jobs
@@ -109,31 +110,31 @@ module _ {C B S : Type 0} (rules : Rules C B) (base : List ℕ) (journal : List 
   above (j ∷ jobs) low is all = (not_same ticket j.ticket (let lt : low < j.ticket = all.0 in omega arith), above jobs low is all.1)
 
   -- the keys of the job at the place are those with its ticket
-  pub own_same : (jobs : List (Job S)) (i : ℕ) (job : Job S) → Pairwise (λ (a b : Job S). a.ticket < b.ticket) jobs → i < length jobs → nat_eq job.ticket ticket ≡ true → get_or jobs i job ≡ job → AllByRecursion (λ (j : Job S). nat_eq j.ticket ticket ≡ false) (take i jobs) → filter own (all_out jobs) ≡ map (out_of rules base journal applied job) job.keys
+  pub own_same : (jobs : List (Job S)) (i : ℕ) (job : Job S) → Pairwise (λ (a b : Job S). a.ticket < b.ticket) jobs → i < length jobs → nat_eq job.ticket ticket ≡ true → get_or jobs i job ≡ job → AllByRecursion (λ (j : Job S). nat_eq j.ticket ticket ≡ false) (take i jobs) → filter (own ticket) (all_out jobs) ≡ map (out_of rules base journal applied job) job.keys
   own_same [] i job rising within same here before = absurd (omega arith)
   own_same (j ∷ jobs) zero job rising within same here before =
       let number : j.ticket ≡ ticket = ap (λ (x : Job S). x.ticket) here ∙ eqb-true job.ticket ticket same in
-      filter_append own (map (out_of rules base journal applied j) j.keys) (all_out jobs)
-      ∙ ap (λ outs. outs ++ filter own (all_out jobs)) (own_keys j true j.keys (ap (λ (x : Job S). nat_eq x.ticket ticket) here ∙ same))
+      filter_append (own ticket) (map (out_of rules base journal applied j) j.keys) (all_out jobs)
+      ∙ ap (λ outs. outs ++ filter (own ticket) (all_out jobs)) (own_keys j true j.keys (ap (λ (x : Job S). nat_eq x.ticket ticket) here ∙ same))
       ∙ ap (λ outs. map (out_of rules base journal applied j) j.keys ++ outs) (none_own jobs (above jobs j.ticket number rising.0))
       ∙ append-nil (map (out_of rules base journal applied j) j.keys)
       ∙ ap (λ (x : Job S). map (out_of rules base journal applied x) x.keys) here
   own_same (j ∷ jobs) (suc i) job rising within same here before =
-      filter_append own (map (out_of rules base journal applied j) j.keys) (all_out jobs)
-      ∙ ap (λ outs. outs ++ filter own (all_out jobs)) (own_keys j false j.keys before.0)
+      filter_append (own ticket) (map (out_of rules base journal applied j) j.keys) (all_out jobs)
+      ∙ ap (λ outs. outs ++ filter (own ticket) (all_out jobs)) (own_keys j false j.keys before.0)
       ∙ own_same jobs i job rising.1 (omega arith) same here before.1
 
   -- the others are those of the other jobs
-  pub other_same : (jobs : List (Job S)) (i : ℕ) (job : Job S) → Pairwise (λ (a b : Job S). a.ticket < b.ticket) jobs → i < length jobs → nat_eq job.ticket ticket ≡ true → get_or jobs i job ≡ job → AllByRecursion (λ (j : Job S). nat_eq j.ticket ticket ≡ false) (take i jobs) → filter other (all_out jobs) ≡ all_out (remove jobs i)
+  pub other_same : (jobs : List (Job S)) (i : ℕ) (job : Job S) → Pairwise (λ (a b : Job S). a.ticket < b.ticket) jobs → i < length jobs → nat_eq job.ticket ticket ≡ true → get_or jobs i job ≡ job → AllByRecursion (λ (j : Job S). nat_eq j.ticket ticket ≡ false) (take i jobs) → filter (other ticket) (all_out jobs) ≡ all_out (remove jobs i)
   other_same [] i job rising within same here before = absurd (omega arith)
   other_same (j ∷ jobs) zero job rising within same here before =
       let number : j.ticket ≡ ticket = ap (λ (x : Job S). x.ticket) here ∙ eqb-true job.ticket ticket same in
-      filter_append other (map (out_of rules base journal applied j) j.keys) (all_out jobs)
-      ∙ ap (λ outs. outs ++ filter other (all_out jobs)) (other_keys j true j.keys (ap (λ (x : Job S). nat_eq x.ticket ticket) here ∙ same))
+      filter_append (other ticket) (map (out_of rules base journal applied j) j.keys) (all_out jobs)
+      ∙ ap (λ outs. outs ++ filter (other ticket) (all_out jobs)) (other_keys j true j.keys (ap (λ (x : Job S). nat_eq x.ticket ticket) here ∙ same))
       ∙ all_other jobs (above jobs j.ticket number rising.0)
   other_same (j ∷ jobs) (suc i) job rising within same here before =
-      filter_append other (map (out_of rules base journal applied j) j.keys) (all_out jobs)
-      ∙ ap (λ outs. outs ++ filter other (all_out jobs)) (other_keys j false j.keys before.0)
+      filter_append (other ticket) (map (out_of rules base journal applied j) j.keys) (all_out jobs)
+      ∙ ap (λ outs. outs ++ filter (other ticket) (all_out jobs)) (other_keys j false j.keys before.0)
       ∙ ap (λ outs. map (out_of rules base journal applied j) j.keys ++ outs) (other_same jobs i job rising.1 (omega arith) same here before.1)
 
 -- a picture has four bytes for each pixel
@@ -142,17 +143,17 @@ row_size colour p j zero = refl
 row_size colour p j (suc n) = omega (arith, row_size colour p j n, length-append (row colour p j n) (rgba (colour p.part (x_at p n) (y_at p j))))
 
 pub rows_size : (colour : ℕ → ℕ → ℕ → Colour) (p : Place) (n : ℕ) → length (rows colour p n) ≡ 4 * (n * p.width)
-rows_size colour p zero = refl
+rows_size colour p zero = omega arith
 rows_size colour p (suc n) =
     let rest : length (rows colour p n) ≡ 4 * (n * p.width) = rows_size colour p n in
     let one : length (row colour p n p.width) ≡ 4 * p.width = row_size colour p n p.width in
     length-append (rows colour p n) (row colour p n p.width) ∙ grind (arith, rest, one)
 
 module _ {C B S : Type 0} (rules : Rules C B) (d : Document S) (job : Job S) where
-  abbrev out_here : Place → Out
+  abbrev pub out_here : Place → Out
   out_here key = out_of rules d.base d.journal d.applied job key
 
-  abbrev shown_here : Place → Pixels
+  abbrev pub shown_here : Place → Pixels
   shown_here key = shown rules (doc rules d.base d.journal job.number) key
 
   -- the pictures of a job's keys have their sizes

@@ -26,10 +26,13 @@ frames_more version tile xs ys i x first frames now lt ys_are x_is before more =
     ∙ ap (λ (z : Member). first ++ flat_map g (take i xs ++ z ∷ [])) at ∙ ap (λ (zs : List Member). first ++ flat_map g zs) (sym (take_more xs i x lt))
 
 -- one more painted tile is there
-pub ready_more : (keys : List Place) (ends : List KeyEnd) (parts : List Pixels) (i : ℕ) (key : Place) (end : KeyEnd) (part : Pixels) → i < length keys → length ends ≡ length keys → length parts ≡ length keys → key ≡ get_or keys i key → end ≡ get_or ends i end → part ≡ get_or parts i part → ready_tiles (take i keys) (take i ends) (take i parts) ++ record { key = key; current = is_present end; rgba = part.rgba } ∷ [] ≡ ready_tiles (take (i + 1) keys) (take (i + 1) ends) (take (i + 1) parts)
+pub ready_more : (keys : List Place) (ends : List KeyEnd) (parts : List Pixels) (i : ℕ) (key : Place) (end : KeyEnd) (part : Pixels) → i < length keys → length ends ≡ length keys → length parts ≡ length keys → key ≡ get_or keys i key → end ≡ get_or ends i end → part ≡ get_or parts i part → ready_tiles (take i keys) (take i ends) (take i parts) ++ record { key = key; current = is_present end; rgba = part.rgba } ∷ [] ≡ ready_tiles (take (suc i) keys) (take (suc i) ends) (take (suc i) parts)
 ready_more [] ends parts i key end part lt es ps k e p = absurd (omega arith)
 ready_more (x ∷ keys) [] parts i key end part lt es ps k e p = absurd (omega arith)
 ready_more (x ∷ keys) (y ∷ ends) [] i key end part lt es ps k e p = absurd (omega arith)
-ready_more (x ∷ keys) (y ∷ ends) (z ∷ parts) zero key end part lt es ps k e p = rw (k, e, p) refl
+ready_more (x ∷ keys) (y ∷ ends) (z ∷ parts) zero key end part lt es ps k e p =
+    ap (λ (q : Place). record { key = q; current = is_present end; rgba = part.rgba } ∷ []) k
+    ∙ ap (λ (q : KeyEnd). record { key = x; current = is_present q; rgba = part.rgba } ∷ []) e
+    ∙ ap (λ (q : Pixels). record { key = x; current = is_present y; rgba = q.rgba } ∷ []) p
 ready_more (x ∷ keys) (y ∷ ends) (z ∷ parts) (suc i) key end part lt es ps k e p =
     ap (λ ts. record { key = x; current = is_present y; rgba = z.rgba } ∷ ts) (ready_more keys ends parts i key end part (omega arith) (omega arith) (omega arith) k e p)

@@ -3,6 +3,7 @@ use Rattle.std.proofs.Common.{◌≡◌, ℕ, zero, suc, ◌<◌, ◌≤◌, Boo
 use Rattle.std.specs.Prelude.{option_map, nat_lt, IsSome}
 use Rattle.std.specs.List.{list_any, AllByRecursion}
 use Rattle.std.proofs.lemmas.Bool.{and_parts, eqb-true}
+use Rattle.std.proofs.lemmas.Bool.Decides.{nat_tests}
 use Rattle.kit_trait.specs.Rules.{Rules}
 use Rattle.tile_cache.specs.Cached.{Cached, current_tile}
 use Rattle.tile_cache.specs.Calls.{is_out as cache_is_out}
@@ -45,7 +46,7 @@ is_some_map f (Some x) = refl
 -- what the test says of an option
 pub some_is : (o : Option ℕ) → is_some o ≡ true → IsSome o
 some_is None e = absurd (cc)
-some_is (Some n) e = tt
+some_is (Some n) e = refl
 
 pub none_is : (o : Option ℕ) → is_some o ≡ false → o ≡ None
 none_is None e = refl
@@ -61,13 +62,13 @@ owed_same rules d (member ∷ members) key all =
 module _ {C B S : Type 0} (rules : Rules C B) (cut : C → Place → S) (IsSound : C → Type 0) (contents : C) (members : List Member) (cache : Cached) (held : Held S) (h : Holds rules cut IsSound contents members cache held) where
   -- a present tile is kept exactly where the cache has a current one
   pub some_same : (key : Place) → is_some (current_version rules held key) ≡ is_some (current_tile cache key)
-  some_same key = ap is_some (current_same rules held cache key h.kept_are h.cache.tiles) ∙ is_some_map (λ (tile : Tile). tile.number) (current_tile cache key)
+  some_same key = ap is_some (current_same rules held cache key h.kept_are h.cached.tiles) ∙ is_some_map (λ (tile : Tile). tile.number) (current_tile cache key)
 
   -- a job of the key is out
   pub outs_same : (key : Place) → is_out held.document.jobs key ≡ cache_is_out cache key
   outs_same key =
       let d = held.document in
-      sym (ap (λ (outs : List Out). list_any (λ out. same_place out.key key) outs) h.cache.outs ∙ out_same rules d.base d.journal d.applied d.jobs key)
+      sym (ap (λ (outs : List Out). list_any (λ out. same_place out.key key) outs) h.cached.outs ∙ out_same rules d.base d.journal d.applied d.jobs key)
 
   serves_same : (key : Place) → can_serve (current_version rules held) held.document.jobs key ≡ choosing.can_serve cache (nat_lt (length held.document.jobs) MOST_JOBS) key
   serves_same key =
@@ -123,8 +124,7 @@ find_passes p (y ∷ ys) x e =
     go (p y) refl e
 
 self_same : (n : ℕ) → nat_eq n n ≡ true
-self_same zero = refl
-self_same (suc n) = self_same n
+self_same n = grind (arith, nat_tests)
 
 not_same : (m n : ℕ) → m < n → nat_eq m n ≡ false
 not_same m n lt =
@@ -161,8 +161,11 @@ module _ {C B S : Type 0} (rules : Rules C B) (kept : Place → Option ℕ) (d :
   among_found (view ∷ views) id key ids e =
       let go : (o : Option Place) → next_key rules kept d view ≡ o → or_later view.id o (next_among rules kept d views) ≡ Some (id, key) → (v : View) × (find_view (view ∷ views) id ≡ Some v) × IsNextView rules kept d id key v = elim [
         | Some k ↦ λ is found.
-            let name : view.id ≡ id = cc in
-            let key_is : k ≡ key = cc in
+            let here : (ℕ × Place) = (view.id, k) in
+            let told : (ℕ × Place) = (id, key) in
+            let same : here ≡ told = cc in
+            let name : view.id ≡ id = ap (λ (p : ℕ × Place). p.0) same in
+            let key_is : k ≡ key = ap (λ (p : ℕ × Place). p.1) same in
             let next : IsNextView rules kept d view.id key view = key_found view key (is ∙ ap Some key_is) in
             (view, subst (λ n. cond (nat_eq view.id n) (Some view) (find_view views n) ≡ Some view) name (ap (λ b. cond b (Some view) (find_view views view.id)) (self_same view.id)), subst (λ n. IsNextView rules kept d n key view) name next)
         | None ↦ λ is found.

@@ -78,14 +78,14 @@ module _ (can due : Place → Bool) where
 
   -- the first due key is the first that can be served, where it can
   pub served_here : (keys : List Place) (before : Option Place) (key : Place) → find (λ k. is_behind before k && due k) keys ≡ Some key → can key ≡ true → find (λ k. is_behind before k && (can k && due k)) keys ≡ Some key
-  served_here [] before key found yes = absurd (cc)
-  served_here (k ∷ keys) before key found yes =
+  served_here [] before key found may = absurd (cc)
+  served_here (k ∷ keys) before key found may =
       let go : (a b : Bool) → cond (a && b) (Some k) (find (λ q. is_behind before q && due q) keys) ≡ Some key → cond (a && (can k && b)) (Some k) (find (λ q. is_behind before q && (can q && due q)) keys) ≡ Some key = elim [
         | true ↦ elim [
-          | true ↦ λ e. let same : k ≡ key = cc in rw (ap can same ∙ yes) e
-          | false ↦ λ e. rw (and_none (can k)) (served_here keys before key e yes)
+          | true ↦ λ e. let same : k ≡ key = cc in rw (ap can same ∙ may) e
+          | false ↦ λ e. rw (and_none (can k)) (served_here keys before key e may)
         ]
-        | false ↦ λ b e. served_here keys before key e yes
+        | false ↦ λ b e. served_here keys before key e may
       ] in
       go (is_behind before k) (due k) found
 

@@ -121,10 +121,10 @@ view_has P (v ∷ views) id view all e =
     go (nat_eq v.id id) e
 
 -- the tile that the cache tells as current is not met
-pub tile_found : (o : Option Tile) (number : ℕ) (rgba : List ℕ) → option_map (λ (tile : Tile). (tile.number, tile.rgba)) (unmet o) ≡ Some (number, rgba) → unmet o ≡ Some (record { number = number; rgba = rgba; is_met = false })
+pub tile_found : (o : Option Tile) (number : ℕ) (rgba : List ℕ) → option_map {U = ℕ × List ℕ} (λ (tile : Tile). (tile.number, tile.rgba)) (unmet o) ≡ Some (number, rgba) → unmet o ≡ Some (record { number = number; rgba = rgba; is_met = false })
 tile_found None number rgba e = absurd (cc)
 tile_found (Some had) number rgba e =
-    let go : (b : Bool) → had.is_met ≡ b → option_map (λ (tile : Tile). (tile.number, tile.rgba)) (cond b None (Some had)) ≡ Some (number, rgba) → cond b None (Some had) ≡ Some (record { number = number; rgba = rgba; is_met = false }) = elim [
+    let go : (b : Bool) → had.is_met ≡ b → option_map {U = ℕ × List ℕ} (λ (tile : Tile). (tile.number, tile.rgba)) (cond b None (Some had)) ≡ Some (number, rgba) → cond b None (Some had) ≡ Some (record { number = number; rgba = rgba; is_met = false }) = elim [
       | true ↦ λ met none. absurd (cc)
       | false ↦ λ unmet some.
           let pair : (ℕ × List ℕ) = (had.number, had.rgba) in
@@ -150,7 +150,7 @@ module _ {C B S : Type 0} (rules : Rules C B) (cut : C → Place → S) (IsSound
     (tile : Tile) (current : current_tile cache key ≡ Some tile) (now_is : now ≡ used key cache (Some tile))
     (i : ℕ) (member : Member) (place : IsPlace members id i) (here : get_or members i member ≡ member) where
   version_is : current_version rules held key ≡ Some tile.number
-  version_is = current_same rules held cache key h.kept_are h.cache.tiles ∙ ap (option_map (λ (t : Tile). t.number)) current
+  version_is = current_same rules held cache key h.kept_are h.cached.tiles ∙ ap (option_map (λ (t : Tile). t.number)) current
 
   -- the tile of the cache shows the picture of its version
   tile_of : (o : Option Tile) → lookup (same_place key) cache.tiles ≡ o → unmet o ≡ Some tile → IsTileOf rules held.document.base held.document.journal held.document.applied (key, tile)
@@ -160,7 +160,7 @@ module _ {C B S : Type 0} (rules : Rules C B) (cut : C → Place → S) (IsSound
         | true ↦ λ none. absurd (cc)
         | false ↦ λ some.
             let same : had ≡ tile = cc in
-            found_mark rules held.document.base held.document.journal held.document.applied cache.tiles key tile h.cache.tiles (is ∙ ap Some same)
+            found_mark rules held.document.base held.document.journal held.document.applied cache.tiles key tile h.cached.tiles (is ∙ ap Some same)
       ] in
       go had.is_met e
 
@@ -221,6 +221,7 @@ module _ {C B S : Type 0} (rules : Rules C B) (cut : C → Place → S) (IsSound
 
   -- it is the work that is next
   pub sends_next : DoesNext rules cut held (Worked (frames_only (sent_frame tile.number (ready_of key tile) member ∷ []))) (held_sent held members i tile.number (ready_of key tile) member now)
+  unfolding sends_by
   sends_next =
       let d = held.document in
       let work : next_work rules held ≡ Send id key tile.number = work_is rules held id key no_save level next ∙ ap (serving id key (group_at rules (current_version rules held) d key)) version_is in
@@ -270,9 +271,9 @@ module _ {C B S : Type 0} (rules : Rules C B) (cut : C → Place → S) (IsSound
         forms = h.forms;
         ticket_is = h.ticket_is ∙ ap (λ (c : Cached). c.next) (sym now_is);
         kept_are = refl;
-        cache = record {
+        cached = record {
           tiles = subst (λ (c : Cached). AllByRecursion (IsTileOf rules d.base d.journal d.applied) c.tiles) (sym now_is)
-            (tiles_used (IsTileOf rules d.base d.journal d.applied) cache.tiles h.cache.tiles (tile_of (lookup (same_place key) cache.tiles) refl current));
-          outs = ap (λ (c : Cached). c.outs) now_is ∙ h.cache.outs;
+            (tiles_used (IsTileOf rules d.base d.journal d.applied) cache.tiles h.cached.tiles (tile_of (lookup (same_place key) cache.tiles) refl current));
+          outs = ap (λ (c : Cached). c.outs) now_is ∙ h.cached.outs;
         };
       }

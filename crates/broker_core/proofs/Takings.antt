@@ -106,7 +106,7 @@ module _ {C B S : Type 0} (rules : Rules C B) (cut : C → Place → S) (paints 
   pub own_are : filter (λ (out : Out). nat_eq out.ticket ticket) cache.outs ≡ map (out_here rules held.document job) job.keys
   own_are =
       let d = held.document in
-      ap (λ (outs : List Out). filter (λ (out : Out). nat_eq out.ticket ticket) outs) h.cache.outs
+      ap (λ (outs : List Out). filter (λ (out : Out). nat_eq out.ticket ticket) outs) h.cached.outs
       ∙ own_same rules d.base d.journal d.applied ticket d.jobs i job h.kept.document.tickets at.within job_ticket here at.before
 
   -- what became of each key is told of the keys of the job
@@ -210,14 +210,14 @@ module _ {C B S : Type 0} (rules : Rules C B) (cut : C → Place → S) (paints 
           forms = subst (λ (js : List (Job S)). AllByRecursion (λ (j : Job S). IsArea j.area) js) (sym jobs_are) (all_remove (λ (j : Job S). IsArea j.area) d.jobs i h.forms);
           ticket_is = refl;
           kept_are = refl;
-          cache = record {
+          cached = record {
             tiles = subst (λ (c : Cached). AllByRecursion (IsTileOf rules d.base d.journal d.applied) c.tiles) (sym now_is)
               (take_all (IsTileOf rules d.base d.journal d.applied) 256 (keep_all (new_tiles (calls.outs_of ticket cache) parts) cache.tiles)
               (subst (λ outs. AllByRecursion (IsTileOf rules d.base d.journal d.applied) (keep_all (new_tiles outs parts) cache.tiles)) (sym own_are)
               (subst (λ ps. AllByRecursion (IsTileOf rules d.base d.journal d.applied) (keep_all (new_tiles (map (out_here rules d job) job.keys) ps) cache.tiles)) (sym parts_are)
-              (tiles_all rules d job job.keys cache.tiles h.cache.tiles))));
+              (tiles_all rules d job job.keys cache.tiles h.cached.tiles))));
             outs = ap (λ (c : Cached). c.outs) now_is
-              ∙ ap (λ (outs : List Out). outs_but ticket outs) h.cache.outs
+              ∙ ap (λ (outs : List Out). outs_but ticket outs) h.cached.outs
               ∙ other_same rules d.base d.journal d.applied ticket d.jobs i job h.kept.document.tickets at.within job_ticket here at.before
               ∙ ap (λ (js : List (Job S)). outs_of rules d.base d.journal d.applied js) (sym jobs_are);
           };

@@ -1,8 +1,9 @@
 //! Which pair of a view and a key a turn serves, and which keys one job is cut for.
-ghost use Rattle.std.specs.Prelude.{◌≡◌, ◌∷◌};
+ghost use Rattle.std.specs.Prelude.{◌≡◌, ◌&&◌, ◌∷◌, find};
 ghost use Rattle.tile_key.specs.Places.{key_at, next_place};
 ghost use Rattle.document_machine.specs.Next.{right_of};
-ghost use Rattle.view_session.specs.Viewing.{is_due};
+ghost use Rattle.view_session.specs.Viewing.{is_due, keys};
+ghost use Rattle.broker_core.specs.Serving.{has_room};
 ghost use Rattle.broker_core.specs.Choosing.{can_serve, next_served, next_member, is_owed, where_true, joins_group, group_at};
 
 use crate::members::Member;
@@ -21,14 +22,29 @@ fn can_serve(tiles: &TileCache, more: bool, key: &TileKey) -> bool
 }
 
 impl Member {
-    /// The first key, in key order, that the view is due and that can be served, where it has room. Keys
-    /// that cannot be served are passed over, each once.
+    /// Whether the view has room for one more tile.
+    fn has_room(&self) -> bool
+        ensures { result ≡ has_room self.now.view }
+    {
+        self.view.room() > 0
+    }
+
+    /// The first key, in key order, that the view is due and that can be served, where it has room.
     fn next_served(&self, tiles: &TileCache, more: bool) -> Option<TileKey>
         ensures { result ≡ next_served tiles.now more self.now.view }
     {
-        if self.view.room() == 0 {
-            return None;
+        if self.has_room() {
+            return self.first_served(tiles, more);
         }
+        None
+    }
+
+    /// The first key, in key order, that the view is due and that can be served. Keys that cannot be served
+    /// are passed over, each once.
+    fn first_served(&self, tiles: &TileCache, more: bool) -> Option<TileKey>
+        ensures { result ≡ find (λ key. can_serve tiles.now more key && is_due self.now.view key) (keys self.now.view) }
+    {
+        // What it keeps says that its keys are in order.
         self.view.kept();
         let mut before = None;
         'search: loop {

@@ -1,5 +1,5 @@
 //! The pair that is next is served: a present tile that is kept is sent, or else a job is cut.
-ghost use Rattle.std.specs.Prelude.{◌≡◌, ◌+◌, [], ◌∷◌, false, length, nat_lt, IfOk, IsSome, None, Some};
+ghost use Rattle.std.specs.Prelude.{◌≡◌, [], ◌∷◌, true, false, length, nat_lt, IfOk, IsSome, None, Some};
 ghost use Rattle.tile_cache.specs.Cached.{current_tile};
 ghost use Rattle.document_machine.specs.Goes.{DoesNext};
 ghost use Rattle.document_machine.specs.Held.{current_version};

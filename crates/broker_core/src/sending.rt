@@ -38,10 +38,11 @@ pub(crate) fn ready_tiles(
 {
     let mut tiles = Vec::new(alloc);
     for i in 0..keys.len() {
+        let end = ends[i];
         let rgba = parts[i].rgba.clone()?;
         tiles.push(Ready {
             key: keys[i],
-            current: is_present(&ends[i]),
+            current: is_present(&end),
             rgba,
         })?;
     }
