@@ -29,7 +29,7 @@ use Rattle.broker_core.specs.Held.{IsFull, IsTracked, Holds}
 use Rattle.broker_core.specs.Members.{view_of, views_of}
 use Rattle.broker_core.specs.Places.{IsPlace}
 use Rattle.broker_core.specs.declared.members.Member.{Member}
-use Rattle.broker_core.proofs.Laws.{moves_keep}
+use Rattle.document_laws.proofs.Moving.{moves_keep}
 use Rattle.broker_core.proofs.Lists.{all_remove}
 use Rattle.broker_core.proofs.Places.{place_finds, place_leaves}
 

@@ -33,7 +33,7 @@ use Rattle.view_session.proofs.OrderFacts.{same_is}
 use Rattle.broker_core.specs.Caching.{IsTileOf, kept_tiles, out_of, outs_of}
 use Rattle.broker_core.specs.Held.{Holds}
 use Rattle.broker_core.specs.declared.members.Member.{Member}
-use Rattle.broker_core.proofs.Laws.{moves_keep}
+use Rattle.document_laws.proofs.Moving.{moves_keep}
 use Rattle.broker_core.proofs.Caches.{current_same}
 use Rattle.broker_core.proofs.Pairs.{IsNextView, outs_same, pair_found}
 use Rattle.broker_core.proofs.Sendings.{level_is, view_has, work_is}

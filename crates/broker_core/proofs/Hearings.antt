@@ -29,7 +29,7 @@ use Rattle.broker_core.specs.Places.{IsPlace}
 use Rattle.broker_core.specs.declared.hearing.Outcome.{Outcome}
 use Rattle.broker_core.specs.declared.hearing.Outcome.TheVariants.{Nothing, Answer, Accepted, Waits}
 use Rattle.broker_core.specs.declared.members.Member.{Member}
-use Rattle.broker_core.proofs.Laws.{moves_keep}
+use Rattle.document_laws.proofs.Moving.{moves_keep}
 use Rattle.broker_core.proofs.Lists.{all_kept, all_set, all_unmap, all_weaker}
 use Rattle.broker_core.proofs.Noted.{cache_longer, jobs_past, tiles_past}
 use Rattle.broker_core.proofs.Places.{place_changes, place_finds}

@@ -1,5 +1,4 @@
 pub mod Lists
-pub mod Laws
 pub mod Places
 pub mod Openings
 pub mod Pushed

@@ -6,7 +6,7 @@ use Rattle.tile_key.specs.Places.{Place}
 use Rattle.document_machine.specs.Due.{parts_of}
 use Rattle.document_machine.specs.Held.{opening_held}
 use Rattle.broker_core.specs.Held.{Holds}
-use Rattle.broker_core.proofs.Laws.{opening_held_keeps}
+use Rattle.document_laws.proofs.Moving.{opening_held_keeps}
 
 -- a document as it is loaded has all that a broker keeps
 pub holds_opening : {C B S : Type 0} (rules : Rules C B) (cut : C → Place → S) (IsSound : C → Type 0) (contents : C) (file base : List ℕ) → rules.accepts base ≡ true → contents ≡ rules.start base → IsSound contents → 1 ≤ parts_of rules base → Holds rules cut IsSound contents [] empty (opening_held {S = S} file base)

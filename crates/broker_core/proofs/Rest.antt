@@ -13,7 +13,7 @@ use Rattle.broker_core.specs.Held.{IsTracked}
 use Rattle.broker_core.specs.Members.{views_of}
 use Rattle.broker_core.specs.Serving as serving
 use Rattle.broker_core.specs.declared.members.Member.{Member}
-use Rattle.broker_core.proofs.Laws.{passed_is_quiet, quiet_passes}
+use Rattle.document_laws.proofs.QuietTest.{passed_is_quiet, quiet_passes}
 use Rattle.broker_core.proofs.Words.{stills_same}
 
 -- the machine's test, by the parts that a broker keeps

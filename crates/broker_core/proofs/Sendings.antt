@@ -36,7 +36,8 @@ use Rattle.broker_core.specs.declared.members.Member.{Member}
 use Rattle.broker_core.specs.declared.sending.Ready.{Ready}
 use Rattle.broker_core.proofs.Caches.{current_same, found_mark, kept_same}
 use Rattle.broker_core.proofs.Pairs.{IsNextView, pair_found}
-use Rattle.broker_core.proofs.Laws.{moves_keep, rests_by}
+use Rattle.document_laws.proofs.Idle.{idle_by}
+use Rattle.document_laws.proofs.Moving.{moves_keep}
 use Rattle.broker_core.proofs.Lists.{all_set}
 use Rattle.broker_core.proofs.Trackings.{tracked_sent}
 use Rattle.broker_core.proofs.Places.{place_finds, place_changes}
@@ -57,15 +58,15 @@ work_is rules held id key no_save level next =
     ∙ ap (serving_next rules kept d) next
 
 -- where no pair is next a turn is Idle
-pub idles : {C B S : Type 0} (rules : Rules C B) (cut : C → Place → S) (held : Held S) → has_ready_save held.document ≡ false → nat_lt held.document.applied (length held.document.journal) ≡ false → next_pair rules (current_version rules held) held.document ≡ None → DoesNext rules cut held Idle held
-idles rules cut held no_save level next =
+pub idles : {C B S : Type 0} (rules : Rules C B) (cut : C → Place → S) (held : Held S) → has_ready_save held.document ≡ false → nat_lt held.document.applied (length held.document.journal) ≡ false → held.document.applied ≤ length held.document.journal → next_pair rules (current_version rules held) held.document ≡ None → DoesNext rules cut held Idle held
+idles rules cut held no_save level within next =
     let d = held.document in
     let kept : Place → Option ℕ = current_version rules held in
     let work : next_work rules held ≡ Rest =
     ap (λ b. cond b Serve (cond (nat_lt d.applied (length d.journal)) Apply (serving_next rules kept d (next_pair rules kept d)))) no_save
     ∙ ap (λ b. cond b Apply (serving_next rules kept d (next_pair rules kept d))) level
     ∙ ap (serving_next rules kept d) next in
-    (subst (λ (w : Work). Does rules cut d w Idle d) (sym work) (rests_by rules kept d work, refl), ap (kept_by held.kept) (sym work))
+    (subst (λ (w : Work). Does rules cut d w Idle d) (sym work) (idle_by rules kept d within work, refl), ap (kept_by held.kept) (sym work))
 
 -- what holds of all kept tiles holds of the one that is found
 kept_has : (P : KeptTile → Type 0) (tiles : List KeptTile) (key : Place) (version : ℕ) → AllByRecursion P tiles → kept_version tiles key ≡ Some version → P (record { key = key; version = version })

@@ -27,7 +27,7 @@ use Rattle.document_machine.specs.declared.outs.Turned.TheVariants.{Worked}
 use Rattle.broker_core.specs.Held.{Holds}
 use Rattle.broker_core.specs.Members.{views_of}
 use Rattle.broker_core.specs.declared.members.Member.{Member}
-use Rattle.broker_core.proofs.Laws.{moves_keep}
+use Rattle.document_laws.proofs.Moving.{moves_keep}
 
 -- a document with this known of its saves
 abbrev pub saved_once : {S : Type 0} → Held S → Saving → Held S

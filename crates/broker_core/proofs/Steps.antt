@@ -35,7 +35,8 @@ use Rattle.broker_core.specs.Held.{Holds, IsTracked}
 use Rattle.broker_core.specs.Members.{shown_of, view_of, views_of}
 use Rattle.broker_core.specs.Serving.{cache_damaged, marked_by}
 use Rattle.broker_core.specs.declared.members.Member.{Member}
-use Rattle.broker_core.proofs.Laws.{moves_keep, work_lowers}
+use Rattle.document_laws.proofs.Moving.{moves_keep}
+use Rattle.document_laws.proofs.Rank.{work_lowers}
 use Rattle.broker_core.proofs.Lists.{all_unmap, all_weaker}
 use Rattle.broker_core.proofs.Marks.{damage_is, views_marked, all_marked}
 use Rattle.broker_core.proofs.Noted.{cache_more, jobs_past, kept_noted, next_noted, tiles_past}

@@ -34,7 +34,7 @@ use Rattle.broker_core.specs.Serving.{Ignores}
 use Rattle.broker_core.specs.Sending.{all_offered, all_frames, ready_tiles}
 use Rattle.broker_core.specs.declared.members.Member.{Member}
 use Rattle.broker_core.specs.declared.sending.Ready.{Ready}
-use Rattle.broker_core.proofs.Laws.{moves_keep}
+use Rattle.document_laws.proofs.Moving.{moves_keep}
 use Rattle.broker_core.proofs.Lists.{all_remove}
 use Rattle.broker_core.proofs.Keepings.{job_finds, job_leaves, own_same, other_same, out_here, shown_here, sized, ready_are, ready_keys, painted_same, tiles_all, take_all, take_kept, sound_after, parts_after, rows_size}
 use Rattle.broker_core.proofs.Paintings.{IsReady, marked_by, views_same, frames_same}

@@ -1,5 +1,5 @@
 //! The pair that is next is served: a present tile that is kept is sent, or else a job is cut.
-ghost use Rattle.std.specs.Prelude.{◌≡◌, [], ◌∷◌, true, false, length, nat_lt, IfOk, IsSome, None, Some};
+ghost use Rattle.std.specs.Prelude.{◌≤◌, ◌≡◌, [], ◌∷◌, true, false, length, nat_lt, IfOk, IsSome, None, Some};
 ghost use Rattle.tile_cache.specs.Cached.{current_tile};
 ghost use Rattle.document_machine.specs.Goes.{DoesNext};
 ghost use Rattle.document_machine.specs.Held.{current_version};
@@ -50,6 +50,7 @@ impl<K: Kit> Core<K> {
     pub(crate) fn serve_next(self) -> Result<(Core<K>, Turned<K::Scene>), Memory>
         requires no_save { has_ready_save self.document ≡ false }
         requires level { nat_lt self.document.applied (length self.document.journal) ≡ false }
+        requires within { self.document.applied ≤ length self.document.journal }
         ensures { IfOk result (λ r. DoesNext K.rules K.cut self r.1 r.0) }
     {
         let Some((id, key)) = self.next_pair() else {
