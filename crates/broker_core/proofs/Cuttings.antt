@@ -156,27 +156,34 @@ module _ {C B S : Type 0} (rules : Rules C B) (cut : C → Place → S) (IsSound
   free_keys =
       let d = held.document in
       let kept : Place → Option ℕ = current_version rules held in
-      let first : is_out d.jobs key ≡ false = not_true (is_out d.jobs key) (and_parts (nat_lt (length d.jobs) MOST_JOBS) (not (is_out d.jobs key)) serves).1 in
-      ((none, first), right_all (λ k. (kept k ≡ None) × (is_out d.jobs k ≡ false)) 7 (joins_group rules kept d)
-      (λ k joins.
-        let free = and_parts (not (is_some (kept k))) (not (is_out d.jobs k)) (and_parts (is_owed rules d k) _ joins).1 in
-        (not_some (kept k) free.0, not_true (is_out d.jobs k) free.1)) key)
+      let first : is_out d.jobs key ≡ false = not_true (is_out d.jobs key) (and_parts (nat_lt (length d.jobs) MOST_JOBS) (not (is_out d.jobs key)) serves).1 in (
+        (none, first),
+        right_all (λ k. (kept k ≡ None) × (is_out d.jobs k ≡ false)) 7 (joins_group rules kept d)
+            (λ k joins.
+            let free = and_parts (not (is_some (kept k))) (not (is_out d.jobs k)) (and_parts (is_owed rules d k) _ joins).1 in
+            (not_some (kept k) free.0, not_true (is_out d.jobs k) free.1)) key,
+      )
 
   -- and in the cache, so a job of the group may begin
   cache_free : (keys : List Place) → AllByRecursion (λ k. (current_version rules held k ≡ None) × (is_out held.document.jobs k ≡ false)) keys → AllByRecursion (IsFree cache) keys
   cache_free [] all = tt
-  cache_free (k ∷ keys) all =
-      ((none_map (λ (tile : Tile). tile.number) (current_tile cache k) (sym (current_same rules held cache k h.kept_are h.cached.tiles) ∙ all.0.0),
-      sym (outs_same rules cut IsSound contents members cache held h k) ∙ all.0.1), cache_free keys all.1)
+  cache_free (k ∷ keys) all = (
+    (
+      none_map (λ (tile : Tile). tile.number) (current_tile cache k) (sym (current_same rules held cache k h.kept_are h.cached.tiles) ∙ all.0.0),
+      sym (outs_same rules cut IsSound contents members cache held h k) ∙ all.0.1,
+    ),
+    cache_free keys all.1,
+  )
 
   pub begins : All (IsFree cache) group
   begins = all_of (IsFree cache) group (cache_free group free_keys)
 
   owed_keys : AllByRecursion (λ k. is_owed rules held.document k ≡ true) group
   owed_keys =
-      let d = held.document in
-      (any_found (λ view. is_due rules d view key) d.views id found.0 found.1 found.2.due,
-      right_all (λ k. is_owed rules d k ≡ true) 7 (joins_group rules (current_version rules held) d) (λ k joins. (and_parts (is_owed rules d k) _ joins).0) key)
+      let d = held.document in (
+        any_found (λ view. is_due rules d view key) d.views id found.0 found.1 found.2.due,
+        right_all (λ k. is_owed rules d k ≡ true) 7 (joins_group rules (current_version rules held) d) (λ k joins. (and_parts (is_owed rules d k) _ joins).0) key,
+      )
 
   wanted_key : is_wanted rules held.document key ≡ true
   wanted_key =
@@ -260,8 +267,8 @@ module _ {C B S : Type 0} (rules : Rules C B) (cut : C → Place → S) (IsSound
           cached = record {
             tiles = subst (λ (c : Cached). AllByRecursion (IsTileOf rules d.base d.journal d.applied) c.tiles) (sym now_is) h.cached.tiles;
             outs = ap (λ (c : Cached). c.outs) now_is
-              ∙ ap (λ outs. outs ++ map (going cache.next d.applied) group) h.cached.outs
-              ∙ ap (λ outs. outs_of rules d.base d.journal d.applied d.jobs ++ outs) (going_same group ∙ ap (λ ks. map (out_of rules d.base d.journal d.applied job) ks) (sym keys_are))
-              ∙ flat_more (λ (j : Job S). map (out_of rules d.base d.journal d.applied j) j.keys) d.jobs job;
+                ∙ ap (λ outs. outs ++ map (going cache.next d.applied) group) h.cached.outs
+                ∙ ap (λ outs. outs_of rules d.base d.journal d.applied d.jobs ++ outs) (going_same group ∙ ap (λ ks. map (out_of rules d.base d.journal d.applied job) ks) (sym keys_are))
+                ∙ flat_more (λ (j : Job S). map (out_of rules d.base d.journal d.applied j) j.keys) d.jobs job;
           };
         }

@@ -22,9 +22,11 @@ low_is n le = grind (arith, nat_tests)
 -- a key's place passes the test
 pub key_is : (p : Place) → IsKey p → is_key p ≡ true
 key_is p k =
-    rw (side_is p.width p.tilewidth p.posx k.width_low k.width_high k.tilewidth_low k.tilewidth_high k.posx_high k.posx_multiple,
-    side_is p.height p.tileheight p.posy k.height_low k.height_high k.tileheight_low k.tileheight_high k.posy_high k.posy_multiple,
-    low_is p.nviewid k.nviewid_high) refl
+    rw (
+      side_is p.width p.tilewidth p.posx k.width_low k.width_high k.tilewidth_low k.tilewidth_high k.posx_high k.posx_multiple,
+      side_is p.height p.tileheight p.posy k.height_low k.height_high k.tileheight_low k.tileheight_high k.posy_high k.posy_multiple,
+      low_is p.nviewid k.nviewid_high,
+    ) refl
 
 move_key : (p q : Place) → same_place p q ≡ true → IsKey p → IsKey q
 move_key p q same k = subst IsKey (same_is p q same) k

@@ -19,6 +19,7 @@ use Rattle.document_machine.specs.Message.{Effect, Limits, effect, effect_of, li
 use Rattle.document_machine.specs.Outputs.{named, frames_only}
 use Rattle.document_machine.specs.State.{View, Document, find_view, with_view}
 use Rattle.document_machine.specs.Step.{Says}
+use Rattle.document_machine.specs.declared.rights.Rights.{Rights}
 use Rattle.document_machine.proofs.Journal.{doc_same}
 use Rattle.document_machine.proofs.Lists.{all_at}
 use Rattle.view_session.specs.Viewing.{Entry}
@@ -82,10 +83,14 @@ heard_once held members outcome saving = record {
   kept = held.kept;
 }
 
--- the saves once it did, by the token of the member
+-- the saves once it did, by the token in these rights
+abbrev pub saving_by : {S : Type 0} → Document S → (id : ℕ) → Outcome → Rights → Saving
+saving_by d id outcome rights =
+    with_save (save_in outcome) id (length d.journal) rights.token (with_token (inputs_in outcome) rights.token d.saving)
+
+-- the same by the rights of the member
 abbrev pub saving_heard : {S : Type 0} → Document S → (id : ℕ) → Member → Outcome → Saving
-saving_heard d id now outcome =
-    with_save (save_in outcome) id (length d.journal) now.view.rights.token (with_token (inputs_in outcome) now.view.rights.token d.saving)
+saving_heard d id now outcome = saving_by d id outcome now.view.rights
 
 module _ {C B S : Type 0} (rules : Rules C B) (cut : C → Place → S) (IsSound : C → Type 0) (contents : C) (members : List Member) (cache : Cached) (held : Held S) (h : Holds rules cut IsSound contents members cache held)
     (id i count : ℕ) (member now : Member) (text : List ℕ) (outcome : Outcome) (place : IsPlace members id i) (is : get_or members i member ≡ member) (count_is : count ≡ length held.document.journal)

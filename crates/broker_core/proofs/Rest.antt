@@ -1,7 +1,7 @@
 -- When nothing is left to do.
 use Rattle.std.proofs.Common.{◌≡◌, ◌↔◌, Bool, true, false, ◌&&◌, not, List, [], length, Option, Some, None, refl, sym, ap, ◌∙◌, arith, nat_eq, IsTrue}
 use Rattle.std.specs.List.{list_all, AllByRecursion}
-use Rattle.std.specs.Prelude.{IsSomeAnd, is_none}
+use Rattle.std.specs.Prelude.{IsSomeAnd, is_none, is_some}
 use Rattle.std.specs.Option.{option_map_or}
 use Rattle.std.proofs.lemmas.Bool.Decides.{nat_tests}
 use Rattle.kit_trait.specs.Rules.{Rules}
@@ -27,6 +27,11 @@ quiet_by rules d members views all no_save no_put level none =
     ∙ ap (λ b. b && list_all (is_still rules d) d.views) free
     ∙ ap (λ vs. list_all (is_still rules d) vs) views
     ∙ stills_same rules d members all)
+
+-- nothing is there where something is not
+pub none_there : {X : Type 0} (o : Option X) → is_some o ≡ false → is_none o ≡ true
+none_there None is = refl
+none_there (Some x) is = absurd (cc)
 
 -- the test of a broker passes exactly where it isn't spent and its document is quiet
 pub test_is : {C B S : Type 0} (rules : Rules C B) (broker : Option (Held S)) (result : Bool) → result ≡ option_map_or (λ (held : Held S). is_quiet rules held.document) broker false → IsTrue result ↔ IsSomeAnd broker (λ held. IsQuiet rules held.document)

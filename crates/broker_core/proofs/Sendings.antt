@@ -215,9 +215,9 @@ module _ {C B S : Type 0} (rules : Rules C B) (cut : C → Place → S) (IsSound
         not_back = not_back_by view.screen key tile.number screen;
         outs_are = ap (λ (rgba : List ℕ). frames_only ((named member.id, TileFrame key tile.number (record { 0 = member.view.next_wid }) rgba) ∷ [])) shows.shows;
         new_is = ap (λ (vs : List View). record d { views = vs })
-          (place_changes members id i member (member_sent tile.number (ready_of key tile) member) (sent rules d tile.number key) place here change
-          ∙ ap (λ (vs : List View). with_view vs id (sent rules d tile.number key)) (sym h.views_are)
-          ∙ ap (λ n. with_view d.views n (sent rules d tile.number key)) (sym n.named));
+            (place_changes members id i member (member_sent tile.number (ready_of key tile) member) (sent rules d tile.number key) place here change
+            ∙ ap (λ (vs : List View). with_view vs id (sent rules d tile.number key)) (sym h.views_are)
+            ∙ ap (λ n. with_view d.views n (sent rules d tile.number key)) (sym n.named));
       }
 
   -- it is the work that is next
@@ -231,9 +231,10 @@ module _ {C B S : Type 0} (rules : Rules C B) (cut : C → Place → S) (IsSound
       let kept : new.kept ≡ with_kept held.kept key tile.number =
       ap (λ (c : Cached). kept_tiles c.tiles) now_is
       ∙ kept_same key tile cache.tiles (subst (λ ts. Pairwise (λ (a b : KeptTile). a.key ≢ b.key) ts) h.kept_are h.kept.kept_once)
-      ∙ ap (λ ts. with_kept ts key tile.number) (sym h.kept_are) in
-      (subst (λ (w : Work). Does rules cut d w (Worked (frames_only (sent_frame tile.number (ready_of key tile) member ∷ []))) new.document) (sym work) does,
-      kept ∙ ap (kept_by held.kept) (sym work))
+      ∙ ap (λ ts. with_kept ts key tile.number) (sym h.kept_are) in (
+        subst (λ (w : Work). Does rules cut d w (Worked (frames_only (sent_frame tile.number (ready_of key tile) member ∷ []))) new.document) (sym work) does,
+        kept ∙ ap (kept_by held.kept) (sym work),
+      )
 
   not_true : (b : Bool) → not b ≡ true → b ≡ false
   not_true true e = absurd (cc)
@@ -268,13 +269,13 @@ module _ {C B S : Type 0} (rules : Rules C B) (cut : C → Place → S) (IsSound
         sizes_are = h.sizes_are;
         some_part = h.some_part;
         tracked = all_set (IsTracked rules d.base d.journal d.applied) members i (member_sent tile.number (ready_of key tile) member) h.tracked
-          (tracked_sent rules d.base d.journal d.applied tile.number (ready_of key tile) member (sym untouched) tracked);
+            (tracked_sent rules d.base d.journal d.applied tile.number (ready_of key tile) member (sym untouched) tracked);
         forms = h.forms;
         ticket_is = h.ticket_is ∙ ap (λ (c : Cached). c.next) (sym now_is);
         kept_are = refl;
         cached = record {
           tiles = subst (λ (c : Cached). AllByRecursion (IsTileOf rules d.base d.journal d.applied) c.tiles) (sym now_is)
-            (tiles_used (IsTileOf rules d.base d.journal d.applied) cache.tiles h.cached.tiles (tile_of (lookup (same_place key) cache.tiles) refl current));
+              (tiles_used (IsTileOf rules d.base d.journal d.applied) cache.tiles h.cached.tiles (tile_of (lookup (same_place key) cache.tiles) refl current));
           outs = ap (λ (c : Cached). c.outs) now_is ∙ h.cached.outs;
         };
       }

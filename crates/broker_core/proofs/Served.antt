@@ -1,5 +1,5 @@
 -- A document once its ready saves were served, or a store answered.
-use Rattle.std.proofs.Common.{◌≡◌, ◌∙◌, ℕ, ◌+◌, ◌<◌, Bool, true, false, cond, List, [], ◌∷◌, ◌++◌, length, map, filter, drop, get_or, Option, Some, Result, refl, sym, ap, subst, append_assoc, append-nil}
+use Rattle.std.proofs.Common.{◌≡◌, ◌∙◌, ℕ, zero, suc, ◌+◌, ◌<◌, Bool, true, false, cond, List, [], ◌∷◌, ◌++◌, length, map, filter, drop, get_or, Option, Some, Result, refl, sym, ap, subst, append_assoc, append-nil, arith}
 use Rattle.std.specs.Prelude.{nat_lt, option_to_list}
 use Rattle.std.proofs.lemmas.List.{drop_more}
 use Rattle.cool_base.specs.declared.ids.ViewId.{ViewId}
@@ -100,6 +100,12 @@ outs_by members d text ids slice errand frames errands slice_is ids_are errand_i
 -- a turn that did its work is a move
 pub turn_moves : {C B S : Type 0} (rules : Rules C B) (cut : C → Place → S) (old new : Held S) (outs : Outs S) → DoesNext rules cut old (Worked outs) new → Moves rules cut old Turned outs new
 turn_moves rules cut old new outs does = (Worked outs, does, refl)
+
+-- the element at a place, whatever is given for want of one
+pub same_there : {X : Type 0} (xs : List X) (i : ℕ) (a b : X) → i < length xs → get_or xs i a ≡ get_or xs i b
+same_there [] i a b lt = absurd (omega arith)
+same_there (x ∷ xs) zero a b lt = refl
+same_there (x ∷ xs) (suc i) a b lt = same_there xs i a b (omega arith)
 
 -- a view that is gone is told nothing, and one that is there gets its frame
 pub told_gone : (views : List View) (frames : List (ViewId × Frame)) (id : ViewId) (frame : Frame) → is_live views id.0 ≡ false → frames ≡ frames ++ told_view views frame (Some id)

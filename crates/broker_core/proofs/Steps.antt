@@ -13,7 +13,7 @@ use Rattle.kit_trait.specs.declared.values.Input.{Input}
 use Rattle.tile_cache.specs.Cached.{Cached}
 use Rattle.tile_key.specs.Places.{Place}
 use Rattle.document_machine.specs.Due.{parts_of, damage_of}
-use Rattle.document_machine.specs.Event.{Turned}
+use Rattle.document_machine.specs.Event.{Event, Turned}
 use Rattle.document_machine.specs.Goes.{Did, DoesNext, Goes, Moves, next_work}
 use Rattle.document_machine.specs.Held.{Held, current_version, kept_by}
 use Rattle.document_machine.specs.Kept.{IsHeld, IsKept, IsViewKept}
@@ -125,6 +125,12 @@ module _ {C B S : Type 0} (rules : Rules C B) (cut : C → Place → S) (IsSound
 pub lowers_by : {C B S : Type 0} (rules : Rules C B) (cut : C → Place → S) (old new : Held S) (turned : TurnAnswer S) → IsHeld rules cut old → DoesNext rules cut old turned new → Lowers rules (Some old) turned (Some new)
 lowers_by rules cut old new (Worked outs) kept does = work_lowers rules cut old.document new.document outs (does_turn rules cut old.document new.document (next_work rules old) (Worked outs) does.0) kept.document
 lowers_by rules cut old new Idle kept does = tt
+
+-- a move of a broker
+pub moves_go : {C B S : Type 0} (rules : Rules C B) (cut : C → Place → S) (before after : Option (Held S)) (old new : Held S) (event : Event S) (outs : Outs S) → before ≡ Some old → after ≡ Some new → Moves rules cut old event outs new → Goes rules cut before event outs after
+moves_go {C} {B} {S} rules cut before after old new event outs is now moves =
+    subst (λ (b : Option (Held S)). Goes rules cut b event outs after) (sym is)
+    (subst (λ (a : Option (Held S)). Goes rules cut (Some old) event outs a) (sym now) moves)
 
 -- a turn of a broker that did the work that is next is a move, does it, and lowers the rank
 pub turn_goes : {C B S : Type 0} (rules : Rules C B) (cut : C → Place → S) (before after : Option (Held S)) (old new : Held S) (turned : TurnAnswer S) → before ≡ Some old → after ≡ Some new → DoesNext rules cut old turned new → Goes rules cut before Turned (outs_of turned) after

@@ -188,9 +188,10 @@ module _ {C B S : Type 0} (rules : Rules C B) (cut : C → Place → S) (paints 
         ∙ ap (λ vs. record d { views = vs; jobs = jobs }) views_is ∙ ap (λ js. record d { views = views_offered rules d job.number job.keys d.views; jobs = js }) jobs_is in
         let found : find_job d.jobs ticket ≡ Some job = job_finds d.jobs ticket scene i job at here in
         let paints_it : Paints rules d ticket scene (frames_only frames) new.document (Some job) = inr (sym job_scene, ap frames_only frames_is, new_is) in
-        let keeps : KeepsPainted rules held scene new.kept (Some job) = inr (sym job_scene, kept_are) in
-        (subst (λ o. Paints rules d ticket scene (frames_only frames) new.document o) (sym found) paints_it,
-        subst (λ o. KeepsPainted rules held scene new.kept o) (sym found) keeps)
+        let keeps : KeepsPainted rules held scene new.kept (Some job) = inr (sym job_scene, kept_are) in (
+          subst (λ o. Paints rules d ticket scene (frames_only frames) new.document o) (sym found) paints_it,
+          subst (λ o. KeepsPainted rules held scene new.kept o) (sym found) keeps,
+        )
 
     -- and what a broker keeps
     pub holds_painted : ((base : List ℕ) → 0 < parts_of rules base) → Holds rules cut IsSound contents after_members now (held_painted held jobs after_members now)
@@ -212,14 +213,14 @@ module _ {C B S : Type 0} (rules : Rules C B) (cut : C → Place → S) (paints 
           kept_are = refl;
           cached = record {
             tiles = subst (λ (c : Cached). AllByRecursion (IsTileOf rules d.base d.journal d.applied) c.tiles) (sym now_is)
-              (take_all (IsTileOf rules d.base d.journal d.applied) 256 (keep_all (new_tiles (calls.outs_of ticket cache) parts) cache.tiles)
-              (subst (λ outs. AllByRecursion (IsTileOf rules d.base d.journal d.applied) (keep_all (new_tiles outs parts) cache.tiles)) (sym own_are)
-              (subst (λ ps. AllByRecursion (IsTileOf rules d.base d.journal d.applied) (keep_all (new_tiles (map (out_here rules d job) job.keys) ps) cache.tiles)) (sym parts_are)
-              (tiles_all rules d job job.keys cache.tiles h.cached.tiles))));
+                (take_all (IsTileOf rules d.base d.journal d.applied) 256 (keep_all (new_tiles (calls.outs_of ticket cache) parts) cache.tiles)
+                (subst (λ outs. AllByRecursion (IsTileOf rules d.base d.journal d.applied) (keep_all (new_tiles outs parts) cache.tiles)) (sym own_are)
+                (subst (λ ps. AllByRecursion (IsTileOf rules d.base d.journal d.applied) (keep_all (new_tiles (map (out_here rules d job) job.keys) ps) cache.tiles)) (sym parts_are)
+                (tiles_all rules d job job.keys cache.tiles h.cached.tiles))));
             outs = ap (λ (c : Cached). c.outs) now_is
-              ∙ ap (λ (outs : List Out). outs_but ticket outs) h.cached.outs
-              ∙ other_same rules d.base d.journal d.applied ticket d.jobs i job h.kept.document.tickets at.within job_ticket here at.before
-              ∙ ap (λ (js : List (Job S)). outs_of rules d.base d.journal d.applied js) (sym jobs_are);
+                ∙ ap (λ (outs : List Out). outs_but ticket outs) h.cached.outs
+                ∙ other_same rules d.base d.journal d.applied ticket d.jobs i job h.kept.document.tickets at.within job_ticket here at.before
+                ∙ ap (λ (js : List (Job S)). outs_of rules d.base d.journal d.applied js) (sym jobs_are);
           };
         }
       where

@@ -42,6 +42,7 @@ impl<K: Kit> Broker<K> {
     /// and of each of its keys, in order, each view, in order of ids, gets the tile if it is due, has room
     /// and is no step back; the tiles that are present are kept. Else nothing changes. Jobs come back in any
     /// order or never. After `Memory` the broker is spent.
+    #[tactic(auto, using(crate::proofs::Steps::moves_go))]
     pub fn painted(&mut self, done: &Done<K::Scene>) -> Result<Outs<K::Scene>, Memory>
         ensures step { IfOk result (λ outs. Goes K.rules K.cut self.old (Painted done.now.ticket.0 done.now.scene) outs self.new) }
         ensures spent { OnErr result (self.new ≡ None) }
