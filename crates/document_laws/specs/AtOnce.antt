@@ -25,9 +25,10 @@ numbers view = map (λ tile. tile.wid) view.window
 abbrev pub acknowledges : {S : Type 0} → Document S → ℕ → List ℕ → Document S
 acknowledges d id wids = record d { views = with_view d.views id (acknowledged wids) }
 
--- a view has acknowledged all that it was sent: nothing is sent for that, its window is empty and it is else
--- as before, the other views and the jobs out are as before, and less is left to do
-pub record IsAcknowledged {C B S : Type 0} (rules : Rules C B) (old : Document S) (id : ℕ) (view : View) (outs : Outs S) (new : Document S) : Type 0 where
+-- a view has acknowledged all that it was sent: nothing is sent for that, its window is empty and
+-- it is else as before, the other views and the jobs out are as before, and less is left to do
+pub record IsAcknowledged {C B S : Type 0} (rules : Rules C B) (old : Document S) (id : ℕ)
+    (view : View) (outs : Outs S) (new : Document S) : Type 0 where
   pub outs_are : outs ≡ nothing
   pub new_is : new ≡ acknowledges old id (numbers view)
   pub empty : find_view new.views id ≡ Some (record view { window = [] })

@@ -18,13 +18,12 @@ use Rattle.cool_message.specs.declared.message.KeyKind.TheVariants.{Input as Dow
 use Rattle.cool_message.specs.declared.message.MouseKind.{MouseKind}
 use Rattle.cool_message.specs.declared.message.MouseKind.TheVariants.{ButtonDown, ButtonUp, Move}
 use Rattle.document_machine.specs.Kept.{IsKept, IsViewKept}
-use Rattle.document_laws.proofs.Acknowledged.{found_with, found_other}
 use Rattle.document_laws.proofs.Heard.{IsPlain, effect_good, heard_is, keeps}
 use Rattle.document_laws.proofs.KeptViews.{map_ids}
 use Rattle.document_laws.proofs.KeyOrder.{same_is}
-use Rattle.document_laws.proofs.Lower.{found_view}
 use Rattle.document_laws.proofs.Rising.{find_map, find_push, find_without, offered_id}
 use Rattle.document_laws.proofs.Sending.{with_same, screen_other}
+use Rattle.document_laws.proofs.Views.{found_other, found_view, found_with}
 use Rattle.document_machine.specs.Due.{takes, tile_frame, sent, version_of, without_version, screen_after, seen_keys, wants, visible, is_current, asked_after}
 use Rattle.document_machine.specs.Event.{Event, Joined, Left, Said, Turned, Painted}
 use Rattle.document_machine.specs.Keys.{Pairwise, is_among}

@@ -12,8 +12,8 @@ use Rattle.document_laws.specs.Tiles.{IsShown}
 use Rattle.document_machine.specs.Kept.{IsKept, IsViewKept}
 use Rattle.document_laws.proofs.Heard.{effect_good, heard_is, keeps}
 use Rattle.document_laws.proofs.KeyOrder.{same_is}
-use Rattle.document_laws.proofs.Lower.{found_view}
 use Rattle.document_laws.proofs.Rising.{find_without, offered_id}
+use Rattle.document_laws.proofs.Views.{found_view}
 use Rattle.document_machine.specs.Due.{version_of, sent, keys}
 use Rattle.document_machine.specs.Event.{Event, Joined, Left, Said, Turned, Painted}
 use Rattle.document_machine.specs.Keys.{Pairwise}

@@ -7,7 +7,8 @@ use Rattle.std.specs.Ordering.{nat_cmp}
 use Rattle.document_laws.specs.AtOnce.{all_answered}
 use Rattle.document_laws.proofs.Heard.{effect_good}
 use Rattle.document_laws.proofs.Kept.{opening_keeps}
-use Rattle.document_laws.proofs.Lower.{at_once_lowers, found_view}
+use Rattle.document_laws.proofs.Lower.{at_once_lowers}
+use Rattle.document_laws.proofs.Views.{found_view}
 use Rattle.document_machine.proofs.Turns.{does_turn}
 use Rattle.cool_base.specs.declared.ids.ViewId.{ViewId}
 use Rattle.cool_frame.specs.declared.frame.Frame.{Frame}

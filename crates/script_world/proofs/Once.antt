@@ -5,8 +5,8 @@ use Rattle.std.specs.List.{AllByRecursion}
 use Rattle.cool_base.specs.declared.ids.ViewId.{ViewId}
 use Rattle.cool_frame.specs.declared.frame.Frame.{Frame}
 use Rattle.document_laws.proofs.Idle.{next_by}
-use Rattle.document_laws.proofs.Lower.{found_view}
 use Rattle.document_laws.specs.AtOnce.{answered, all_answered}
+use Rattle.document_laws.proofs.Views.{found_view}
 use Rattle.document_machine.specs.Due.{sent, tile_frame}
 use Rattle.document_machine.specs.Message.{effect, reply, heard}
 use Rattle.document_machine.specs.Next.{Work, Apply, Send, Cut, Rest, none_kept, next_pair, serving_next, pick}

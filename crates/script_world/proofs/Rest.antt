@@ -15,8 +15,8 @@ use Rattle.cool_message.specs.Reading.{reading}
 use Rattle.cool_message.specs.Writing.{written}
 use Rattle.cool_message.specs.declared.message.ClientMessage.TheVariants.{TileProcessed}
 use Rattle.document_laws.proofs.Acknowledged.{written_read, said_lowers}
-use Rattle.document_laws.proofs.Lower.{found_view}
 use Rattle.document_laws.specs.AtOnce.{numbers, IsAcknowledged}
+use Rattle.document_laws.proofs.Views.{found_view}
 use Rattle.document_machine.specs.Keys.{Pairwise}
 use Rattle.document_machine.specs.Kept.{IsViewKept}
 use Rattle.document_machine.specs.Quiet.{IsQuiet, AllRight}

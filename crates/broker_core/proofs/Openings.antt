@@ -1,0 +1,26 @@
+-- A document as it is loaded.
+use Rattle.std.proofs.Common.{◌≡◌, ◌≤◌, ℕ, ◌<◌, true, List, [], refl, ap}
+use Rattle.kit_trait.specs.Rules.{Rules}
+use Rattle.tile_cache.specs.Calls.{empty}
+use Rattle.tile_key.specs.Places.{Place}
+use Rattle.document_machine.specs.Due.{parts_of}
+use Rattle.document_machine.specs.Held.{opening_held}
+use Rattle.broker_core.specs.Held.{Holds}
+use Rattle.document_laws.proofs.Moving.{opening_held_keeps}
+
+-- a document as it is loaded has all that a broker keeps
+pub holds_opening : {C B S : Type 0} (rules : Rules C B) (cut : C → Place → S) (IsSound : C → Type 0) (contents : C) (file base : List ℕ) → rules.accepts base ≡ true → contents ≡ rules.start base → IsSound contents → 1 ≤ parts_of rules base → Holds rules cut IsSound contents [] empty (opening_held {S = S} file base)
+holds_opening rules cut IsSound contents file base accepted is sound some = record {
+  kept = opening_held_keeps rules cut file base accepted;
+  views_are = refl;
+  contents_are = is;
+  sound = sound;
+  parts_are = ap (λ c. rules.parts (rules.body c)) is;
+  sizes_are = λ part. ap (λ c. rules.size (rules.body c) part) is;
+  some_part = some;
+  tracked = tt;
+  forms = tt;
+  ticket_is = refl;
+  kept_are = refl;
+  cached = record { tiles = tt; outs = refl };
+}
