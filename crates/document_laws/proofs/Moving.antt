@@ -20,7 +20,6 @@ use Rattle.document_machine.specs.Keys.{is_among}
 use Rattle.document_machine.specs.Kept.{AreApart, IsHeld, IsJobKept, IsKept, IsNotAhead, IsPresentKept, IsTileKept, IsViewKept, ShareNone}
 use Rattle.document_machine.specs.Message.{Effect, effect, heard, saving_after}
 use Rattle.document_machine.specs.Next.{Work, Serve, Apply, Send, Cut, Rest}
-use Rattle.document_machine.specs.Outputs.{nothing}
 use Rattle.document_machine.specs.Run.{Run}
 use Rattle.document_machine.specs.Saves.{receipt_of, saving_left, saving_served}
 use Rattle.document_machine.specs.State.{Shown, View, Job, Document, find_job, find_view, opening_view, with_view, without_job, without_view}

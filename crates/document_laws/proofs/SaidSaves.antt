@@ -1,5 +1,5 @@
 -- In a run each save that waits was said by its view.
-use Rattle.std.proofs.Common.{◌≡◌, ◌-◌, ℕ, zero, suc, unwrap_or, slice_get, inl, inr, ◌+◌, ◌<◌, Bool, true, false, not, ◌&&◌, cond, List, [], ◌∷◌, ◌++◌, length, map, filter, Option, None, Some, is_some, refl, ap, sym, subst, ◌∙◌, append_assoc, append-nil}
+use Rattle.std.proofs.Common.{◌≡◌, ◌-◌, ℕ, zero, suc, unwrap_or, slice_get, inl, inr, ◌<◌, Bool, true, false, not, ◌&&◌, cond, List, [], ◌∷◌, ◌++◌, length, map, filter, Option, None, Some, is_some, refl, ap, sym, subst, ◌∙◌, append_assoc, append-nil}
 use Rattle.std.specs.Prelude.{nat_lt}
 use Rattle.std.specs.List.{AllByRecursion}
 use Rattle.cool_base.specs.declared.ids.ViewId.{ViewId}
@@ -7,7 +7,7 @@ use Rattle.cool_frame.specs.declared.frame.Frame.{Frame}
 use Rattle.cool_frame.specs.declared.frame.Frame.TheVariants.{Status, Invalidate, Server, Error, SaveDone, Tile}
 use Rattle.kit_trait.specs.Rules.{Rules}
 use Rattle.outside.specs.declared.errands.Errand.{Errand}
-use Rattle.save_core.specs.Saving.{Saving, answered, answered_put, begun, bound_to, ended, errand_for, final_waits, final_with, is_unmodified, last_stored, left_over, waits}
+use Rattle.save_core.specs.Saving.{Saving, answered_put, begun, bound_to, ended, errand_for, final_waits, final_with, is_unmodified, last_stored, left_over}
 use Rattle.save_core.specs.declared.values.Put.{Put}
 use Rattle.save_core.specs.declared.values.Save.{Save}
 use Rattle.tile_key.specs.Places.{Place}

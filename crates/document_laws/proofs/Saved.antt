@@ -1,5 +1,5 @@
 -- What stands behind each frame that says that a save is done.
-use Rattle.std.proofs.Common.{◌≡◌, ℕ, zero, suc, ◌+◌, ◌-◌, ◌<◌, Bool, true, false, not, ◌&&◌, ◌||◌, cond, nat_eq, nat_le, List, [], ◌∷◌, ◌++◌, length, map, filter, Option, None, Some, Ok, Err, unwrap_or, refl, ap, sym, subst, ◌∙◌, arith, inl, inr}
+use Rattle.std.proofs.Common.{◌≡◌, ℕ, zero, suc, ◌-◌, ◌<◌, Bool, true, false, not, ◌&&◌, ◌||◌, cond, nat_eq, nat_le, List, [], ◌∷◌, ◌++◌, length, map, filter, Option, None, Some, Ok, Err, unwrap_or, refl, ap, sym, subst, ◌∙◌, arith, inl, inr}
 use Rattle.std.specs.Prelude.{nat_lt, slice_get, Result}
 use Rattle.std.specs.List.{flat_map, filter_map, cons_option, list_any, AllByRecursion}
 use Rattle.std.specs.Str.{bytes_eq}
@@ -16,7 +16,7 @@ use Rattle.outside.specs.declared.errands.Receipt.{Receipt}
 use Rattle.outside.specs.declared.faults.StoreFault.{StoreFault}
 use Rattle.save_core.proofs.Bound.{under_way}
 use Rattle.save_core.specs.Runs.{IsBoundTo}
-use Rattle.save_core.specs.Saving.{Saving, answer_of, answered, answered_put, answers, begun, endings, errand_for, ended, is_for, is_ready_save, is_unmodified, last_stored, left_over, unmodified}
+use Rattle.save_core.specs.Saving.{Saving, answer_of, answered, answered_put, answers, begun, endings, errand_for, ended, is_ready_save, is_unmodified, last_stored, left_over, unmodified}
 use Rattle.save_core.specs.declared.values.Put.{Put}
 use Rattle.save_core.specs.declared.values.Save.{Save}
 use Rattle.tile_key.specs.Places.{Place}

@@ -11,7 +11,7 @@ use Rattle.kit_trait.specs.Rules.{Rules, doc}
 use Rattle.kit_trait.specs.declared.values.Input.{Input}
 use Rattle.outside.specs.declared.errands.Errand.{Errand}
 use Rattle.save_core.proofs.Bound.{AreBound, served_bound, answered_bound, waits_bound}
-use Rattle.save_core.specs.Saving.{Saving, begun, bound_to, ended, final_with, final_waits, has_mark, is_full, is_of, is_ready_save, is_unmodified, last_stored, left_over, served, stored_with, token_for, token_kept, waits}
+use Rattle.save_core.specs.Saving.{Saving, begun, bound_to, ended, final_with, final_waits, has_mark, is_full, is_of, is_ready_save, is_unmodified, last_stored, left_over, stored_with, token_for, token_kept, waits}
 use Rattle.save_core.specs.declared.values.Put.{Put}
 use Rattle.save_core.specs.declared.values.Save.{Save}
 use Rattle.save_core.specs.declared.values.TheConstants.{MOST_SAVES}
