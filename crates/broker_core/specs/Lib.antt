@@ -1,5 +1,2 @@
-pub mod Members
-pub mod Places
 pub mod Held
-pub mod Hearing
-pub mod Serving
+pub mod Stored

@@ -6,19 +6,10 @@
 //! and no time. After `Memory` from one of its calls a broker is spent: it answers `Memory` from then on.
 #![tactic(auto)]
 
-mod applying;
 mod broker;
+mod broker_saves;
 mod broker_work;
-mod changing;
-mod core_of;
-mod cutting;
 mod faults;
-mod hearing;
-mod joining;
-mod members;
-mod painting;
-mod resting;
-mod turning;
 
 pub use broker::Broker;
 pub use document_machine::{MOST_VIEWS, Outs, Rights, Turned};
