@@ -1,13 +1,16 @@
--- The kind of document that a poll of the daemon holds: the document of a broker, with its tiles.
+-- The kind of document that a poll of the daemon holds: a broker.
 use Rattle.std.specs.Prelude.{◌≡◌, ℕ, Bool, true, false, nat_le, List, ◌++◌, length, map, Option}
-use Rattle.std.specs.Prelude.{None, Some, if◌then◌else◌}
+use Rattle.std.specs.Prelude.{None, Some, option_and_then, Result, if◌then◌else◌}
+use Rattle.std.specs.Option.{option_map_or}
 use Rattle.cool_frame.specs.Frames.{frame_bytes}
 use Rattle.kit_trait.specs.Rules.{Rules}
 use Rattle.kit_trait.specs.declared.jobs.PaintJob.{PaintJob}
+use Rattle.outside.specs.declared.errands.Receipt.{Receipt}
+use Rattle.outside.specs.declared.faults.StoreFault.{StoreFault}
 use Rattle.tile_key.specs.Places.{Place}
 use Rattle.document_machine.specs.Done.{is_done, is_lost}
 use Rattle.document_machine.specs.Event as machine
-use Rattle.document_machine.specs.Goes.{Moves, DoesNext}
+use Rattle.document_machine.specs.Goes.{Goes, Did}
 use Rattle.document_machine.specs.Held.{Held, opening_held}
 use Rattle.document_machine.specs.Outputs.{outs_of}
 use Rattle.document_machine.specs.declared.limits.TheConstants.{MOST_VIEWS}
@@ -43,10 +46,10 @@ machine_event (Painted result) = machine.Painted result.ticket result.scene
 machine_event (PutAnswered ticket answer) = machine.PutAnswered ticket answer
 
 -- a broker moves by this event of its document, and this is given on
-abbrev pub MovesOn : {C B S : Type 0} → Rules C B → (C → Place → S) → Held S → machine.Event S
-    → Outs (PaintJob S) → Held S → Type 0
+abbrev pub MovesOn : {C B S : Type 0} → Rules C B → (C → Place → S) → Option (Held S)
+    → machine.Event S → Outs (PaintJob S) → Option (Held S) → Type 0
 MovesOn {C} {B} {S} rules cut old event outs new =
-    (given : Given S) × Moves rules cut old event given new × (outs ≡ given_out given)
+    (given : Given S) × Goes rules cut old event given new × (outs ≡ given_out given)
 
 -- whether a turn did a work
 abbrev pub did_work : {S : Type 0} → TurnAnswer S → Bool
@@ -54,15 +57,15 @@ did_work (Worked outs) = true
 did_work Idle = false
 
 -- a broker makes a turn: the one work that is next, and the event tells whether there was one
-abbrev pub TurnsOn : {C B S : Type 0} → Rules C B → (C → Place → S) → Held S → Bool
-    → Outs (PaintJob S) → Held S → Type 0
+abbrev pub TurnsOn : {C B S : Type 0} → Rules C B → (C → Place → S) → Option (Held S) → Bool
+    → Outs (PaintJob S) → Option (Held S) → Type 0
 TurnsOn {C} {B} {S} rules cut old worked outs new =
-    (turned : TurnAnswer S) × DoesNext rules cut old turned new × (worked ≡ did_work turned)
+    (turned : TurnAnswer S) × Did rules cut old turned new × (worked ≡ did_work turned)
     × (outs ≡ given_out (outs_of turned))
 
 -- a step of a document
-abbrev pub StepsOn : {C B S : Type 0} → Rules C B → (C → Place → S) → Held S → Event (Painting S)
-    → Outs (PaintJob S) → Held S → Type 0
+abbrev pub StepsOn : {C B S : Type 0} → Rules C B → (C → Place → S) → Option (Held S)
+    → Event (Painting S) → Outs (PaintJob S) → Option (Held S) → Type 0
 StepsOn rules cut old (Joined rights) outs new = MovesOn rules cut old (machine.Joined rights) outs
     new
 StepsOn rules cut old (Left view) outs new = MovesOn rules cut old (machine.Left view) outs new
@@ -74,22 +77,35 @@ StepsOn rules cut old (Painted result) outs new = MovesOn rules cut old
 StepsOn rules cut old (PutAnswered ticket answer) outs new = MovesOn rules cut old
     (machine.PutAnswered ticket answer) outs new
 
--- the document that a file gives, where the kit accepts it
-abbrev pub opened : {C B S : Type 0} → Rules C B → (file bytes : List ℕ) → Option (Held S)
-opened rules file bytes = if rules.accepts bytes then Some (opening_held file bytes) else None
+-- the broker of a file, where the kit accepts it
+abbrev pub opened : {C B S : Type 0} → Rules C B → (file bytes : List ℕ)
+    → Option (Option (Held S))
+opened rules file bytes = if rules.accepts bytes then Some (Some (opening_held file bytes)) else
+    None
 
--- the kind of document that a poll holds whose host of files is this, over a kit's rules
+-- whether a broker has all the views that it may have
+abbrev pub is_full : {S : Type 0} → Option (Held S) → Bool
+is_full broker = option_map_or (λ held. nat_le MOST_VIEWS (length held.document.views)) broker false
+
+-- the token of the lock that a store's answer gives a broker
+abbrev pub broker_lock : {S : Type 0} → Option (Held S) → ℕ → Result Receipt StoreFault
+    → Option (List ℕ)
+broker_lock broker ticket answer =
+    option_and_then (λ held. lock_token held.document.saving ticket answer) broker
+
+-- the kind of document that a poll holds whose host of files is this, over a kit's rules: a broker,
+-- which is none once it is spent
 abbrev pub ways : {C B S : Type 0} → Rules C B → (C → Place → S) → Served
-    → Ways (Held S) (PaintJob S) (Painting S)
+    → Ways (Option (Held S)) (PaintJob S) (Painting S)
 ways rules cut served = record {
   address = address served;
   opening = opened rules;
   Steps = StepsOn rules cut;
   paints = λ job. record { ticket = job.ticket.0; scene = job.scene };
   ticket_of = λ result. result.ticket;
-  next_view = λ held. held.document.next_view;
-  is_full = λ held. nat_le MOST_VIEWS (length held.document.views);
-  is_done = λ held. is_done held.document;
-  is_lost = λ held. is_lost held.document;
-  lock_of = λ held ticket answer. lock_token held.document.saving ticket answer;
+  next_view = λ broker. option_map_or (λ held. held.document.next_view) broker 0;
+  is_full = is_full;
+  is_done = λ broker. option_map_or (λ held. is_done held.document) broker false;
+  is_lost = λ broker. option_map_or (λ held. is_lost held.document) broker false;
+  lock_of = broker_lock;
 }

@@ -1,10 +1,10 @@
 //! Laws of the polls of the daemon.
-ghost use Rattle.std.specs.Prelude.{◌≡◌, ℕ, List, Some, false};
+ghost use Rattle.std.specs.Prelude.{◌≡◌, ℕ, List, Option, Some, false};
 ghost use Rattle.std.specs.List.{AllByRecursion};
 ghost use Rattle.outside.specs.declared.errands.Errand.{Errand};
 ghost use Rattle.kit_trait.specs.declared.jobs.PaintJob.{PaintJob};
 ghost use Rattle.save_core.specs.Saving.{Saving, errand_for, served};
-ghost use Rattle.document_machine.specs.Goes.{Moves};
+ghost use Rattle.document_machine.specs.Goes.{Goes};
 ghost use Rattle.document_machine.specs.Held.{Held};
 ghost use Rattle.document_machine.specs.declared.outs.Outs.{Outs as Given};
 ghost use Rattle.load_address.specs.declared.served.Served.{Served};
@@ -17,16 +17,16 @@ use kit_trait::Kit;
 /// Each step of a document that a poll holds is a move of its broker, by the same event, and what
 /// the poll gives on is what the broker gave out.
 pub fn polls_move_documents<K: Kit>()
-    ensures { (served : Served) (old new : Held K.Scene) (event : Event (Painting K.Scene))
+    ensures { (served : Served) (old new : Option (Held K.Scene)) (event : Event (Painting K.Scene))
         (outs : Outs (PaintJob K.Scene))
         → (ways K.rules K.cut served).Steps old event outs new
-        → (given : Given K.Scene) × Moves K.rules K.cut old (machine_event event) given new
+        → (given : Given K.Scene) × Goes K.rules K.cut old (machine_event event) given new
         × (outs ≡ given_out given) }
 {}
 
 /// A turn that does no work gives nothing out, and leaves the document and what is kept of it.
 pub fn idle_turns_rest<K: Kit>()
-    ensures { (served : Served) (old new : Held K.Scene) (outs : Outs (PaintJob K.Scene))
+    ensures { (served : Served) (old new : Option (Held K.Scene)) (outs : Outs (PaintJob K.Scene))
         → (ways K.rules K.cut served).Steps old (Turned false) outs new
         → (outs ≡ nothing) × (new ≡ old) }
 {}
