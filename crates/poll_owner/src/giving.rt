@@ -1,0 +1,107 @@
+//! The frames of a document are given to the links of its views.
+ghost use Rattle.std.specs.Prelude.{◌≡◌, ◌∷◌, [], ℕ, Some, IsSome, IsOk, map};
+ghost use Rattle.cool_frame.specs.Frames.{frame_bytes};
+ghost use Rattle.document_machine.specs.Event.{Left};
+ghost use Rattle.document_machine.specs.Goes.{Goes};
+ghost use Rattle.document_machine.specs.Outputs.{nothing};
+ghost use Rattle.load_address.specs.declared.served.Served.{Served};
+ghost use Rattle.poll_machine.specs.Agenda.{Give, link_of, without_view};
+ghost use Rattle.poll_instance.specs.Instance.{ways};
+ghost use Rattle.poll_owner.specs.Settling.{Settles, give_of};
+
+use crate::owned::OwnedDocument;
+use cool_base::{LinkId, Memory, ViewId};
+use cool_frame::{Frame, write_frame};
+use kit_trait::Kit;
+use net_traits::{Given, Net};
+use std::alloc::Global;
+
+impl<K: Kit, N: Net> OwnedDocument<K, N> {
+    /// The view leaves, where it is there, and is among the views with links no more. It takes no
+    /// memory.
+    fn drop_view(&mut self, view: ViewId)
+        requires { IsSome self.old.doc }
+        ensures step { Goes K.rules K.cut self.old.doc (Left view.0) nothing self.new.doc }
+        ensures rest { self.new ≡ record self.old {
+          doc = self.new.doc;
+          views = without_view self.old.views view.0;
+        } }
+        ensures alive { IsSome self.new.doc }
+    {
+        if self.broker.is_live(view) {
+            self.broker.leave(view);
+        }
+        self.links.remove(view);
+    }
+
+    /// Gives the bytes of one frame to the link of its view. Where the give fails the view leaves,
+    /// and the link is released and ends. After `Memory` nothing was given.
+    fn give_bytes(
+        &mut self,
+        alloc: Global,
+        net: &mut N,
+        view: ViewId,
+        link: LinkId,
+        bytes: &[u8],
+    ) -> Result<(), Memory>
+        requires alive { IsSome self.old.doc }
+        requires seat { link_of self.old.views view.0 ≡ Some link.0 }
+        ensures settled { (served : Served) (moment : ℕ)
+            → Settles (ways K.rules K.cut served) N.carried moment self.old
+            (Give view.0 bytes.now ∷ []) (N.told net.old) (IsOk result) self.new (N.told net.new) }
+        ensures alive { IsSome self.new.doc }
+        ensures takes { N.take_faults net.new ≡ N.take_faults net.old }
+    {
+        match net.give(alloc, link, bytes)? {
+            Given::Sent => {}
+            Given::Failed => {
+                self.drop_view(view);
+                let _gone = net.release(link);
+            }
+        }
+        Ok(())
+    }
+
+    /// Gives one frame to the link of its view, and skips it where the view has none.
+    fn give_one(
+        &mut self,
+        alloc: Global,
+        net: &mut N,
+        view: ViewId,
+        frame: &Frame,
+    ) -> Result<(), Memory>
+        requires { IsSome self.old.doc }
+        ensures settled { (served : Served) (moment : ℕ)
+            → Settles (ways K.rules K.cut served) N.carried moment self.old
+            (Give view.0 (frame_bytes frame.now) ∷ []) (N.told net.old) (IsOk result) self.new
+            (N.told net.new) }
+        ensures alive { IsSome self.new.doc }
+        ensures takes { N.take_faults net.new ≡ N.take_faults net.old }
+    {
+        let Some(link) = self.link_of(view) else {
+            return Ok(());
+        };
+        let bytes = write_frame(alloc, frame)?;
+        self.give_bytes(alloc, net, view, link, bytes.as_slice())
+    }
+
+    /// Gives frames to the links of their views, in order.
+    pub(crate) fn give_all(
+        &mut self,
+        alloc: Global,
+        net: &mut N,
+        frames: &[(ViewId, Frame)],
+    ) -> Result<(), Memory>
+        requires { IsSome self.old.doc }
+        ensures settled { (served : Served) (moment : ℕ)
+            → Settles (ways K.rules K.cut served) N.carried moment self.old
+            (map give_of frames.now) (N.told net.old) (IsOk result) self.new (N.told net.new) }
+        ensures alive { IsSome self.new.doc }
+        ensures takes { N.take_faults net.new ≡ N.take_faults net.old }
+    {
+        for given in frames {
+            self.give_one(alloc, net, given.0, &given.1)?;
+        }
+        Ok(())
+    }
+}
