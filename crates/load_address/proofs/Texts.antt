@@ -1,5 +1,6 @@
 -- Bytes that are text, and others.
-use Rattle.std.proofs.Common.{◌≡◌, ℕ, List, Bool, true, false, IsUtf8, Option, Some, None, ap, refl, cond}
+use Rattle.std.proofs.Common.{◌≡◌, ℕ, List, Bool, true, false, IsUtf8, Option, Some, None, ap}
+use Rattle.std.proofs.Common.{refl, cond}
 use Rattle.std.specs.Str.{is_utf8}
 use Rattle.std.proofs.lemmas.Str.{is_utf8-from_IsUtf8, IsUtf8-from_is_utf8}
 use Rattle.load_address.specs.Addresses.{text_of}

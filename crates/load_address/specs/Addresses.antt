@@ -2,14 +2,14 @@
 use Rattle.std.specs.Prelude.{ℕ, Bool, false, ◌&&◌, ◌==◌, List, ◌++◌, drop, codes, nat_eq}
 use Rattle.std.specs.Prelude.{bytes_eq, Option, None, Some, option_map, option_and_then, unwrap_or}
 use Rattle.std.specs.Prelude.{Result, Ok, Err, if◌then◌else◌}
-use Rattle.std.specs.List.{find, list_any, slice_split, starts_with}
+use Rattle.std.specs.List.{list_any, slice_split, starts_with}
 use Rattle.std.specs.Str.{is_utf8}
 use Rattle.percent_encoding.specs.Percent.{percent_decode}
 use Rattle.url.specs.Host.{host_text}
 use Rattle.url.specs.Parser.{Parsed, parse_url}
 use Rattle.url.specs.Parts.{Parts, nonempty_host}
 use Rattle.cool_base.specs.Words.{file_id, token}
-use Rattle.cool_words.specs.Words.{cut_at, is_named, value_of}
+use Rattle.cool_words.specs.Words.{cut_at, first_value}
 use Rattle.load_address.specs.declared.served.Served.{Served}
 
 -- the URL that a text is, where it is one
@@ -60,12 +60,9 @@ front_of None whole = whole
 abbrev pub query_of : List ℕ → Option (List ℕ)
 query_of text = option_map (λ sides. sides.1) (cut_at 63 (front_of (cut_at 35 text) text))
 
--- the first word of a query, cut at each `&`, that begins with `access_token=`, and its value
-abbrev pub token_word : List ℕ → Option (List ℕ)
-token_word query = find (is_named (codes "access_token")) (slice_split (λ b. b == 38) query)
-
+-- the value of the first word of a query, cut at each `&`, that begins with `access_token=`
 abbrev pub token_text : List ℕ → Option (List ℕ)
-token_text query = option_and_then value_of (token_word query)
+token_text query = first_value (codes "access_token") (slice_split (λ b. b == 38) query)
 
 abbrev pub written_token : List ℕ → Option (List ℕ)
 written_token text = option_and_then token_text (query_of text)

@@ -59,11 +59,13 @@ fn is_served(served: &Served, url: &Url) -> bool
     url.scheme() == "http" && is_host(served, url) && port_of(url) == served.port
 }
 
-#[tactic(auto, using(crate::proofs::Paths::elsewhere))]
 fn file_at(path: &str) -> Option<FileId>
     ensures { result ≡ file_at path.now }
 {
-    FileId::read(path.strip_prefix("/wopi/files/")?)
+    match path.strip_prefix("/wopi/files/") {
+        Some(file) => FileId::read(file),
+        None => None,
+    }
 }
 
 // The file that the URL names on the served host.

@@ -1,14 +1,14 @@
 //! The query of an address, as it is written.
-ghost use Rattle.std.specs.Prelude.{◌≡◌, ◌==◌, codes, IfOk, Ok, None};
-ghost use Rattle.std.specs.List.{find, slice_split};
+ghost use Rattle.std.specs.Prelude.{◌≡◌, ◌==◌, codes, map, IfOk, Ok, None};
+ghost use Rattle.std.specs.List.{slice_split};
 ghost use Rattle.std.specs.Option.{option_copied, option_map};
-ghost use Rattle.cool_words.specs.Words.{is_named, cut_at, value_of};
-ghost use Rattle.load_address.specs.Addresses.{front_of, query_of, token_word, token_text};
+ghost use Rattle.cool_words.specs.Words.{cut_at};
+ghost use Rattle.load_address.specs.Addresses.{front_of, query_of, token_text};
 ghost use Rattle.load_address.specs.Addresses.{written_token, token_in};
 
 use cool_base::{Memory, Token};
-use cool_words::{is_named, name_and_value};
-use std::alloc::Global;
+use cool_words::first_value;
+use std::alloc::{AllocError, Global};
 
 fn cut_at_fragment(text: &str) -> Option<(&str, &str)>
     ensures { option_map (λ sides. (sides.0.now, sides.1.now)) result ≡ cut_at 35 text.now }
@@ -39,32 +39,35 @@ fn query(text: &str) -> Option<&str>
     Some(query)
 }
 
-fn token_word(query: &str) -> Option<&str>
-    ensures { option_copied result ≡ token_word query.now }
+// The words of a query, cut at each `&`.
+fn query_words<'a>(alloc: Global, query: &'a str) -> Result<Vec<&'a str>, AllocError>
+    ensures { IfOk result
+        (λ words. map (λ word. word.now) words.items ≡ slice_split (λ b. b == 38) query.now) }
 {
-    query
-        .split('&')
-        .find(|word| is_named(word, "access_token"))
+    query.split('&').collect(alloc)
 }
 
-fn token_value(query: &str) -> Option<&str>
-    ensures { option_copied result ≡ token_text query.now }
+fn token_text<'a>(alloc: Global, query: &'a str) -> Result<Option<&'a str>, Memory>
+    ensures { IfOk result (λ text. option_copied text ≡ token_text query.now) }
 {
-    let (_, value) = name_and_value(token_word(query)?)?;
-    Some(value)
+    let words = query_words(alloc, query)?;
+    Ok(first_value(words.as_slice(), "access_token"))
 }
 
-fn written_token(text: &str) -> Option<&str>
-    ensures { option_copied result ≡ written_token text.now }
+fn written_token<'a>(alloc: Global, text: &'a str) -> Result<Option<&'a str>, Memory>
+    ensures { IfOk result (λ found. option_copied found ≡ written_token text.now) }
 {
-    token_value(query(text)?)
+    match query(text) {
+        Some(query) => token_text(alloc, query),
+        None => Ok(None),
+    }
 }
 
 // The token that the text's query gives; None where it gives none.
 pub(crate) fn token_in(alloc: Global, text: &str) -> Result<Option<Token>, Memory>
     ensures { IfOk result (λ token. token ≡ token_in text.now) }
 {
-    match written_token(text) {
+    match written_token(alloc, text)? {
         Some(token) => Token::read(alloc, token),
         None => Ok(None),
     }

@@ -1,6 +1,6 @@
 //! What a link without a document is answered: of what it says, and of a load that is refused.
 //!
-//! - `lobby_act`, `LobbyAct` (`acts`): the frame that answers a message, or the load that it begins.
+//! - `lobby_act`, `LobbyAct` (`acts`): the frame that answers a message, or the load that begins.
 //! - `Refusal`, `fault_refusal`, `enter_refusal`, `post_refusal` (`refusals`): why a load is
 //!   refused, and its frame.
 //! - `laws`: that each message of a lobby is carried out as the poll's plan says.
