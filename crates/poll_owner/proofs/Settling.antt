@@ -1,7 +1,8 @@
 -- What is owed is done, piece by piece.
-use Rattle.std.proofs.Common.{◌≡◌, ℕ, List, [], ◌∷◌, ◌++◌, map, Option, None, Some, Unit, refl, ap}
-use Rattle.std.proofs.Common.{sym, subst, ◌∙◌, append_assoc}
+use Rattle.std.proofs.Common.{◌≡◌, ℕ, ◌+◌, List, [], ◌∷◌, ◌++◌, map, Option, None, Some, refl, ap}
+use Rattle.std.proofs.Common.{sym, subst, ◌∙◌, append_assoc, add_assoc, zero-add}
 use Rattle.std.specs.List.{flat_map}
+use Rattle.std.specs.Option.{IfSome, option_map}
 use Rattle.std.proofs.lemmas.List.Concat.{flat_map-append}
 use Rattle.net_traits.specs.Nets.{NetTold, LinkEvent, Tells, Gives as NetGives, Releases}
 use Rattle.net_traits.specs.declared.nets.Given.TheVariants.{Sent, Failed}
@@ -12,7 +13,7 @@ use Rattle.poll_machine.specs.Project.{HeldMove}
 use Rattle.poll_machine.specs.Runs.{Run}
 use Rattle.poll_machine.specs.Told.{NetStep, net_here, link_named, was_given}
 use Rattle.poll_machine.proofs.Runs.{runs}
-use Rattle.poll_owner.specs.Settling.{Settles, owing, timed}
+use Rattle.poll_owner.specs.Settling.{Settles, owing, timed, ends_here, ended_by}
 
 -- steps at one moment, and then others
 timed_more : {J P L : Type 0} (moment : ℕ) (xs ys : List (Here J P L))
@@ -20,132 +21,149 @@ timed_more : {J P L : Type 0} (moment : ℕ) (xs ys : List (Here J P L))
 timed_more moment [] ys = refl
 timed_more moment (x ∷ xs) ys = ap (λ rest. (moment, x) ∷ rest) (timed_more moment xs ys)
 
+-- the links that ended by some, and by others
+ended_more : {J P L : Type 0} (xs ys : List (Here J P L))
+    → ended_by (xs ++ ys) ≡ ended_by xs + ended_by ys
+ended_more [] ys = sym (zero-add (ended_by ys))
+ended_more (x ∷ xs) ys =
+    ap (λ n. ends_here x + n) (ended_more xs ys)
+    ∙ sym (add_assoc (ends_here x) (ended_by xs) (ended_by ys))
+
 -- nothing was owed, and nothing was done
 pub settles_none : {D J P L : Type 0} (w : Ways D J P) (carries : L → List LinkEvent) (moment : ℕ)
-    (old : HeldDocument D J P L) (was : Option NetTold) (fine : Type 0)
-    → Settles w carries moment old [] was fine old was
-settles_none w carries moment old was fine = record {
+    (old : HeldDocument D J P L) (was : Option NetTold)
+    → Settles w carries moment old [] was (Some 0) old was
+settles_none w carries moment old was = record {
   heres = [];
   last = old;
   left = [];
   run = λ rest. refl;
   net = refl;
-  whole = λ f. (refl, refl);
+  whole = (refl, refl, refl);
 }
 
 -- nothing could be done
 pub settles_cut : {D J P L : Type 0} (w : Ways D J P) (carries : L → List LinkEvent) (moment : ℕ)
-    (old : HeldDocument D J P L) (owed : List (Todo J P)) (was : Option NetTold) (fine : Type 0)
+    (old : HeldDocument D J P L) (owed : List (Todo J P)) (was : Option NetTold)
     (new : HeldDocument D J P L) (now : Option NetTold)
-    → (fine → ⊥) → now ≡ was → Settles w carries moment old owed was fine new now
-settles_cut w carries moment old owed was fine new now none same = record {
+    → now ≡ was → Settles w carries moment old owed was None new now
+settles_cut w carries moment old owed was new now same = record {
   heres = [];
   last = old;
   left = owed;
   run = λ rest. refl;
   net = same;
-  whole = λ f. absurd (none f);
+  whole = tt;
 }
+
+-- where all of it was done, so was all that came before
+whole_more : {A X : Type 0} (left : List A) (last new : X) (before later all : ℕ) (count : Option ℕ)
+    → all ≡ before + later → IfSome count (λ n. (left ≡ []) × (last ≡ new) × (later ≡ n))
+    → IfSome (option_map (λ n. before + n) count) (λ n. (left ≡ []) × (last ≡ new) × (all ≡ n))
+whole_more left last new before later all None sum whole = tt
+whole_more left last new before later all (Some n) sum (none, same, counted) =
+    (none, same, sum ∙ ap (λ m. before + m) counted)
 
 -- what was owed first was done, and then what was owed behind it
 pub settles_more : {D J P L : Type 0} (w : Ways D J P) (carries : L → List LinkEvent) (moment : ℕ)
-    (old : HeldDocument D J P L) (xs ys : List (Todo J P)) (was : Option NetTold)
-    (mid : HeldDocument D J P L) (then : Option NetTold) (fine : Type 0)
+    (old : HeldDocument D J P L) (xs ys : List (Todo J P)) (was : Option NetTold) (before : ℕ)
+    (mid : HeldDocument D J P L) (between : Option NetTold) (count : Option ℕ)
     (new : HeldDocument D J P L) (now : Option NetTold)
-    → Settles w carries moment old xs was (Unit {0}) mid then
-    → Settles w carries moment mid ys then fine new now
-    → Settles w carries moment old (xs ++ ys) was fine new now
-settles_more {D} {J} {P} {L} w carries moment old xs ys was mid then fine new now a b = record {
-  heres = a.heres ++ b.heres;
-  last = b.last;
-  left = b.left;
-  run = λ rest.
-      let first : Run (HeldMove w) (owing old (xs ++ (ys ++ rest))) (timed moment a.heres)
-      (owing mid (ys ++ rest)) =
-      subst
-      (λ (h : HeldDocument D J P L). Run (HeldMove w) (owing old (xs ++ (ys ++ rest)))
-      (timed moment a.heres) (owing h (ys ++ rest)))
-      (a.whole tt).1
-      (subst
-      (λ (left : List (Todo J P)). Run (HeldMove w) (owing old (xs ++ (ys ++ rest)))
-      (timed moment a.heres) (owing a.last (left ++ (ys ++ rest))))
-      (a.whole tt).0 (a.run (ys ++ rest)))
-      in
-      rw (append_assoc xs ys rest, timed_more moment a.heres b.heres)
-      (runs (HeldMove w) (owing old (xs ++ (ys ++ rest))) (timed moment a.heres)
-      (timed moment b.heres) (owing mid (ys ++ rest)) (owing b.last (b.left ++ rest)) first
-      (b.run rest));
-  net = rw (flat_map-append net_here a.heres b.heres)
-      (runs (NetStep carries) was (flat_map net_here a.heres) (flat_map net_here b.heres) then now
-      a.net b.net);
-  whole = b.whole;
-}
+    → Settles w carries moment old xs was (Some before) mid between
+    → Settles w carries moment mid ys between count new now
+    → Settles w carries moment old (xs ++ ys) was (option_map (λ n. before + n) count) new now
+settles_more {D} {J} {P} {L} w carries moment old xs ys was before mid between count new now a b =
+    record {
+      heres = a.heres ++ b.heres;
+      last = b.last;
+      left = b.left;
+      run = λ rest.
+          let first : Run (HeldMove w) (owing old (xs ++ (ys ++ rest))) (timed moment a.heres)
+          (owing mid (ys ++ rest)) =
+          subst
+          (λ (h : HeldDocument D J P L). Run (HeldMove w) (owing old (xs ++ (ys ++ rest)))
+          (timed moment a.heres) (owing h (ys ++ rest)))
+          a.whole.1
+          (subst
+          (λ (left : List (Todo J P)). Run (HeldMove w) (owing old (xs ++ (ys ++ rest)))
+          (timed moment a.heres) (owing a.last (left ++ (ys ++ rest))))
+          a.whole.0 (a.run (ys ++ rest)))
+          in
+          rw (append_assoc xs ys rest, timed_more moment a.heres b.heres)
+          (runs (HeldMove w) (owing old (xs ++ (ys ++ rest))) (timed moment a.heres)
+          (timed moment b.heres) (owing mid (ys ++ rest)) (owing b.last (b.left ++ rest)) first
+          (b.run rest));
+      net = rw (flat_map-append net_here a.heres b.heres)
+          (runs (NetStep carries) was (flat_map net_here a.heres) (flat_map net_here b.heres) between
+          now a.net b.net);
+      whole = whole_more b.left b.last new before (ended_by b.heres) (ended_by (a.heres ++ b.heres))
+          count
+          (ended_more a.heres b.heres ∙ ap (λ n. n + ended_by b.heres) a.whole.2) b.whole;
+    }
 
--- a call that was fine did all of it
-pub settles_whole : {D J P L : Type 0} (w : Ways D J P) (carries : L → List LinkEvent) (moment : ℕ)
-    (old : HeldDocument D J P L) (owed : List (Todo J P)) (was : Option NetTold) (fine : Type 0)
+-- what was cut off is a part of all that was owed
+pub settles_part : {D J P L : Type 0} (w : Ways D J P) (carries : L → List LinkEvent) (moment : ℕ)
+    (old : HeldDocument D J P L) (xs ys : List (Todo J P)) (was : Option NetTold)
     (new : HeldDocument D J P L) (now : Option NetTold)
-    → fine → Settles w carries moment old owed was fine new now
-    → Settles w carries moment old owed was (Unit {0}) new now
-settles_whole w carries moment old owed was fine new now is a = record {
+    → Settles w carries moment old xs was None new now
+    → Settles w carries moment old (xs ++ ys) was None new now
+settles_part w carries moment old xs ys was new now a = record {
   heres = a.heres;
   last = a.last;
-  left = a.left;
-  run = a.run;
+  left = a.left ++ ys;
+  run = λ rest. rw (append_assoc xs ys rest, append_assoc a.left ys rest) (a.run (ys ++ rest));
   net = a.net;
-  whole = λ f. a.whole is;
+  whole = tt;
 }
 
 -- a frame whose view has no link is skipped
 pub settles_skipped : {D J P L : Type 0} (w : Ways D J P) (carries : L → List LinkEvent)
     (moment : ℕ) (old : HeldDocument D J P L) (view : ℕ) (frame : List ℕ) (was : Option NetTold)
-    (fine : Type 0)
-    → link_of old.views view ≡ None → old.todo ≡ []
-    → Settles w carries moment old (Give view frame ∷ []) was fine old was
-settles_skipped w carries moment old view frame was fine gone free = record {
+    → None ≡ link_of old.views view
+    → Settles w carries moment old (Give view frame ∷ []) was (Some 0) old was
+settles_skipped w carries moment old view frame was gone = record {
   heres = Skips view frame ∷ [];
   last = old;
   left = [];
-  run = λ rest. (owing old rest, (rest, refl, gone, refl), refl);
+  run = λ rest. (owing old rest, (rest, refl, sym gone, refl), refl);
   net = refl;
-  whole = λ f. (refl, refl);
+  whole = (refl, refl, refl);
 }
 
 -- a frame is given
 pub settles_sent : {D J P L : Type 0} (w : Ways D J P) (carries : L → List LinkEvent)
     (moment : ℕ) (old : HeldDocument D J P L) (view link : ℕ) (frame : List ℕ)
-    (was : Option NetTold) (fine : Type 0) (now : Option NetTold)
+    (was now : Option NetTold)
     → link_of old.views view ≡ Some link
     → Tells (λ (a b : NetTold). NetGives a (link_named link) frame Sent b) was now
-    → Settles w carries moment old (Give view frame ∷ []) was fine old now
-settles_sent w carries moment old view link frame was fine now seat told = record {
+    → Settles w carries moment old (Give view frame ∷ []) was (Some 0) old now
+settles_sent w carries moment old view link frame was now linked told = record {
   heres = Gives view link frame Sent ∷ [];
   last = old;
   left = [];
-  run = λ rest. (owing old rest, (rest, refl, seat, refl), refl);
+  run = λ rest. (owing old rest, (rest, refl, linked, refl), refl);
   net = (now, told, refl);
-  whole = λ f. (refl, refl);
+  whole = (refl, refl, refl);
 }
 
 -- a give failed: the view left, and its link was released
 pub settles_failed : {D J P L : Type 0} (w : Ways D J P) (carries : L → List LinkEvent)
     (moment : ℕ) (old : HeldDocument D J P L) (view link : ℕ) (frame : List ℕ) (gave : Option L)
-    (was mid : Option NetTold) (fine : Type 0) (doc : D) (new : HeldDocument D J P L)
-    (now : Option NetTold)
+    (was mid : Option NetTold) (doc : D) (new : HeldDocument D J P L) (now : Option NetTold)
     → link_of old.views view ≡ Some link
     → Tells (λ (a b : NetTold). NetGives a (link_named link) frame Failed b) was mid
     → w.Steps old.doc (Left view) nothing doc
     → new ≡ record old { doc = doc; views = without_view old.views view }
     → Tells (λ (a b : NetTold). Releases a (link_named link) (was_given gave) b) mid now
-    → Settles w carries moment old (Give view frame ∷ []) was fine new now
-settles_failed w carries moment old view link frame gave was mid fine doc new now seat told step is
+    → Settles w carries moment old (Give view frame ∷ []) was (Some 1) new now
+settles_failed w carries moment old view link frame gave was mid doc new now linked told step is
     freed = record {
       heres = Gives view link frame Failed ∷ Leaves view ∷ Frees link gave ∷ [];
       last = record old { doc = doc; views = without_view old.views view };
       left = [];
       run = λ rest. (
         owing old (Leave view ∷ LetGo link ∷ rest),
-        (rest, refl, seat, refl),
+        (rest, refl, linked, refl),
         (
           owing (record old { doc = doc; views = without_view old.views view }) (LetGo link ∷ rest),
           (LetGo link ∷ rest, doc, refl, step, refl),
@@ -157,5 +175,5 @@ settles_failed w carries moment old view link frame gave was mid fine doc new no
         ),
       );
       net = (mid, told, (now, freed, refl));
-      whole = λ f. (refl, sym is);
+      whole = (refl, sym is, refl);
     }

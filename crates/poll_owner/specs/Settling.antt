@@ -1,12 +1,16 @@
 -- What is owed to a document is done, by calls on the net.
-use Rattle.std.specs.Prelude.{◌≡◌, ℕ, List, [], ◌++◌, map, Option}
+use Rattle.std.specs.Prelude.{◌≡◌, ℕ, ◌+◌, List, [], ◌∷◌, ◌++◌, map, Option, None, Some, Result, Ok}
+use Rattle.std.specs.Prelude.{Err}
+use Rattle.std.specs.Option.{IfSome}
 use Rattle.std.specs.List.{flat_map}
 use Rattle.cool_base.specs.declared.ids.ViewId.{ViewId}
+use Rattle.cool_base.specs.declared.want.Memory.{Memory}
 use Rattle.cool_frame.specs.Frames.{frame_bytes}
 use Rattle.cool_frame.specs.declared.frame.Frame.{Frame}
 use Rattle.net_traits.specs.Nets.{NetTold, LinkEvent}
+use Rattle.net_traits.specs.declared.nets.Given.TheVariants.{Failed}
 use Rattle.poll_machine.specs.Words.{Ways}
-use Rattle.poll_machine.specs.Agenda.{HeldDocument, Todo, Give, Here}
+use Rattle.poll_machine.specs.Agenda.{HeldDocument, Todo, Give, Here, Gives}
 use Rattle.poll_machine.specs.Project.{HeldMove}
 use Rattle.poll_machine.specs.Runs.{Run}
 use Rattle.poll_machine.specs.Told.{NetStep, net_here}
@@ -24,15 +28,30 @@ timed moment heres = map (λ here. (moment, here)) heres
 abbrev pub give_of : {J P : Type 0} → ViewId × Frame → Todo J P
 give_of given = Give given.0.0 (frame_bytes given.1)
 
+-- how many links ended by what happened: those whose give failed
+abbrev pub ends_here : {J P L : Type 0} → Here J P L → ℕ
+ends_here (Gives view link frame Failed) = 1
+ends_here _ = 0
+
+abbrev pub ended_by : {J P L : Type 0} → List (Here J P L) → ℕ
+ended_by [] = 0
+ended_by (here ∷ heres) = ends_here here + ended_by heres
+
+-- the count that a call gives, where it was not out of memory
+abbrev pub count_in : Result ℕ Memory → Option ℕ
+count_in (Ok count) = Some count
+count_in (Err memory) = None
+
 -- whatever else is owed behind it: what was owed first was done from the front, by these steps of
--- the document, for exactly which the net was called; where the call was fine all of it was done
+-- the document, for exactly which the net was called; where the call gives a count, all of it was
+-- done, and so many links ended
 pub record Settles {D J P L : Type 0} (w : Ways D J P) (carries : L → List LinkEvent)
     (moment : ℕ) (old : HeldDocument D J P L) (owed : List (Todo J P)) (was : Option NetTold)
-    (fine : Type 0) (new : HeldDocument D J P L) (now : Option NetTold) : Type 0 where
+    (count : Option ℕ) (new : HeldDocument D J P L) (now : Option NetTold) : Type 0 where
   pub heres : List (Here J P L)
   pub last : HeldDocument D J P L
   pub left : List (Todo J P)
   pub run : (rest : List (Todo J P))
       → Run (HeldMove w) (owing old (owed ++ rest)) (timed moment heres) (owing last (left ++ rest))
   pub net : Run (NetStep carries) was (flat_map net_here heres) now
-  pub whole : fine → (left ≡ []) × (last ≡ new)
+  pub whole : IfSome count (λ n. (left ≡ []) × (last ≡ new) × (ended_by heres ≡ n))
