@@ -22,6 +22,20 @@ impl Model for Lobby {
     ghost view = { λ s. s.links.items };
 }
 
+// Whether the link is one of these.
+fn is_one_of(links: &[u64], link: u64) -> bool
+    ensures { result ≡ is_among link links.now }
+{
+    links.iter().any(|other| *other == link)
+}
+
+// Takes the link out.
+fn forget(links: &mut Vec<u64>, link: u64)
+    ensures { links.new.items ≡ without_link link links.old.items }
+{
+    links.retain(|other| *other != link);
+}
+
 impl Lobby {
     /// No link.
     pub fn new(alloc: Global) -> Lobby
@@ -45,14 +59,14 @@ impl Lobby {
     pub fn has(&self, link: LinkId) -> bool
         ensures { result ≡ is_among link.0 self.now }
     {
-        self.links.iter().any(|other| *other == link.0)
+        is_one_of(self.links.as_slice(), link.0)
     }
 
     /// The link is here no more. It takes no memory.
     pub fn remove(&mut self, link: LinkId)
         ensures { self.new ≡ without_link link.0 self.old }
     {
-        self.links.retain(|other| *other != link.0);
+        forget(&mut self.links, link.0);
     }
 
     /// How many links wait here.

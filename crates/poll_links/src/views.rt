@@ -9,7 +9,7 @@ use std::alloc::Global;
 use std::marker::Model;
 
 /// A view and its link.
-#[derive(Clone, Copy, Debug, Drop)]
+#[derive(Clone, Copy, Debug)]
 pub struct ViewLink {
     pub view: ViewId,
     pub link: LinkId,
@@ -40,6 +40,37 @@ impl Model for ViewLinks {
     ghost view = { λ s. s.pairs.items };
 }
 
+// The link of the first pair with the view.
+fn link_in(pairs: &[ViewLink], view: ViewId) -> Option<LinkId>
+    ensures { option_map (λ link. link.0) result ≡ link_of pairs.now view.0 }
+{
+    for pair in pairs {
+        if pair.view.0 == view.0 {
+            return Some(pair.link);
+        }
+    }
+    None
+}
+
+// The view of the first pair with the link.
+fn view_in(pairs: &[ViewLink], link: LinkId) -> Option<ViewId>
+    ensures { option_map (λ view. view.0) result ≡ view_of pairs.now link.0 }
+{
+    for pair in pairs {
+        if pair.link.0 == link.0 {
+            return Some(pair.view);
+        }
+    }
+    None
+}
+
+// Takes the pairs with the view out.
+fn forget(pairs: &mut Vec<ViewLink>, view: ViewId)
+    ensures { pairs.new.items ≡ without_view pairs.old.items view.0 }
+{
+    pairs.retain(|pair| pair.view.0 != view.0);
+}
+
 impl ViewLinks {
     /// No view.
     pub fn new(alloc: Global) -> ViewLinks
@@ -64,31 +95,21 @@ impl ViewLinks {
     pub fn link_of(&self, view: ViewId) -> Option<LinkId>
         ensures { option_map (λ link. link.0) result ≡ link_of self.now view.0 }
     {
-        for pair in &self.pairs {
-            if pair.view.0 == view.0 {
-                return Some(pair.link);
-            }
-        }
-        None
+        link_in(self.pairs.as_slice(), view)
     }
 
     /// The view of the link; None where the link is no view.
     pub fn view_of(&self, link: LinkId) -> Option<ViewId>
         ensures { option_map (λ view. view.0) result ≡ view_of self.now link.0 }
     {
-        for pair in &self.pairs {
-            if pair.link.0 == link.0 {
-                return Some(pair.view);
-            }
-        }
-        None
+        view_in(self.pairs.as_slice(), link)
     }
 
     /// The view is gone, with its link. It takes no memory.
     pub fn remove(&mut self, view: ViewId)
         ensures { self.new ≡ without_view self.old view.0 }
     {
-        self.pairs.retain(|pair| pair.view.0 != view.0);
+        forget(&mut self.pairs, view);
     }
 
     /// How many views there are.
@@ -102,6 +123,6 @@ impl ViewLinks {
     pub fn first(&self) -> Option<ViewLink>
         ensures { result ≡ slice_get self.now 0 }
     {
-        self.pairs.first().copied()
+        self.pairs.get(0).copied()
     }
 }

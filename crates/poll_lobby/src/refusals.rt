@@ -13,7 +13,7 @@ use std::alloc::Global;
 use std::marker::Model;
 
 /// Why a load is refused: the kind of its error frame, and the store's code where it has one.
-#[derive(Clone, Copy, Debug, Drop)]
+#[derive(Clone, Copy, Debug)]
 pub struct Refusal {
     kind: ErrorKind,
     code: Option<u16>,
