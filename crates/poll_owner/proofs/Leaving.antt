@@ -1,7 +1,7 @@
 -- A view that a broker hasn't leaves it as it is.
 use Rattle.std.proofs.Common.{◌≡◌, ℕ, Bool, true, false, ◌&&◌, cond, List, [], ◌∷◌, Option, None}
 use Rattle.std.proofs.Common.{Some, nat_eq, refl, ap, ◌∙◌, sym}
-use Rattle.std.specs.Option.{is_some}
+use Rattle.std.specs.Option.{is_some, option_map_or}
 use Rattle.kit_trait.specs.Rules.{Rules}
 use Rattle.tile_key.specs.Places.{Place}
 use Rattle.document_machine.specs.Event.{Left}
@@ -44,3 +44,25 @@ leaves_alone rules cut held id none = (
   ),
   refl,
 )
+
+-- the same of a broker that may be spent, and isn't
+pub gone_stays : {C B S : Type 0} (rules : Rules C B) (cut : C → Place → S)
+    (broker : Option (Held S)) (id : ℕ) → is_some broker ≡ true
+    → option_map_or (λ held. is_live held.document.views id) broker false ≡ false
+    → Goes rules cut broker (Left id) nothing broker
+gone_stays rules cut None id some none = cc
+gone_stays rules cut (Some held) id some none = leaves_alone rules cut held id none
+
+-- a step leads to a broker that isn't spent
+pub goes_alive : {C B S : Type 0} (rules : Rules C B) (cut : C → Place → S)
+    (old : Option (Held S)) (id : ℕ) (new : Option (Held S))
+    → Goes rules cut old (Left id) nothing new → is_some new ≡ true
+goes_alive rules cut (Some old) id (Some new) step = refl
+goes_alive rules cut (Some old) id None step = absurd step
+goes_alive rules cut None id new step = absurd step
+
+-- what holds of a broker's document, where it has one
+pub of_some : {S : Type 0} (Q : Type 0) (broker : Option (Held S))
+    → is_some broker ≡ true → ((held : Held S) → broker ≡ Some held → Q) → Q
+of_some Q None some all = cc
+of_some Q (Some held) some all = all held refl

@@ -10,11 +10,24 @@ ghost use Rattle.poll_instance.specs.Instance.{ways};
 ghost use Rattle.poll_owner.specs.Settling.{Settles, give_of, count_in};
 
 use crate::owned::OwnedDocument;
+use broker_core::Broker;
 use cool_base::{LinkId, Memory, ViewId};
 use cool_frame::{Frame, write_frame};
 use kit_trait::Kit;
 use net_traits::{Given, Net};
 use std::alloc::Global;
+
+// The view leaves its broker, where it is there. It takes no memory.
+fn leave<K: Kit>(broker: &mut Broker<K>, view: ViewId)
+    requires { IsSome broker.old }
+    ensures step { Goes K.rules K.cut broker.old (Left view.0) nothing broker.new }
+    ensures alive { IsSome broker.new }
+{
+    if !broker.is_live(view) {
+        return;
+    }
+    broker.leave(view);
+}
 
 impl<K: Kit, N: Net> OwnedDocument<K, N> {
     /// The view leaves, where it is there, and is among the views with links no more. It takes no
@@ -28,9 +41,7 @@ impl<K: Kit, N: Net> OwnedDocument<K, N> {
         } }
         ensures alive { IsSome self.new.doc }
     {
-        if self.broker.is_live(view) {
-            self.broker.leave(view);
-        }
+        leave(&mut self.broker, view);
         self.links.remove(view);
     }
 
