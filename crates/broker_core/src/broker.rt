@@ -12,7 +12,7 @@ ghost use Rattle.broker_core.specs.Held.{IsFull};
 use crate::faults::JoinFault;
 use bytes::Bytes;
 use cool_base::{FileId, Memory, ViewId};
-use document_machine::{Outs, Rights};
+use document_machine::{MOST_VIEWS, Outs, Rights};
 use kit_trait::{Kit, LoadFault};
 use std::alloc::Global;
 use std::marker::Model;
@@ -64,6 +64,7 @@ impl<K: Kit> Broker<K> {
         ensures unchanged { result ≡ Err JoinFault.ViewsFull → self.new ≡ self.old }
         ensures spent { result ≡ Err JoinFault.Memory → self.new ≡ None }
     {
+        let _kit = &self.kit;
         Err(JoinFault::Memory)
     }
 
@@ -74,7 +75,9 @@ impl<K: Kit> Broker<K> {
         requires { ForSome self.old (λ held. IsSome (find_view held.document.views view.0)) }
         ensures step { ForSome self.old (λ held. Goes K.rules K.cut self.old (Left view.0) nothing self.new) }
         ensures spent { self.old ≡ None → self.new ≡ None }
-    {}
+    {
+        let _kit = &self.kit;
+    }
 
     /// The view says a text, of any bytes: its one effect, and the frame of a greeting or of a refusal.
     /// After `Memory` the broker is spent.
@@ -83,6 +86,7 @@ impl<K: Kit> Broker<K> {
         ensures step { IfOk result (λ outs. Goes K.rules K.cut self.old (Said view.0 text.now) outs self.new) }
         ensures spent { OnErr result (self.new ≡ None) }
     {
+        let _kit = &self.kit;
         Err(Memory)
     }
 
@@ -90,6 +94,7 @@ impl<K: Kit> Broker<K> {
     pub fn is_live(&self, view: ViewId) -> bool
         ensures { result ≡ option_map_or (λ held. is_live held.document.views view.0) self.now false }
     {
+        let _kit = &self.kit;
         false
     }
 
@@ -97,6 +102,7 @@ impl<K: Kit> Broker<K> {
     pub fn applied(&self) -> u64
         ensures { result ≡ option_map_or (λ held. held.document.applied) self.now 0 }
     {
+        let _kit = &self.kit;
         0
     }
 
@@ -104,6 +110,7 @@ impl<K: Kit> Broker<K> {
     pub fn accepted(&self) -> u64
         ensures { result ≡ option_map_or (λ held. length held.document.journal) self.now 0 }
     {
+        let _kit = &self.kit;
         0
     }
 }

@@ -24,6 +24,7 @@ impl<K: Kit> Broker<K> {
         ensures step { IfOk result (λ outs. Goes K.rules K.cut self.old (PutAnswered ticket.0 answer.now) outs self.new) }
         ensures spent { OnErr result (self.new ≡ None) }
     {
+        let _kit = &self.kit;
         Err(Memory)
     }
 
@@ -32,6 +33,7 @@ impl<K: Kit> Broker<K> {
     pub fn is_done(&self) -> bool
         ensures { result ≡ option_map_or (λ held. is_done held.document) self.now false }
     {
+        let _kit = &self.kit;
         false
     }
 
@@ -40,6 +42,7 @@ impl<K: Kit> Broker<K> {
     pub fn is_lost(&self) -> bool
         ensures { result ≡ option_map_or (λ held. is_lost held.document) self.now false }
     {
+        let _kit = &self.kit;
         false
     }
 
@@ -47,6 +50,7 @@ impl<K: Kit> Broker<K> {
     pub fn has_unstored(&self) -> bool
         ensures { result ≡ option_map_or (λ held. has_unstored held.document) self.now false }
     {
+        let _kit = &self.kit;
         false
     }
 
@@ -55,6 +59,7 @@ impl<K: Kit> Broker<K> {
     pub fn last_token(&self) -> Option<&Token>
         ensures { option_copied result ≡ option_and_then (λ held. held.document.saving.last_token) self.now }
     {
+        let _kit = &self.kit;
         None
     }
 }

@@ -25,6 +25,7 @@ impl<K: Kit> Broker<K> {
         ensures lower { IfOk result (λ turned. Lowers K.rules self.old turned self.new) }
         ensures spent { OnErr result (self.new ≡ None) }
     {
+        let _kit = &self.kit;
         Err(Memory)
     }
 
@@ -36,15 +37,17 @@ impl<K: Kit> Broker<K> {
         ensures step { IfOk result (λ outs. Goes K.rules K.cut self.old (Painted done.now.ticket.0 done.now.scene) outs self.new) }
         ensures spent { OnErr result (self.new ≡ None) }
     {
+        let _kit = &self.kit;
         Err(Memory)
     }
 
     /// Whether a turn would be Idle, no job is out, no put is under way and every window is empty; false
     /// where the broker is spent.
     pub fn is_quiet(&self) -> bool
-        ensures quiet { IsTrue result ↔ IsSomeAnd self.now (IsQuiet K.rules) }
-        ensures test { result ≡ option_map_or (is_quiet K.rules) self.now false }
+        ensures quiet { IsTrue result ↔ IsSomeAnd self.now (λ held. IsQuiet K.rules held.document) }
+        ensures test { result ≡ option_map_or (λ held. is_quiet K.rules held.document) self.now false }
     {
+        let _kit = &self.kit;
         false
     }
 
@@ -55,6 +58,7 @@ impl<K: Kit> Broker<K> {
         ensures wids { ForSome self.now (λ held. ForSome (find_view held.document.views view.0) (λ v. map (λ wid. wid.0) result.items ≡ map (λ tile. tile.wid) v.window)) }
         ensures spent { self.now ≡ None → result.items ≡ [] }
     {
+        let _kit = &self.kit;
         Wids::new()
     }
 }
