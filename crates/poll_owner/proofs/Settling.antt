@@ -1,8 +1,10 @@
 -- What is owed is done, piece by piece.
+use Rattle.std.proofs.Common.{true, false}
 use Rattle.std.proofs.Common.{◌≡◌, ℕ, ◌+◌, List, [], ◌∷◌, ◌++◌, map, Option, None, Some, refl, ap}
 use Rattle.std.proofs.Common.{sym, subst, ◌∙◌, append_assoc, add_assoc, zero-add}
 use Rattle.std.specs.List.{flat_map}
-use Rattle.std.specs.Option.{IfSome, option_map}
+use Rattle.std.specs.Option.{IfSome, MatchOption, option_map}
+use Rattle.cool_base.specs.declared.ids.LinkId.{LinkId}
 use Rattle.std.proofs.lemmas.List.Concat.{flat_map-append}
 use Rattle.net_traits.specs.Nets.{NetTold, LinkEvent, Tells, Gives as NetGives, Releases}
 use Rattle.net_traits.specs.declared.nets.Given.TheVariants.{Sent, Failed}
@@ -177,3 +179,11 @@ settles_failed w carries moment old view link frame gave was mid doc new now lin
       net = (mid, told, (now, freed, refl));
       whole = (refl, sym is, refl);
     }
+
+-- a release as it is told, whether it gave the link or not
+pub gave_so : {L : Type 0} (link : LinkId) (gave : Option L) (was now : Option NetTold)
+    → MatchOption gave (Tells (λ (a b : NetTold). Releases a link false b) was now)
+    (λ _. Tells (λ (a b : NetTold). Releases a link true b) was now)
+    → Tells (λ (a b : NetTold). Releases a link (was_given gave) b) was now
+gave_so link None was now told = told
+gave_so link (Some carried) was now told = told
