@@ -2,7 +2,7 @@
 use Rattle.std.proofs.Common.{true, false}
 use Rattle.std.proofs.Common.{◌≡◌, ℕ, ◌+◌, List, [], ◌∷◌, ◌++◌, map, Option, None, Some, refl, ap}
 use Rattle.std.proofs.Common.{sym, subst, ◌∙◌, append_assoc, add_assoc, zero-add}
-use Rattle.std.specs.List.{flat_map}
+use Rattle.std.specs.List.{flat_map, AllByRecursion}
 use Rattle.std.specs.Option.{IfSome, MatchOption, option_map}
 use Rattle.cool_base.specs.declared.ids.LinkId.{LinkId}
 use Rattle.std.proofs.lemmas.List.Concat.{flat_map-append}
@@ -15,7 +15,8 @@ use Rattle.poll_machine.specs.Project.{HeldMove}
 use Rattle.poll_machine.specs.Runs.{Run}
 use Rattle.poll_machine.specs.Told.{NetStep, net_here, link_named, was_given}
 use Rattle.poll_machine.proofs.Runs.{runs}
-use Rattle.poll_owner.specs.Settling.{Settles, owing, timed, ends_here, ended_by}
+use Rattle.poll_machine.specs.House.{At, ends_by}
+use Rattle.poll_owner.specs.Settling.{Settles, owing, timed, ended_by, KeepsLobby}
 
 -- steps at one moment, and then others
 timed_more : {J P L : Type 0} (moment : ℕ) (xs ys : List (Here J P L))
@@ -24,12 +25,20 @@ timed_more moment [] ys = refl
 timed_more moment (x ∷ xs) ys = ap (λ rest. (moment, x) ∷ rest) (timed_more moment xs ys)
 
 -- the links that ended by some, and by others
-ended_more : {J P L : Type 0} (xs ys : List (Here J P L))
-    → ended_by (xs ++ ys) ≡ ended_by xs + ended_by ys
-ended_more [] ys = sym (zero-add (ended_by ys))
-ended_more (x ∷ xs) ys =
-    ap (λ n. ends_here x + n) (ended_more xs ys)
-    ∙ sym (add_assoc (ends_here x) (ended_by xs) (ended_by ys))
+ended_more : {D J P L : Type 0} (xs ys : List (Here J P L))
+    → ended_by {D = D} (xs ++ ys) ≡ ended_by {D = D} xs + ended_by {D = D} ys
+ended_more {D} [] ys = sym (zero-add (ended_by {D = D} ys))
+ended_more {D} (x ∷ xs) ys =
+    ap (λ n. ends_by {D = D} (At x) + n) (ended_more {D = D} xs ys)
+    ∙ sym (add_assoc (ends_by {D = D} (At x)) (ended_by {D = D} xs) (ended_by {D = D} ys))
+
+-- what leaves the lobby, and then more of it
+lobby_more : {D J P L : Type 0} (links : List ℕ) (xs ys : List (Here J P L))
+    → AllByRecursion (KeepsLobby {D = D} links) xs → AllByRecursion (KeepsLobby {D = D} links) ys
+    → AllByRecursion (KeepsLobby {D = D} links) (xs ++ ys)
+lobby_more links [] ys one two = two
+lobby_more {D} links (x ∷ xs) ys (first, one) two =
+    (first, lobby_more {D = D} links xs ys one two)
 
 -- nothing was owed, and nothing was done
 pub settles_none : {D J P L : Type 0} (w : Ways D J P) (carries : L → List LinkEvent) (moment : ℕ)
@@ -41,6 +50,7 @@ settles_none w carries moment old was = record {
   left = [];
   run = λ rest. refl;
   net = refl;
+  lobby = λ links. tt;
   whole = (refl, refl, refl);
 }
 
@@ -55,6 +65,7 @@ settles_cut w carries moment old owed was new now same = record {
   left = owed;
   run = λ rest. refl;
   net = same;
+  lobby = λ links. tt;
   whole = tt;
 }
 
@@ -115,6 +126,7 @@ settles_part w carries moment old xs ys was new now a = record {
   left = a.left ++ ys;
   run = λ rest. rw (append_assoc xs ys rest, append_assoc a.left ys rest) (a.run (ys ++ rest));
   net = a.net;
+  lobby = a.lobby;
   whole = tt;
 }
 
@@ -129,6 +141,7 @@ settles_skipped w carries moment old view frame was gone = record {
   left = [];
   run = λ rest. (owing old rest, (rest, refl, sym gone, refl), refl);
   net = refl;
+  lobby = λ links. ((refl, refl), tt);
   whole = (refl, refl, refl);
 }
 
@@ -145,6 +158,7 @@ settles_sent w carries moment old view link frame was now linked told = record {
   left = [];
   run = λ rest. (owing old rest, (rest, refl, linked, refl), refl);
   net = (now, told, refl);
+  lobby = λ links. ((refl, refl), tt);
   whole = (refl, refl, refl);
 }
 
@@ -177,6 +191,7 @@ settles_failed w carries moment old view link frame gave was mid doc new now lin
         ),
       );
       net = (mid, told, (now, freed, refl));
+      lobby = λ links. ((refl, refl), (refl, refl), (refl, refl), tt);
       whole = (refl, sym is, refl);
     }
 

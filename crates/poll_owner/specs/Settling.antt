@@ -1,16 +1,16 @@
 -- What is owed to a document is done, by calls on the net.
-use Rattle.std.specs.Prelude.{◌≡◌, ℕ, ◌+◌, List, [], ◌∷◌, ◌++◌, map, Option, None, Some, Result, Ok}
-use Rattle.std.specs.Prelude.{Err}
+use Rattle.std.specs.Prelude.{◌≡◌, ℕ, ◌+◌, true, List, [], ◌∷◌, ◌++◌, map, Option, None, Some}
+use Rattle.std.specs.Prelude.{Result, Ok, Err}
 use Rattle.std.specs.Option.{IfSome}
-use Rattle.std.specs.List.{flat_map}
+use Rattle.std.specs.List.{flat_map, AllByRecursion}
 use Rattle.cool_base.specs.declared.ids.ViewId.{ViewId}
 use Rattle.cool_base.specs.declared.want.Memory.{Memory}
 use Rattle.cool_frame.specs.Frames.{frame_bytes}
 use Rattle.cool_frame.specs.declared.frame.Frame.{Frame}
 use Rattle.net_traits.specs.Nets.{NetTold, LinkEvent}
-use Rattle.net_traits.specs.declared.nets.Given.TheVariants.{Failed}
 use Rattle.poll_machine.specs.Words.{Ways}
-use Rattle.poll_machine.specs.Agenda.{HeldDocument, Todo, Give, Here, Gives}
+use Rattle.poll_machine.specs.Agenda.{HeldDocument, Todo, Give, Here}
+use Rattle.poll_machine.specs.House.{At, ends_by, lobby_after, may_join}
 use Rattle.poll_machine.specs.Project.{HeldMove}
 use Rattle.poll_machine.specs.Runs.{Run}
 use Rattle.poll_machine.specs.Told.{NetStep, net_here}
@@ -28,14 +28,15 @@ timed moment heres = map (λ here. (moment, here)) heres
 abbrev pub give_of : {J P : Type 0} → ViewId × Frame → Todo J P
 give_of given = Give given.0.0 (frame_bytes given.1)
 
--- how many links ended by what happened: those whose give failed
-abbrev pub ends_here : {J P L : Type 0} → Here J P L → ℕ
-ends_here (Gives view link frame Failed) = 1
-ends_here _ = 0
-
-abbrev pub ended_by : {J P L : Type 0} → List (Here J P L) → ℕ
+-- how many links ended by what happened to a document
+abbrev pub ended_by : {D J P L : Type 0} → List (Here J P L) → ℕ
 ended_by [] = 0
-ended_by (here ∷ heres) = ends_here here + ended_by heres
+ended_by {D} {J} {P} {L} (here ∷ heres) = ends_by {D = D} (At here) + ended_by {D = D} heres
+
+-- what happened leaves the links of the lobby
+abbrev pub KeepsLobby : {D J P L : Type 0} → List ℕ → Here J P L → Type 0
+KeepsLobby {D} lobby here = (may_join {D = D} (At here) lobby ≡ true)
+    × (lobby_after {D = D} (At here) lobby ≡ lobby)
 
 -- the count that a call gives, where it was not out of memory
 abbrev pub count_in : Result ℕ Memory → Option ℕ
@@ -43,8 +44,8 @@ count_in (Ok count) = Some count
 count_in (Err memory) = None
 
 -- whatever else is owed behind it: what was owed first was done from the front, by these steps of
--- the document, for exactly which the net was called; where the call gives a count, all of it was
--- done, and so many links ended
+-- the document, for exactly which the net was called, and which leave the lobby; where the call
+-- gives a count, all of it was done, and so many links ended
 pub record Settles {D J P L : Type 0} (w : Ways D J P) (carries : L → List LinkEvent)
     (moment : ℕ) (old : HeldDocument D J P L) (owed : List (Todo J P)) (was : Option NetTold)
     (count : Option ℕ) (new : HeldDocument D J P L) (now : Option NetTold) : Type 0 where
@@ -54,4 +55,6 @@ pub record Settles {D J P L : Type 0} (w : Ways D J P) (carries : L → List Lin
   pub run : (rest : List (Todo J P))
       → Run (HeldMove w) (owing old (owed ++ rest)) (timed moment heres) (owing last (left ++ rest))
   pub net : Run (NetStep carries) was (flat_map net_here heres) now
-  pub whole : IfSome count (λ n. (left ≡ []) × (last ≡ new) × (ended_by heres ≡ n))
+  pub lobby : (links : List ℕ) → AllByRecursion (KeepsLobby {D = D} links) heres
+  pub whole : IfSome count
+      (λ n. (left ≡ []) × (last ≡ new) × (ended_by {D = D} heres ≡ n))
