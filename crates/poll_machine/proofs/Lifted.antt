@@ -95,7 +95,7 @@ pub lifted : {D J P L : Type 0} (w : Ways D J P) (house : House D J P L)
     (OfDoc id house.moment (At here))
     (with_held house front id new back (lobby_after {D = D} (At here) lobby)
     (ended + ends_by {D = D} (At here)))
-lifted w house front id old new back lobby ended here rises step may = record {
+lifted {D} {J} {P} {L} w house front id old new back lobby ended here rises step may = record {
   now = refl;
   one = (
     old,
@@ -110,8 +110,8 @@ lifted w house front id old new back lobby ended here rises step may = record {
   rest = ap
       (λ lost. record house {
         docs = front ++ (id, Live new) ∷ back;
-        lobby = lobby_after (At here) lobby;
-        ended = ended + ends_by (At here);
+        lobby = lobby_after {D = D} (At here) lobby;
+        ended = ended + ends_by {D = D} (At here);
         lost = lost;
       })
       (sym
