@@ -20,11 +20,11 @@ pub house_run : {D J P L : Type 0} (w : Ways D J P) (house : House D J P L)
     (front : List (ℕ × Slot D J P L)) (id : ℕ) (old new : HeldDocument D J P L)
     (back : List (ℕ × Slot D J P L)) (lobby : List ℕ) (ended : ℕ) (heres : List (Here J P L))
     → Rises (front ++ (id, Live old) ∷ back)
-    → AllByRecursion (KeepsLobby {D = D} lobby) heres
+    → AllByRecursion (KeepsLobby D lobby) heres
     → Run (HeldMove w) old (timed house.moment heres) new
     → Run (HouseStep w) (with_held house front id old back lobby ended)
     (at_house id house.moment heres)
-    (with_held house front id new back lobby (ended + ended_by {D = D} heres))
+    (with_held house front id new back lobby (ended + ended_by D heres))
 house_run w house front id old new back lobby ended [] rises keeps is =
     ap (λ n. with_held house front id new back lobby n) (add-zero ended)
     ∙ ap (λ held. with_held house front id held back lobby ended) is
@@ -44,7 +44,7 @@ house_run {D} {J} {P} {L} w house front id old new back lobby ended (here ∷ he
     (with_held house front id mid back lobby (ended + ends_by {D = D} (At here)))
     (at_house id house.moment heres)
     (with_held house front id new back lobby
-    (ended + ends_by {D = D} (At here) + ended_by {D = D} heres)) =
+    (ended + ends_by {D = D} (At here) + ended_by D heres)) =
     house_run w house front id mid new back lobby (ended + ends_by {D = D} (At here)) heres
     (still_rises front id (Live old) (Live mid) back rises) keeps run
     in (
@@ -54,5 +54,5 @@ house_run {D} {J} {P} {L} w house front id old new back lobby ended (here ∷ he
           (λ (n : ℕ). Run (HouseStep w)
           (with_held house front id mid back lobby (ended + ends_by {D = D} (At here)))
           (at_house id house.moment heres) (with_held house front id new back lobby n))
-          (add_assoc ended (ends_by {D = D} (At here)) (ended_by {D = D} heres)) later,
+          (add_assoc ended (ends_by {D = D} (At here)) (ended_by D heres)) later,
     )

@@ -1,6 +1,6 @@
 -- A view that a broker hasn't leaves it as it is.
 use Rattle.std.proofs.Common.{◌≡◌, ℕ, Bool, true, false, ◌&&◌, cond, List, [], ◌∷◌, Option, None}
-use Rattle.std.proofs.Common.{Some, nat_eq, refl, ap, ◌∙◌, sym}
+use Rattle.std.proofs.Common.{Some, nat_eq, refl, ap, ◌∙◌, sym, true≢false}
 use Rattle.std.specs.Option.{is_some, option_map_or}
 use Rattle.kit_trait.specs.Rules.{Rules}
 use Rattle.tile_key.specs.Places.{Place}
@@ -14,13 +14,14 @@ use Rattle.document_machine.specs.State.{Document, View, find_view, is_live, wit
 -- the views without one that isn't there
 nobody_goes : (views : List View) (id : ℕ) → is_live views id ≡ false → without_view views id ≡ views
 nobody_goes [] id none = refl
-nobody_goes (view ∷ views) id none = by_test (nat_eq view.id id) refl none
+nobody_goes (view ∷ views) id none =
+    by_test (nat_eq view.id id) none (λ later. nobody_goes views id later)
   where
-    by_test : (test : Bool) → nat_eq view.id id ≡ test
-        → is_some (cond test (Some view) (find_view views id)) ≡ false
+    by_test : (test : Bool) → is_some (cond test (Some view) (find_view views id)) ≡ false
+        → (is_live views id ≡ false → without_view views id ≡ views)
         → cond test views (view ∷ without_view views id) ≡ view ∷ views
-    by_test true is none = cc
-    by_test false is none = ap (λ rest. view ∷ rest) (nobody_goes views id none)
+    by_test true there later = absurd (true≢false there)
+    by_test false none later = ap (λ rest. view ∷ rest) (later none)
 
 -- its saves are as they were
 saves_stay : {S : Type 0} (d : Document S) (id : ℕ) → is_live d.views id ≡ false

@@ -25,20 +25,20 @@ timed_more moment [] ys = refl
 timed_more moment (x ∷ xs) ys = ap (λ rest. (moment, x) ∷ rest) (timed_more moment xs ys)
 
 -- the links that ended by some, and by others
-ended_more : {D J P L : Type 0} (xs ys : List (Here J P L))
-    → ended_by {D = D} (xs ++ ys) ≡ ended_by {D = D} xs + ended_by {D = D} ys
-ended_more {D} [] ys = sym (zero-add (ended_by {D = D} ys))
-ended_more {D} (x ∷ xs) ys =
-    ap (λ n. ends_by {D = D} (At x) + n) (ended_more {D = D} xs ys)
-    ∙ sym (add_assoc (ends_by {D = D} (At x)) (ended_by {D = D} xs) (ended_by {D = D} ys))
+ended_more : (D : Type 0) {J P L : Type 0} (xs ys : List (Here J P L))
+    → ended_by D (xs ++ ys) ≡ ended_by D xs + ended_by D ys
+ended_more D [] ys = sym (zero-add (ended_by D ys))
+ended_more D (x ∷ xs) ys =
+    ap (λ n. ends_by {D = D} (At x) + n) (ended_more D xs ys)
+    ∙ sym (add_assoc (ends_by {D = D} (At x)) (ended_by D xs) (ended_by D ys))
 
 -- what leaves the lobby, and then more of it
-lobby_more : {D J P L : Type 0} (links : List ℕ) (xs ys : List (Here J P L))
-    → AllByRecursion (KeepsLobby {D = D} links) xs → AllByRecursion (KeepsLobby {D = D} links) ys
-    → AllByRecursion (KeepsLobby {D = D} links) (xs ++ ys)
-lobby_more links [] ys one two = two
-lobby_more {D} links (x ∷ xs) ys (first, one) two =
-    (first, lobby_more {D = D} links xs ys one two)
+lobby_more : (D : Type 0) {J P L : Type 0} (links : List ℕ) (xs ys : List (Here J P L))
+    → AllByRecursion (KeepsLobby D links) xs → AllByRecursion (KeepsLobby D links) ys
+    → AllByRecursion (KeepsLobby D links) (xs ++ ys)
+lobby_more D links [] ys one two = two
+lobby_more D links (x ∷ xs) ys (first, one) two =
+    (first, lobby_more D links xs ys one two)
 
 -- nothing was owed, and nothing was done
 pub settles_none : {D J P L : Type 0} (w : Ways D J P) (carries : L → List LinkEvent) (moment : ℕ)
@@ -57,16 +57,16 @@ settles_none w carries moment old was = record {
 -- nothing could be done
 pub settles_cut : {D J P L : Type 0} (w : Ways D J P) (carries : L → List LinkEvent) (moment : ℕ)
     (old : HeldDocument D J P L) (owed : List (Todo J P)) (was : Option NetTold)
-    (new : HeldDocument D J P L) (now : Option NetTold)
-    → now ≡ was → Settles w carries moment old owed was None new now
-settles_cut w carries moment old owed was new now same = record {
+    (count : Option ℕ) (new : HeldDocument D J P L) (now : Option NetTold)
+    → count ≡ None → now ≡ was → Settles w carries moment old owed was count new now
+settles_cut w carries moment old owed was count new now none same = record {
   heres = [];
   last = old;
   left = owed;
   run = λ rest. refl;
   net = same;
   lobby = λ links. tt;
-  whole = tt;
+  whole = rw none tt;
 }
 
 -- where all of it was done, so was all that came before
@@ -109,9 +109,10 @@ settles_more {D} {J} {P} {L} w carries moment old xs ys was before mid between c
       net = rw (flat_map-append net_here a.heres b.heres)
           (runs (NetStep carries) was (flat_map net_here a.heres) (flat_map net_here b.heres) between
           now a.net b.net);
-      whole = whole_more b.left b.last new before (ended_by b.heres) (ended_by (a.heres ++ b.heres))
-          count
-          (ended_more a.heres b.heres ∙ ap (λ n. n + ended_by b.heres) a.whole.2) b.whole;
+      lobby = λ links. lobby_more D links a.heres b.heres (a.lobby links) (b.lobby links);
+      whole = whole_more b.left b.last new before (ended_by D b.heres)
+          (ended_by D (a.heres ++ b.heres)) count
+          (ended_more D a.heres b.heres ∙ ap (λ n. n + ended_by D b.heres) a.whole.2) b.whole;
     }
 
 -- what was cut off is a part of all that was owed
@@ -191,7 +192,7 @@ settles_failed w carries moment old view link frame gave was mid doc new now lin
         ),
       );
       net = (mid, told, (now, freed, refl));
-      lobby = λ links. ((refl, refl), (refl, refl), (refl, refl), tt);
+      lobby = λ links. ((refl, refl), ((refl, refl), ((refl, refl), tt)));
       whole = (refl, sym is, refl);
     }
 

@@ -29,13 +29,13 @@ abbrev pub give_of : {J P : Type 0} → ViewId × Frame → Todo J P
 give_of given = Give given.0.0 (frame_bytes given.1)
 
 -- how many links ended by what happened to a document
-abbrev pub ended_by : {D J P L : Type 0} → List (Here J P L) → ℕ
-ended_by [] = 0
-ended_by {D} {J} {P} {L} (here ∷ heres) = ends_by {D = D} (At here) + ended_by {D = D} heres
+abbrev pub ended_by : (D : Type 0) {J P L : Type 0} → List (Here J P L) → ℕ
+ended_by D [] = 0
+ended_by D (here ∷ heres) = ends_by {D = D} (At here) + ended_by D heres
 
 -- what happened leaves the links of the lobby
-abbrev pub KeepsLobby : {D J P L : Type 0} → List ℕ → Here J P L → Type 0
-KeepsLobby {D} lobby here = (may_join {D = D} (At here) lobby ≡ true)
+abbrev pub KeepsLobby : (D : Type 0) {J P L : Type 0} → List ℕ → Here J P L → Type 0
+KeepsLobby D lobby here = (may_join {D = D} (At here) lobby ≡ true)
     × (lobby_after {D = D} (At here) lobby ≡ lobby)
 
 -- the count that a call gives, where it was not out of memory
@@ -55,6 +55,6 @@ pub record Settles {D J P L : Type 0} (w : Ways D J P) (carries : L → List Lin
   pub run : (rest : List (Todo J P))
       → Run (HeldMove w) (owing old (owed ++ rest)) (timed moment heres) (owing last (left ++ rest))
   pub net : Run (NetStep carries) was (flat_map net_here heres) now
-  pub lobby : (links : List ℕ) → AllByRecursion (KeepsLobby {D = D} links) heres
+  pub lobby : (links : List ℕ) → AllByRecursion (KeepsLobby D links) heres
   pub whole : IfSome count
-      (λ n. (left ≡ []) × (last ≡ new) × (ended_by {D = D} heres ≡ n))
+      (λ n. (left ≡ []) × (last ≡ new) × (ended_by D heres ≡ n))

@@ -92,11 +92,13 @@ impl<K: Kit, N: Net> OwnedDocument<K, N> {
         ensures alive { IsSome self.new.doc }
         ensures takes { N.take_faults net.new ≡ N.take_faults net.old }
     {
-        let Some(link) = self.link_of(view) else {
-            return Ok(0);
-        };
-        let bytes = write_frame(alloc, frame)?;
-        self.give_bytes(alloc, net, view, link, bytes.as_slice())
+        match self.link_of(view) {
+            Some(link) => {
+                let bytes = write_frame(alloc, frame)?;
+                self.give_bytes(alloc, net, view, link, bytes.as_slice())
+            }
+            None => Ok(0),
+        }
     }
 
     /// Gives frames to the links of their views, in order. How many links ended.

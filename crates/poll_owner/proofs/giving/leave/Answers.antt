@@ -1,10 +1,12 @@
+use Rattle.std.proofs.Common.{◌≡◌, ◌∙◌, false, sym, rules}
 use Rattle.poll_owner.proofs.Leaving.{gone_stays, goes_alive, of_some}
 use Rattle.poll_owner.proofs.giving.leave.Goals as goal
 
-pub returns-then-is_live-clause-step : goal.returns-then-is_live-clause-step
-returns-then-is_live-clause-step g c =
+pub returns-then-not-is_live-clause-step : goal.returns-then-not-is_live-clause-step
+returns-then-not-is_live-clause-step g c =
+    let gone : c.is_live.result ≡ false = search rules in
     gone_stays g.K.Kit.rules g.K.Kit.cut c.args.broker.now c.args.view.0 c.requires
-    c.is_live.ensures
+    (sym c.is_live.ensures ∙ gone)
 
 pub returns-clause-step : goal.returns-clause-step
 returns-clause-step g c = of_some _ c.args.broker.now c.requires c.leave.ensures.step

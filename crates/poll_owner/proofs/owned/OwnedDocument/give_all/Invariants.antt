@@ -2,7 +2,7 @@ use Rattle.std.proofs.Common.{◌≡◌, ◌≤◌, ℕ, Some, take, map, IsSome
 use Rattle.load_address.specs.declared.served.Served.{Served}
 use Rattle.poll_instance.specs.Instance.{ways}
 use Rattle.poll_owner.specs.Settling.{Settles, give_of}
-use Rattle.poll_owner.proofs.giving.OwnedDocument.give_all.Given as goal
+use Rattle.poll_owner.proofs.owned.OwnedDocument.give_all.Given as goal
 
 abbrev pub invariant-loop-given : goal.invariant-loop-given
 invariant-loop-given g l = record {
