@@ -2,7 +2,11 @@
 use Rattle.std.proofs.Common.{true, false}
 use Rattle.std.proofs.Common.{◌≡◌, ℕ, ◌+◌, List, [], ◌∷◌, ◌++◌, map, Option, None, Some, refl, ap}
 use Rattle.std.proofs.Common.{sym, subst, ◌∙◌, append_assoc, add_assoc, zero-add}
+use Rattle.std.proofs.Common.{◌<◌, length, take, drop, get_or, map-append, take-append-drop}
 use Rattle.std.specs.List.{flat_map, AllByRecursion}
+use Rattle.std.proofs.lemmas.List.{map_more}
+use Rattle.cool_base.specs.declared.ids.ViewId.{ViewId}
+use Rattle.cool_frame.specs.declared.frame.Frame.{Frame}
 use Rattle.std.specs.Option.{IfSome, MatchOption, option_map}
 use Rattle.cool_base.specs.declared.ids.LinkId.{LinkId}
 use Rattle.std.proofs.lemmas.List.Concat.{flat_map-append}
@@ -16,7 +20,7 @@ use Rattle.poll_machine.specs.Runs.{Run}
 use Rattle.poll_machine.specs.Told.{NetStep, net_here, link_named, was_given}
 use Rattle.poll_machine.proofs.Runs.{runs}
 use Rattle.poll_machine.specs.House.{At, ends_by}
-use Rattle.poll_owner.specs.Settling.{Settles, owing, timed, ended_by, KeepsLobby}
+use Rattle.poll_owner.specs.Settling.{Settles, owing, timed, give_of, ended_by, KeepsLobby}
 
 -- steps at one moment, and then others
 timed_more : {J P L : Type 0} (moment : ℕ) (xs ys : List (Here J P L))
@@ -203,3 +207,45 @@ pub gave_so : {L : Type 0} (link : LinkId) (gave : Option L) (was now : Option N
     → Tells (λ (a b : NetTold). Releases a link (was_given gave) b) was now
 gave_so link None was now told = told
 gave_so link (Some carried) was now told = told
+
+-- the frames given so far, and then one more or a part of it
+pub settles_next : {D J P L : Type 0} (w : Ways D J P) (carries : L → List LinkEvent)
+    (moment : ℕ) (old : HeldDocument D J P L) (frames : List (ViewId × Frame)) (i : ℕ)
+    (item : ViewId × Frame) (was : Option NetTold) (ended : ℕ) (mid : HeldDocument D J P L)
+    (between : Option NetTold) (count : Option ℕ) (new : HeldDocument D J P L)
+    (now : Option NetTold)
+    → i < length frames → item ≡ get_or frames i item
+    → Settles w carries moment old (map give_of (take i frames)) was (Some ended) mid between
+    → Settles w carries moment mid (give_of item ∷ []) between count new now
+    → Settles w carries moment old (map give_of (take (i + 1) frames)) was
+    (option_map (λ n. ended + n) count) new now
+settles_next {D} {J} {P} {L} w carries moment old frames i item was ended mid between count new now
+    within is so_far one =
+    subst
+    (λ (owed : List (Todo J P)). Settles w carries moment old owed was
+    (option_map (λ n. ended + n) count) new now)
+    (sym
+    (map_more give_of frames i item within
+    ∙ ap (λ (x : ViewId × Frame). map give_of (take i frames) ++ give_of x ∷ []) (sym is)))
+    (settles_more w carries moment old (map give_of (take i frames)) (give_of item ∷ []) was ended
+    mid between count new now so_far one)
+
+-- the frames given so far, where the next was cut off
+pub settles_stopped : {D J P L : Type 0} (w : Ways D J P) (carries : L → List LinkEvent)
+    (moment : ℕ) (old : HeldDocument D J P L) (frames : List (ViewId × Frame)) (i : ℕ)
+    (item : ViewId × Frame) (was : Option NetTold) (ended : ℕ) (mid : HeldDocument D J P L)
+    (between : Option NetTold) (new : HeldDocument D J P L) (now : Option NetTold)
+    → i < length frames → item ≡ get_or frames i item
+    → Settles w carries moment old (map give_of (take i frames)) was (Some ended) mid between
+    → Settles w carries moment mid (give_of item ∷ []) between None new now
+    → Settles w carries moment old (map give_of frames) was None new now
+settles_stopped {D} {J} {P} {L} w carries moment old frames i item was ended mid between new now
+    within is so_far one =
+    subst
+    (λ (owed : List (Todo J P)). Settles w carries moment old owed was None new now)
+    (sym (map-append give_of (take (i + 1) frames) (drop (i + 1) frames))
+    ∙ ap (λ (fs : List (ViewId × Frame)). map give_of fs) (take-append-drop (i + 1) frames))
+    (settles_part w carries moment old (map give_of (take (i + 1) frames))
+    (map give_of (drop (i + 1) frames)) was new now
+    (settles_next w carries moment old frames i item was ended mid between None new now within is
+    so_far one))
