@@ -2,9 +2,9 @@
 use Rattle.std.proofs.Common.{true, false}
 use Rattle.std.proofs.Common.{◌≡◌, ℕ, ◌+◌, List, [], ◌∷◌, ◌++◌, map, Option, None, Some, refl, ap}
 use Rattle.std.proofs.Common.{sym, subst, ◌∙◌, append_assoc, add_assoc, zero-add}
-use Rattle.std.proofs.Common.{◌<◌, length, take, drop, get_or, map-append, take-append-drop}
+use Rattle.std.proofs.Common.{◌<◌, length, take, drop, get_or, take-append-drop}
 use Rattle.std.specs.List.{flat_map, AllByRecursion}
-use Rattle.std.proofs.lemmas.List.{map_more}
+use Rattle.std.proofs.lemmas.List.{map-append, map_more}
 use Rattle.cool_base.specs.declared.ids.ViewId.{ViewId}
 use Rattle.cool_frame.specs.declared.frame.Frame.{Frame}
 use Rattle.std.specs.Option.{IfSome, MatchOption, option_map}
