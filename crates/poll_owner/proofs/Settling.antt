@@ -2,9 +2,9 @@
 use Rattle.std.proofs.Common.{true, false}
 use Rattle.std.proofs.Common.{◌≡◌, ℕ, ◌+◌, List, [], ◌∷◌, ◌++◌, map, Option, None, Some, refl, ap}
 use Rattle.std.proofs.Common.{sym, subst, ◌∙◌, append_assoc, add_assoc, zero-add}
-use Rattle.std.proofs.Common.{◌<◌, length, take, drop, get_or, take-append-drop}
+use Rattle.std.proofs.Common.{◌<◌, ◌≤◌, length, take, drop, get_or, take-append-drop}
 use Rattle.std.specs.List.{flat_map, AllByRecursion}
-use Rattle.std.proofs.lemmas.List.{map-append, map_more}
+use Rattle.std.proofs.lemmas.List.{map-append, map_more, take_all}
 use Rattle.cool_base.specs.declared.ids.ViewId.{ViewId}
 use Rattle.cool_frame.specs.declared.frame.Frame.{Frame}
 use Rattle.std.specs.Option.{IfSome, MatchOption, option_map}
@@ -234,18 +234,37 @@ settles_next {D} {J} {P} {L} w carries moment old frames i item was ended mid be
 pub settles_stopped : {D J P L : Type 0} (w : Ways D J P) (carries : L → List LinkEvent)
     (moment : ℕ) (old : HeldDocument D J P L) (frames : List (ViewId × Frame)) (i : ℕ)
     (item : ViewId × Frame) (was : Option NetTold) (ended : ℕ) (mid : HeldDocument D J P L)
-    (between : Option NetTold) (new : HeldDocument D J P L) (now : Option NetTold)
-    → i < length frames → item ≡ get_or frames i item
+    (between : Option NetTold) (count : Option ℕ) (new : HeldDocument D J P L)
+    (now : Option NetTold)
+    → count ≡ None → i < length frames → item ≡ get_or frames i item
     → Settles w carries moment old (map give_of (take i frames)) was (Some ended) mid between
     → Settles w carries moment mid (give_of item ∷ []) between None new now
-    → Settles w carries moment old (map give_of frames) was None new now
-settles_stopped {D} {J} {P} {L} w carries moment old frames i item was ended mid between new now
-    within is so_far one =
+    → Settles w carries moment old (map give_of frames) was count new now
+settles_stopped {D} {J} {P} {L} w carries moment old frames i item was ended mid between count new
+    now none within is so_far one =
+    let all : Settles w carries moment old (map give_of frames) was None new now =
     subst
     (λ (owed : List (Todo J P)). Settles w carries moment old owed was None new now)
     (sym (map-append give_of (take (i + 1) frames) (drop (i + 1) frames))
     ∙ ap (λ (fs : List (ViewId × Frame)). map give_of fs) (take-append-drop (i + 1) frames))
     (settles_part w carries moment old (map give_of (take (i + 1) frames))
     (map give_of (drop (i + 1) frames)) was new now
-    (settles_next w carries moment old frames i item was ended mid between None new now within is
-    so_far one))
+    (settles_next w carries moment old frames i item was ended mid between None new now within
+    is so_far one))
+    in
+    subst
+    (λ (c : Option ℕ). Settles w carries moment old (map give_of frames) was c new now) (sym none)
+    all
+
+-- all frames
+pub settles_all : {D J P L : Type 0} (w : Ways D J P) (carries : L → List LinkEvent)
+    (moment : ℕ) (old : HeldDocument D J P L) (frames : List (ViewId × Frame)) (i : ℕ)
+    (was : Option NetTold) (ended : ℕ) (new : HeldDocument D J P L) (now : Option NetTold)
+    → length frames ≤ i
+    → Settles w carries moment old (map give_of (take i frames)) was (Some ended) new now
+    → Settles w carries moment old (map give_of frames) was (Some ended) new now
+settles_all w carries moment old frames i was ended new now past so_far =
+    subst
+    (λ (fs : List (ViewId × Frame)). Settles w carries moment old (map give_of fs) was (Some ended)
+    new now)
+    (take_all i frames past) so_far

@@ -10,7 +10,7 @@ returns-in-None-clause-settled g c = λ served moment.
     settles_skipped _ _ moment c.args.self.now c.args.view.0 (frame_bytes c.args.frame.now) _
     c.in-None.ensures
 
-pub returns-in_err-bytes-clause-settled : goal.returns-in_err-bytes-clause-settled
-returns-in_err-bytes-clause-settled g c = λ served moment.
+pub returns-in_err-bytes-in-Some-clause-settled : goal.returns-in_err-bytes-in-Some-clause-settled
+returns-in_err-bytes-in-Some-clause-settled g c = λ served moment.
     settles_cut _ _ moment c.args.self.now _ _ (count_in c.from_residual.result) c.args.self.now _
     (search rules) refl
