@@ -54,6 +54,13 @@ impl<'a, R: Clock> EdgeNet<'a, R> {
     pub fn port(&self) -> Option<u16> {
         self.sockets.port()
     }
+
+    /// How many takes failed. The count stays at 2^64 - 1 once it is there.
+    pub fn take_faults(&self) -> u64
+        ensures { result ≡ self.now.take_faults }
+    {
+        self.take_faults
+    }
 }
 
 impl<'a, R: Clock> Net for EdgeNet<'a, R> {

@@ -30,6 +30,10 @@ Offers old frame Waits new = (old.busy ≡ true) × (taken_by old.waiting + cost
 Offers old frame Full new = (old.busy ≡ true) × (33554432 < taken_by old.waiting + cost_of frame)
     × (new ≡ old)
 
+-- The frame waits before all others.
+abbrev pub IsFirst : List ℕ → Queue → Type 0
+IsFirst frame q = (rest : List (List ℕ)) × (q.waiting ≡ frame ∷ rest)
+
 -- The first frame that waits goes, and the queue is busy with it; it is not busy where none waits.
 abbrev pub Goes : Queue → Option (List ℕ) → Queue → Type 0
 Goes old None new = (old.waiting ≡ []) × (new ≡ record { busy = false; waiting = [] })

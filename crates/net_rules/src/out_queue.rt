@@ -46,8 +46,8 @@ impl Model for OutQueue {
 }
 
 impl OutQueue {
-    ghost use Rattle.std.specs.Prelude.{◌≡◌, ◌++◌, ◌∷◌, [], true, false, IfOk, OnErr};
-    ghost use Rattle.net_rules.specs.Queues.{Offers, Goes};
+    ghost use Rattle.std.specs.Prelude.{◌≡◌, ◌++◌, ◌∷◌, [], true, false, IfOk, OnErr, MatchOption};
+    ghost use Rattle.net_rules.specs.Queues.{Offers, IsFirst, Goes};
 
     /// No frame is on its way, and none waits.
     pub fn new(alloc: Global) -> OutQueue
@@ -82,6 +82,17 @@ impl OutQueue {
         self.waiting.push_back(kept)?;
         self.taken = taken;
         Ok(Offered::Waits)
+    }
+
+    /// The first frame that waits.
+    #[tactic(auto, using(crate::proofs::Firsts::before_the_rest))]
+    pub fn first(&self) -> Option<&[u8]>
+        ensures { MatchOption result (self.now.waiting ≡ []) (λ frame. IsFirst frame.now self.now) }
+    {
+        match self.waiting.front() {
+            Some(frame) => Some(frame.get()),
+            None => None,
+        }
     }
 
     /// The frame on its way has left: the first that waits goes now, and waits no longer. Where none

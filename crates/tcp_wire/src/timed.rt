@@ -42,6 +42,13 @@ impl<'a, R: Clock> TimedWire<'a, R> {
         })
     }
 
+    /// How many sends and receives failed. The count stays at 2^64 - 1 once it is there.
+    pub fn faults(&self) -> u64
+        ensures { result ≡ self.now.faults }
+    {
+        self.faults
+    }
+
     // Whether the wire's time has ended, or can't be told.
     fn is_over(&self) -> bool {
         match self.began.elapsed(self.rt) {

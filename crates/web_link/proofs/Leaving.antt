@@ -1,13 +1,13 @@
 -- The frames that wait, as they leave.
-use Rattle.std.proofs.Common.{◌≡◌, ap, refl, ℕ, ◌<◌, true, false, List, [], length, Option, Some, Result, Ok, Err, IfOk, rules, arith, subst, sym}
+use Rattle.std.proofs.Common.{◌≡◌, ap, refl, ℕ, ◌<◌, true, List, [], ◌∷◌, length, Option, Some, None, Result, Ok, Err, IfOk, OnErr, slice_index_or, rules, arith, subst}
 use Rattle.tungstenite.specs.Failure.{IsIo}
 use Rattle.tungstenite.specs.Socket.{Socket, Flushed}
 use Rattle.tungstenite.specs.declared.error.Error.{Error}
 use Rattle.cool_base.specs.declared.want.Memory.{Memory}
-use Rattle.net_rules.specs.Queues.{Queue, Goes}
+use Rattle.net_rules.specs.Queues.{Queue, IsFirst, Goes}
 use Rattle.web_link.specs.Endings.{EndsBy}
 use Rattle.web_link.specs.Frames.{Sends}
-use Rattle.web_link.specs.Pushing.{PushesNext, Empties, Leaves, PushesOne, Free, Stops, Next, Pushes, Last, PushesEnd}
+use Rattle.web_link.specs.Pushing.{PushesNext, Empties, Leaves, PushesOne, Free, Stops, Next, PushesEnd}
 use Rattle.web_link.specs.declared.heard.Ending.{Ending}
 use Rattle.web_link.specs.declared.heard.Ending.TheVariants as End
 use Rattle.web_link.specs.declared.heard.Pushed.{Pushed}
@@ -23,15 +23,35 @@ no_more End.NoMemory x = x
 no_more End.Lost x = search rules
 no_more (End.Broken code) x = search rules
 
+-- What stands first in both lists is the same.
+same_first : (xs : List (List ℕ)) (x y : List ℕ) (tail other : List (List ℕ)) → xs ≡ x ∷ tail
+    → xs ≡ y ∷ other → y ≡ x
+same_first xs x y tail other one two =
+    subst (λ z. z ≡ x) (ap (λ l. slice_index_or l 0 []) two) (ap (λ l. slice_index_or l 0 []) one)
+
+-- The first that waits is the one that goes.
+first_goes : (before after : Queue) (frame : List ℕ) (gone : Option (List ℕ))
+    → IsFirst frame before → Goes before gone after → Goes before (Some frame) after
+first_goes before after frame None first goes =
+    absurd (omega (arith, ap (λ (l : List (List ℕ)). length l) first.1,
+    ap (λ (l : List (List ℕ)). length l) goes.0))
+first_goes before after frame (Some other) first goes =
+    (subst (λ f. before.waiting ≡ f ∷ after.waiting)
+    (same_first before.waiting frame other first.0 after.waiting first.1 goes.0) goes.0, goes.1)
+
+-- Where one waits first, one waits.
+pub one_waits : (q : Queue) (frame : List ℕ) → IsFirst frame q → 0 < length q.waiting
+one_waits q frame first = omega (arith, ap (λ (l : List (List ℕ)). length l) first.1)
+
 module _ {S : Type 0} (contents : S → Option (List ℕ)) where
-  -- A frame that was taken off those that wait and sent.
+  -- The first that waits was sent, and then waits no longer.
   pub leaves : (old new : Socket S) (before between after : Queue) (frame : List ℕ)
-      (result : Result Pushed Memory) → Goes before (Some frame) between → after ≡ between
-      → IfOk result (λ pushed. Sends contents old frame pushed new)
-      → IfOk result (λ pushed. PushesNext contents old before pushed new after)
-  leaves old new before between after frame (Ok pushed) goes same sends =
-      Leaves frame (subst (λ q. Goes before (Some frame) q) (sym same) goes) sends
-  leaves old new before between after frame (Err e) goes same sends = tt
+      (gone : Option (List ℕ)) (pushed : Pushed) → IsFirst frame before → between ≡ before
+      → Goes between gone after → Sends contents old frame pushed new
+      → PushesNext contents old before pushed new after
+  leaves old new before between after frame gone pushed first same goes sends =
+      Leaves frame (first_goes before after frame gone first (subst (λ q. Goes q gone after) same goes))
+      sends
 
   -- The one on its way has left, and the next one goes.
   pub next_goes : (old mid new : Socket S) (before after : Queue) (result : Result Pushed Memory)
@@ -52,12 +72,6 @@ module _ {S : Type 0} (contents : S → Option (List ℕ)) where
       → PushesOne contents old before Ended new before
   stops_lost old new before e busy sent io by = Stops e End.Lost busy sent io by refl refl
 
-  pub stops_broken : (old new : Socket S) (before : Queue) (e : Error) (code : ℕ)
-      → before.busy ≡ true → Flushed contents old new → IsIo e → EndsBy e (End.Broken code)
-      → PushesOne contents old before Ended new before
-  stops_broken old new before e code busy sent io by =
-      Stops e (End.Broken code) busy sent io by refl refl
-
   -- Where more may leave, fewer wait.
   pub fewer_wait : (old : Socket S) (before : Queue) (new : Socket S) (after : Queue)
       → PushesOne contents old before More new after → length after.waiting < length before.waiting
@@ -69,19 +83,7 @@ module _ {S : Type 0} (contents : S → Option (List ℕ)) where
   fewer_wait old before new after (Next mid busy sent left (Leaves frame goes sends)) =
       omega (arith, ap (λ (l : List (List ℕ)). length l) goes.0)
 
-  -- No more can leave now.
-  pub last_idle : (old : Socket S) (before : Queue) (new : Socket S) (after : Queue)
-      → PushesOne contents old before Idle new after → Pushes contents true new after old before
-  last_idle old before new after x = Last old before Idle x refl
-
-  pub last_blocked : (old : Socket S) (before : Queue) (new : Socket S) (after : Queue)
-      → PushesOne contents old before Blocked new after → Pushes contents true new after old before
-  last_blocked old before new after x = Last old before Blocked x refl
-
-  pub last_ended : (old : Socket S) (before : Queue) (new : Socket S) (after : Queue)
-      → PushesOne contents old before Ended new after → Pushes contents false new after old before
-  last_ended old before new after x = Last old before Ended x refl
-
-pub ruleset one_push = (next_goes, stops_waiting, stops_lost, stops_broken)
-
-pub ruleset all_pushes = (last_idle, last_blocked, last_ended, fewer_wait)
+-- Where memory is refused, a fact of that moment stands.
+pub where_refused : {A E X : Type 0} (result : Result A E) → X → OnErr result X
+where_refused (Ok a) x = tt
+where_refused (Err e) x = x

@@ -1,5 +1,5 @@
 -- The frames that wait for a link, as they leave.
-use Rattle.std.specs.Prelude.{ℕ, ◌≡◌, Bool, true, false, List, [], Option, Some, None}
+use Rattle.std.specs.Prelude.{ℕ, ◌≡◌, ◌<◌, Bool, true, false, List, [], length, Option, Some, None}
 use Rattle.tungstenite.specs.Failure.{IsIo}
 use Rattle.tungstenite.specs.Socket.{Socket, Flushed}
 use Rattle.tungstenite.specs.declared.error.Error.{Error}
@@ -47,12 +47,36 @@ module _ {S : Type 0} where
         → PushesNext contents mid before pushed new after
         → PushesOne contents old before pushed new after
 
-  -- The same up to where no more can leave now.
-  pub data Pushes (contents : S → Option (List ℕ)) (alive : Bool) (new : Socket S) (after : Queue)
+  -- The one on its way has left, and there is no memory to send the next: it waits on.
+  pub record LacksMemory (contents : S → Option (List ℕ)) (old : Socket S) (before : Queue)
+      (new : Socket S) (after : Queue) : Type 0 where
+    pub busy : before.busy ≡ true
+    pub sent : Flushed contents old new
+    pub left : new.output ≡ []
+    pub waits : 0 < length before.waiting
+    pub keeps : after ≡ before
+
+  -- Frames that left whole, one after another, each in a step from where the one before it ended.
+  pub data Leave (contents : S → Option (List ℕ)) (old : Socket S) (before : Queue)
       : Socket S → Queue → Type 0 where
-    Last : (old : Socket S) (before : Queue) (pushed : Pushed)
-        → PushesOne contents old before pushed new after → StaysAlive pushed alive
-        → Pushes contents alive new after old before
-    Further : (old mid : Socket S) (before between : Queue)
-        → PushesOne contents old before More mid between
-        → Pushes contents alive new after mid between → Pushes contents alive new after old before
+    NoneYet : Leave contents old before old before
+    OneMore : (mid new : Socket S) (between after : Queue) → Leave contents old before mid between
+        → PushesOne contents mid between More new after → Leave contents old before new after
+
+  -- Frames leave up to where no more can leave now.
+  pub record Pushes (contents : S → Option (List ℕ)) (old : Socket S) (before : Queue)
+      (alive : Bool) (new : Socket S) (after : Queue) : Type 0 where
+    pub mid : Socket S
+    pub between : Queue
+    pub pushed : Pushed
+    pub leave : Leave contents old before mid between
+    pub last : PushesOne contents mid between pushed new after
+    pub stays : StaysAlive pushed alive
+
+  -- Frames leave up to where there is no memory for the next.
+  pub record Stalls (contents : S → Option (List ℕ)) (old : Socket S) (before : Queue)
+      (new : Socket S) (after : Queue) : Type 0 where
+    pub mid : Socket S
+    pub between : Queue
+    pub leave : Leave contents old before mid between
+    pub lacks : LacksMemory contents mid between new after

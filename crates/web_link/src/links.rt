@@ -87,10 +87,10 @@ impl<S: Drop> WebLink<S> {
 }
 
 impl<S: Read + Write + Drop> WebLink<S> {
-    ghost use Rattle.std.specs.Prelude.{◌≡◌, [], true, IfOk};
+    ghost use Rattle.std.specs.Prelude.{◌≡◌, ◌<◌, ℕ, List, [], length, true, false, IfOk, OnErr};
     ghost use Rattle.web_link.specs.Hearing.{HearsNext};
-    ghost use Rattle.web_link.specs.Frames.{Sends, GivesNow, GivesFrame};
-    ghost use Rattle.web_link.specs.Pushing.{PushesNext, PushesOne, Pushes};
+    ghost use Rattle.web_link.specs.Frames.{MessageOf, Sends, GivesNow, GivesFrame};
+    ghost use Rattle.web_link.specs.Pushing.{PushesNext, PushesOne, LacksMemory, Pushes, Stalls};
 
     /// The next message. A ping is answered; while a frame is on its way nothing is heard, so that a
     /// browser that doesn't read can't make pongs pile up. A browser that breaks a rule is told so, if
@@ -127,10 +127,12 @@ impl<S: Read + Write + Drop> WebLink<S> {
     }
 
     /// Gives a frame to the link: it is sent at once where none is on its way, else it waits. False
-    /// where the link has ended: too much waits, or the stream failed.
+    /// where the link has ended: too much waits, or the stream failed. After `Memory` nothing has
+    /// changed.
     pub fn give(&mut self, frame: &[u8]) -> Result<bool, Memory>
-        ensures { IfOk result (λ alive. GivesFrame S.contents self.old.socket self.old.queue frame.now
+        ensures given { IfOk result (λ alive. GivesFrame S.contents self.old.socket self.old.queue frame.now
             alive self.new.socket self.new.queue) }
+        ensures memory { OnErr result (self.new ≡ self.old) }
     {
         match self.queue.offer(self.alloc, frame)? {
             Offered::Now => self.give_now(frame),
@@ -139,30 +141,51 @@ impl<S: Read + Write + Drop> WebLink<S> {
         }
     }
 
-    // Sends the frame, which alone is on its way.
+    // Sends the frame, which alone is on its way. Where there is no memory, none is.
     fn give_now(&mut self, frame: &[u8]) -> Result<bool, Memory>
         requires busy { self.old.queue.busy ≡ true }
         requires alone { self.old.queue.waiting ≡ [] }
-        ensures { IfOk result (λ alive. GivesNow S.contents self.old.socket frame.now
+        ensures given { IfOk result (λ alive. GivesNow S.contents self.old.socket frame.now
             alive self.new.socket self.new.queue) }
+        ensures alloc { self.new.alloc ≡ self.old.alloc }
+        ensures socket { OnErr result (self.new.socket ≡ self.old.socket) }
+        ensures queue { OnErr result (self.new.queue ≡ record { busy = false; waiting = [] }) }
     {
-        match self.send(frame)? {
-            Pushed::Ended => Ok(false),
-            Pushed::Blocked => Ok(true),
-            _ => {
+        let sent = self.send(frame);
+        match sent {
+            Ok(Pushed::Ended) => Ok(false),
+            Ok(Pushed::Blocked) => Ok(true),
+            Ok(_) => {
                 let _next = self.queue.left();
                 Ok(true)
+            }
+            Err(memory) => {
+                let _free = self.queue.left();
+                Err(memory)
             }
         }
     }
 
-    // Sends a frame. Where all of it left, the next may.
+    // Sends a frame.
     fn send(&mut self, frame: &[u8]) -> Result<Pushed, Memory>
         ensures sent { IfOk result (λ pushed. Sends S.contents self.old.socket frame.now
             pushed self.new.socket) }
+        ensures alloc { self.new.alloc ≡ self.old.alloc }
+        ensures socket { OnErr result (self.new.socket ≡ self.old.socket) }
         ensures queue { self.new.queue ≡ self.old.queue }
     {
         let message = message_of(self.alloc, frame)?;
+        self.send_message(message)
+    }
+
+    // Sends a message. Where all of it left, the next may.
+    fn send_message(&mut self, message: Message) -> Result<Pushed, Memory>
+        ensures sent { IfOk result (λ pushed. (frame : List ℕ) → MessageOf frame message
+            → Sends S.contents self.old.socket frame pushed self.new.socket) }
+        ensures alloc { self.new.alloc ≡ self.old.alloc }
+        ensures socket { OnErr result (self.new.socket ≡ self.old.socket) }
+        ensures queue { self.new.queue ≡ self.old.queue }
+    {
         match self.socket.send(message) {
             Ok(()) => Ok(Pushed::More),
             Err(error) => match ending_of(&error) {
@@ -175,10 +198,11 @@ impl<S: Read + Write + Drop> WebLink<S> {
     }
 
     // The frame on its way goes on; where it has left, the first that waits is sent.
-    #[tactic(auto, using(crate::proofs::Leaving::one_push))]
     fn push_one(&mut self) -> Result<Pushed, Memory>
-        ensures { IfOk result (λ pushed. PushesOne S.contents self.old.socket self.old.queue
+        ensures pushed { IfOk result (λ pushed. PushesOne S.contents self.old.socket self.old.queue
             pushed self.new.socket self.new.queue) }
+        ensures memory { OnErr result (LacksMemory S.contents self.old.socket self.old.queue
+            self.new.socket self.new.queue) }
     {
         if !self.queue.is_busy() {
             return Ok(Pushed::Idle);
@@ -194,22 +218,34 @@ impl<S: Read + Write + Drop> WebLink<S> {
         }
     }
 
-    // The first frame that waits is sent.
+    // The first frame that waits is sent. It waits until then.
+    #[tactic(auto, using(crate::proofs::Leaving::one_waits))]
     fn push_next(&mut self) -> Result<Pushed, Memory>
-        ensures { IfOk result (λ pushed. PushesNext S.contents self.old.socket self.old.queue
+        ensures pushed { IfOk result (λ pushed. PushesNext S.contents self.old.socket self.old.queue
             pushed self.new.socket self.new.queue) }
+        ensures socket { OnErr result (self.new.socket ≡ self.old.socket) }
+        ensures queue { OnErr result (self.new.queue ≡ self.old.queue) }
+        ensures waits { OnErr result (0 < length self.old.queue.waiting) }
     {
-        match self.queue.left() {
-            Some(frame) => self.send(frame.get()),
-            None => Ok(Pushed::Idle),
-        }
+        let Some(frame) = self.queue.first() else {
+            let _none = self.queue.left();
+            return Ok(Pushed::Idle);
+        };
+        let next = message_of(self.alloc, frame)?;
+        let pushed = self.send_message(next)?;
+        let _gone = self.queue.left();
+        Ok(pushed)
     }
 
     /// Sends what waits, in order, as far as the stream takes it. False where the link has ended.
-    #[tactic(auto, using(crate::proofs::Leaving::all_pushes))]
+    /// `Memory` where there was none for the first frame that waits: it waits on, and all that went
+    /// before it has left.
+    #[tactic(auto, using(crate::proofs::Leaving::fewer_wait))]
     pub fn push(&mut self) -> Result<bool, Memory>
-        ensures { IfOk result (λ alive. Pushes S.contents alive self.new.socket self.new.queue
-            self.old.socket self.old.queue) }
+        ensures pushed { IfOk result (λ alive. Pushes S.contents self.old.socket self.old.queue
+            alive self.new.socket self.new.queue) }
+        ensures memory { OnErr result (Stalls S.contents self.old.socket self.old.queue
+            self.new.socket self.new.queue) }
     {
         loop {
             match self.push_one()? {
