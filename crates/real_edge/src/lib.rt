@@ -1,7 +1,7 @@
 //! The edge of this machine: its sockets, files and clock. It is trusted and tells no contents.
 //!
-//! - `RealEdge` (`edges`): the edge. Its nets are those of `net_edge`, its stores those of `wopi_client`
-//!   over `tcp_dial`.
+//! - `RealEdge` (`edges`): the edge. Its nets are those of `net_edge`, its stores those of
+//!   `wopi_client` over `tcp_dial`.
 //! - `MachineClock` (`clocks`): the machine's clock, and a gate that does nothing.
 #![tactic(auto)]
 

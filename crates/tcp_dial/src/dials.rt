@@ -18,8 +18,8 @@ const WAIT_SECONDS: u64 = 5;
 /// How many seconds a wire has in all.
 const WIRE_SECONDS: u64 = 20;
 
-/// A dial of the host at one address, a name or a number with a port. A name is looked up at each dial,
-/// and its addresses are tried in turn.
+/// A dial of the host at one address, a name or a number with a port. A name is looked up at each
+/// dial, and its addresses are tried in turn.
 #[derive(Drop)]
 pub struct TcpDial<'a, R> {
     rt: &'a R,

@@ -121,8 +121,8 @@ impl Store for StatusStore {
     }
 }
 
-/// What an answer says: the first byte of a picture, the first byte that a host took, or the code of
-/// a refusal.
+/// What an answer says: the first byte of a picture, the first byte that a host took, or the code
+/// of a refusal.
 #[derive(Clone, Copy, Debug, PartialEq, Eq)]
 pub enum Says {
     Painted(u8),
