@@ -38,15 +38,15 @@ no_fault m fault is = cc
 
 pub itself : {P M : Type 0} (k : Kind P M) (laws : Laws k) (m : M) (whole bytes : List ℕ) (ended : Bool) (result : Result M HttpFault)
     → Say k m whole → IsGiven whole bytes ended → IsAnswer k bytes ended result → IsItself m result
-itself k laws m whole bytes ended (Ok n) say given (f, said, stops) = ap (ok_or n) (one_said k laws m whole bytes ended say given f (Ok n) said)
+itself k laws m whole bytes ended (Ok n) say given (f, said, stops, late) = ap (ok_or n) (one_said k laws m whole bytes ended say given f (Ok n) said)
 itself k laws m whole bytes ended (Err NoMemory) say given answer = tt
 itself k laws m whole bytes ended (Err (Wire ReadFault)) say given answer = refl
-itself k laws m whole bytes ended (Err (Wire WriteFault)) say given (f, said, stops) = absurd said
-itself k laws m whole bytes ended (Err (Wire BadHead)) say given (f, said, stops) = absurd (no_fault m BadHead (one_said k laws m whole bytes ended say given f (Err BadHead) said))
-itself k laws m whole bytes ended (Err (Wire HeadTooLong)) say given (f, said, stops) = absurd (no_fault m HeadTooLong (one_said k laws m whole bytes ended say given f (Err HeadTooLong) said))
-itself k laws m whole bytes ended (Err (Wire BodyTooLong)) say given (f, said, stops) = absurd (no_fault m BodyTooLong (one_said k laws m whole bytes ended say given f (Err BodyTooLong) said))
-itself k laws m whole bytes ended (Err (Wire BadChunk)) say given (f, said, stops) = absurd (no_fault m BadChunk (one_said k laws m whole bytes ended say given f (Err BadChunk) said))
-itself k laws m whole bytes ended (Err (Wire CutOff)) say given (f, said, stops) = absurd (no_fault m CutOff (one_said k laws m whole bytes ended say given f (Err CutOff) said))
+itself k laws m whole bytes ended (Err (Wire WriteFault)) say given (f, said, stops, late) = absurd said
+itself k laws m whole bytes ended (Err (Wire BadHead)) say given (f, said, stops, late) = absurd (no_fault m BadHead (one_said k laws m whole bytes ended say given f (Err BadHead) said))
+itself k laws m whole bytes ended (Err (Wire HeadTooLong)) say given (f, said, stops, late) = absurd (no_fault m HeadTooLong (one_said k laws m whole bytes ended say given f (Err HeadTooLong) said))
+itself k laws m whole bytes ended (Err (Wire BodyTooLong)) say given (f, said, stops, late) = absurd (no_fault m BodyTooLong (one_said k laws m whole bytes ended say given f (Err BodyTooLong) said))
+itself k laws m whole bytes ended (Err (Wire BadChunk)) say given (f, said, stops, late) = absurd (no_fault m BadChunk (one_said k laws m whole bytes ended say given f (Err BadChunk) said))
+itself k laws m whole bytes ended (Err (Wire CutOff)) say given (f, said, stops, late) = absurd (no_fault m CutOff (one_said k laws m whole bytes ended say given f (Err CutOff) said))
 
 -- what a call received between two talks is a front of what the wire gave between them
 given_between : (whole bytes : List ℕ) (ended : Bool) (old new : Talk) → GivesFront whole old new → new ≡ with_received bytes ended old → IsGiven whole bytes ended

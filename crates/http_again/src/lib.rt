@@ -9,11 +9,12 @@ ghost use Rattle.outside.specs.Wires.{Talk};
 ghost use Rattle.http_message.specs.declared.Request.{Request};
 ghost use Rattle.http_message.specs.declared.Response.{Response};
 ghost use Rattle.wire_body.specs.declared.faults.HttpFault.{HttpFault};
-ghost use Rattle.http_wire.specs.Messages.{head_limit, IsAnswer, ReadsMessage};
+ghost use Rattle.http_wire.specs.Messages.{IsAnswer, ReadsMessage};
+ghost use Rattle.http_head.specs.declared.TheConstants.{HEAD_LIMIT};
 ghost use Rattle.http_wire.specs.Kinds.{requests, responses};
 ghost use Rattle.http_write.specs.Texts.{request_head, request_bytes};
 ghost use Rattle.http_write.specs.Texts.{response_head, response_bytes};
-ghost use Rattle.http_write.specs.Again.{IsReadable, IsAnswer as IsTold};
+ghost use Rattle.http_write.specs.Again.{IsReadableRequest, IsReadableResponse};
 ghost use Rattle.http_again.specs.Given.{IsGiven, GivesFront, IsItself};
 
 /// A request within the limits, written to a wire with anything after it, is what `read_request`
@@ -22,12 +23,12 @@ ghost use Rattle.http_again.specs.Given.{IsGiven, GivesFront, IsItself};
 pub fn requests_are_answered()
     ensures bytes { (host : List ℕ) (r : Request) (after bytes : List ℕ)
         (ended : Bool) (result : Result Request HttpFault)
-        → IsReadable host r → length (request_head host r) ≤ head_limit
+        → IsReadableRequest host r → length (request_head host r) ≤ HEAD_LIMIT
         → IsGiven (request_bytes host r ++ after) bytes ended
         → IsAnswer requests bytes ended result → IsItself r result }
     ensures talks { (host : List ℕ) (r : Request) (after : List ℕ)
         (old new : Talk) (result : Result Request HttpFault)
-        → IsReadable host r → length (request_head host r) ≤ head_limit
+        → IsReadableRequest host r → length (request_head host r) ≤ HEAD_LIMIT
         → GivesFront (request_bytes host r ++ after) old new
         → ReadsMessage requests (Some old) (Some new) result → IsItself r result }
 {}
@@ -36,12 +37,12 @@ pub fn requests_are_answered()
 pub fn responses_are_answered()
     ensures bytes { (r : Response) (after bytes : List ℕ)
         (ended : Bool) (result : Result Response HttpFault)
-        → IsTold r → length (response_head r) ≤ head_limit
+        → IsReadableResponse r → length (response_head r) ≤ HEAD_LIMIT
         → IsGiven (response_bytes r ++ after) bytes ended
         → IsAnswer responses bytes ended result → IsItself r result }
     ensures talks { (r : Response) (after : List ℕ)
         (old new : Talk) (result : Result Response HttpFault)
-        → IsTold r → length (response_head r) ≤ head_limit
+        → IsReadableResponse r → length (response_head r) ≤ HEAD_LIMIT
         → GivesFront (response_bytes r ++ after) old new
         → ReadsMessage responses (Some old) (Some new) result → IsItself r result }
 {}

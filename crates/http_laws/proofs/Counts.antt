@@ -7,7 +7,8 @@ use Rattle.outside.specs.declared.faults.WireFault.TheVariants.{BodyTooLong, Cut
 use Rattle.wire_body.specs.declared.states.BodyState.{BodyState}
 use Rattle.wire_body.specs.declared.states.Phase.{Phase}
 use Rattle.wire_body.specs.declared.states.Phase.TheVariants.{Counted, Open, Full, Done, TooLong}
-use Rattle.wire_body.specs.Bodies.{run, reached, Reached, taken, behind, step, verdict, verdict_behind, body_says, framing_at, framing_in, body_of, open_body, no_body, body_limit, is_content}
+use Rattle.wire_body.specs.Bodies.{run, reached, Reached, taken, behind, step, verdict, verdict_behind, body_says, framing_at, framing_in, body_of, open_body, no_body, is_content}
+use Rattle.wire_body.specs.declared.states.TheConstants.{BODY_LIMIT}
 use Rattle.wire_body.proofs.Runs.{run_none, run_one, block_of_piece, framing_none, framing_one}
 use Rattle.http_laws.specs.Lengths.{said_of_length, said_of_open}
 use Rattle.http_laws.proofs.Finals.{run_final}
@@ -80,19 +81,19 @@ says start s bytes body ended unframed is =
     ap (λ k. verdict_behind k (run start [] bytes).state.phase (run start [] bytes).body ended) (no_framing start bytes unframed)
     ∙ ap (λ (r : Reached). verdict r.state.phase r.body ended) is
 
-is_counted : (len : ℕ) → 0 < len → len ≤ body_limit → body_of len ≡ place Counted len
+is_counted : (len : ℕ) → 0 < len → len ≤ BODY_LIMIT → body_of len ≡ place Counted len
 is_counted len some fits = grind (arith, nat_tests)
 
-is_too_long : (len : ℕ) → body_limit < len → body_of len ≡ place TooLong 0
+is_too_long : (len : ℕ) → BODY_LIMIT < len → body_of len ≡ place TooLong 0
 is_too_long len more = grind (arith, nat_tests)
 
-said_whole : (len : ℕ) (bytes : List ℕ) (ended : Bool) → len ≤ body_limit → len ≤ length bytes → said_of_length len bytes ended ≡ Some (Ok (take len bytes))
+said_whole : (len : ℕ) (bytes : List ℕ) (ended : Bool) → len ≤ BODY_LIMIT → len ≤ length bytes → said_of_length len bytes ended ≡ Some (Ok (take len bytes))
 said_whole len bytes ended fits there = grind (arith, nat_tests)
 
-said_part : (len : ℕ) (bytes : List ℕ) (ended : Bool) → len ≤ body_limit → length bytes < len → said_of_length len bytes ended ≡ cond ended (Some (Err CutOff)) None
+said_part : (len : ℕ) (bytes : List ℕ) (ended : Bool) → len ≤ BODY_LIMIT → length bytes < len → said_of_length len bytes ended ≡ cond ended (Some (Err CutOff)) None
 said_part len bytes ended fits less = grind (arith, nat_tests)
 
-said_too_long : (len : ℕ) (bytes : List ℕ) (ended : Bool) → body_limit < len → said_of_length len bytes ended ≡ Some (Err BodyTooLong)
+said_too_long : (len : ℕ) (bytes : List ℕ) (ended : Bool) → BODY_LIMIT < len → said_of_length len bytes ended ≡ Some (Err BodyTooLong)
 said_too_long len bytes ended more = grind (arith, nat_tests)
 
 unframed_at : (start : BodyState) (len : ℕ) → start ≡ body_of len → is_unframed start.phase ≡ true
@@ -100,7 +101,7 @@ unframed_at start len is = ap (λ (s : BodyState). is_unframed s.phase) is ∙ u
 
 length_at : (start : BodyState) (len : ℕ) (bytes : List ℕ) (ended : Bool) → start ≡ body_of len → 0 < len → body_says start bytes ended ≡ said_of_length len bytes ended
 length_at start len bytes ended is some =
-    elim (cases_lt body_limit len) [
+    elim (cases_lt BODY_LIMIT len) [
       | inl more ↦
           says start (place TooLong 0) bytes [] ended (unframed_at start len is) (ap (λ s. run s [] bytes) (is ∙ is_too_long len more) ∙ run_final (place TooLong 0) [] bytes refl)
           ∙ sym (said_too_long len bytes ended more)
@@ -120,10 +121,10 @@ pub by_length : (len : ℕ) (bytes : List ℕ) (ended : Bool) → body_says (bod
 by_length zero bytes ended = says no_body no_body bytes [] ended refl (run_final no_body [] bytes refl) ∙ sym (said_whole 0 bytes ended (omega arith) (omega arith))
 by_length (suc n) bytes ended = length_at (body_of (suc n)) (suc n) bytes ended refl (omega arith)
 
-open_within : (bytes : List ℕ) (ended : Bool) → length bytes ≤ body_limit → said_of_open bytes ended ≡ cond ended (Some (Ok bytes)) None
+open_within : (bytes : List ℕ) (ended : Bool) → length bytes ≤ BODY_LIMIT → said_of_open bytes ended ≡ cond ended (Some (Ok bytes)) None
 open_within bytes ended fits = grind (arith, nat_tests)
 
-open_beyond : (bytes : List ℕ) (ended : Bool) → body_limit < length bytes → said_of_open bytes ended ≡ Some (Err BodyTooLong)
+open_beyond : (bytes : List ℕ) (ended : Bool) → BODY_LIMIT < length bytes → said_of_open bytes ended ≡ Some (Err BodyTooLong)
 open_beyond bytes ended more = grind (arith, nat_tests)
 
 -- as many bytes as a body may have, and then one more
@@ -157,11 +158,11 @@ too_long_at limit bytes some more =
 
 pub to_the_end : (bytes : List ℕ) (ended : Bool) → body_says open_body bytes ended ≡ said_of_open bytes ended
 to_the_end bytes ended =
-    elim (cases_lt body_limit (length bytes)) [
+    elim (cases_lt BODY_LIMIT (length bytes)) [
       | inl more ↦
-          says open_body (place TooLong 0) bytes (take body_limit bytes) ended refl (too_long_at body_limit bytes (omega arith) more) ∙ sym (open_beyond bytes ended more)
+          says open_body (place TooLong 0) bytes (take BODY_LIMIT bytes) ended refl (too_long_at BODY_LIMIT bytes (omega arith) more) ∙ sym (open_beyond bytes ended more)
       | inr fits ↦
-          let found : (p : Phase) × (run (place Open body_limit) [] bytes ≡ reached (place p (body_limit - length bytes)) bytes) × ((e : Bool) → verdict p bytes e ≡ cond e (Some (Ok bytes)) None)
-          = open_at body_limit bytes (omega arith) fits in
-          says open_body (place found.0 (body_limit - length bytes)) bytes bytes ended refl found.1 ∙ found.2 ended ∙ sym (open_within bytes ended fits)
+          let found : (p : Phase) × (run (place Open BODY_LIMIT) [] bytes ≡ reached (place p (BODY_LIMIT - length bytes)) bytes) × ((e : Bool) → verdict p bytes e ≡ cond e (Some (Ok bytes)) None)
+          = open_at BODY_LIMIT bytes (omega arith) fits in
+          says open_body (place found.0 (BODY_LIMIT - length bytes)) bytes bytes ended refl found.1 ∙ found.2 ended ∙ sym (open_within bytes ended fits)
     ]

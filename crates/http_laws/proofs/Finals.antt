@@ -6,7 +6,8 @@ use Rattle.outside.specs.declared.faults.WireFault.TheVariants.{BadChunk}
 use Rattle.wire_body.specs.declared.states.BodyState.{BodyState}
 use Rattle.wire_body.specs.declared.states.Phase.{Phase}
 use Rattle.wire_body.specs.declared.states.Phase.TheVariants.{Done, TooLong, Bad}
-use Rattle.wire_body.specs.Bodies.{run, reached, Reached, step, verdict, verdict_behind, is_content, is_final, body_says, framing_at, framing_in, framing_limit}
+use Rattle.wire_body.specs.Bodies.{run, reached, Reached, step, verdict, verdict_behind, is_content, is_final, body_says, framing_at, framing_in}
+use Rattle.wire_body.specs.declared.states.TheConstants.{FRAMING_LIMIT}
 use Rattle.wire_body.proofs.Runs.{run_none, run_one, run_append, framing_none, framing_one, framing_append}
 use Rattle.wire_body.proofs.Ranks.{step_of_final}
 
@@ -59,12 +60,12 @@ past_stays n k limit past = grind (arith, nat_tests)
 pub body_stays : (start : BodyState) (bytes more : List ℕ) (said : Result (List ℕ) WireFault) (ended : Bool)
     → body_says start bytes false ≡ Some said → body_says start (bytes ++ more) ended ≡ Some said
 body_stays start bytes more said ended is =
-    elim (nat_le (framing_in start bytes) framing_limit) as (λ w. nat_le (framing_in start bytes) framing_limit ≡ w → body_says start (bytes ++ more) ended ≡ Some said) [
+    elim (nat_le (framing_in start bytes) FRAMING_LIMIT) as (λ w. nat_le (framing_in start bytes) FRAMING_LIMIT ≡ w → body_says start (bytes ++ more) ended ≡ Some said) [
       | true ↦ λ h. within h
       | false ↦ λ h. past h
     ] refl
   where
-    within : nat_le (framing_in start bytes) framing_limit ≡ true → body_says start (bytes ++ more) ended ≡ Some said
+    within : nat_le (framing_in start bytes) FRAMING_LIMIT ≡ true → body_says start (bytes ++ more) ended ≡ Some said
     within h =
         let here : verdict (run start [] bytes).state.phase (run start [] bytes).body false ≡ Some said
         = sym (ap (λ w. cond w (verdict (run start [] bytes).state.phase (run start [] bytes).body false) (Some (Err BadChunk))) h) ∙ is in
@@ -77,11 +78,11 @@ body_stays start bytes more said ended is =
         ∙ said_both (run start [] bytes).state.phase (run start [] bytes).body ended final
         ∙ here
 
-    past : nat_le (framing_in start bytes) framing_limit ≡ false → body_says start (bytes ++ more) ended ≡ Some said
+    past : nat_le (framing_in start bytes) FRAMING_LIMIT ≡ false → body_says start (bytes ++ more) ended ≡ Some said
     past h =
         let here : Some (Err BadChunk) ≡ Some said
         = sym (ap (λ w. cond w (verdict (run start [] bytes).state.phase (run start [] bytes).body false) (Some (Err BadChunk))) h) ∙ is in
-        let more_past : nat_le (framing_in start (bytes ++ more)) framing_limit ≡ false
-        = ap (λ k. nat_le k framing_limit) (framing_append start [] bytes more)
-        ∙ past_stays (framing_in start bytes) (framing_in (run start [] bytes).state more) framing_limit h in
+        let more_past : nat_le (framing_in start (bytes ++ more)) FRAMING_LIMIT ≡ false
+        = ap (λ k. nat_le k FRAMING_LIMIT) (framing_append start [] bytes more)
+        ∙ past_stays (framing_in start bytes) (framing_in (run start [] bytes).state more) FRAMING_LIMIT h in
         ap (λ w. cond w (verdict (run start [] (bytes ++ more)).state.phase (run start [] (bytes ++ more)).body ended) (Some (Err BadChunk))) more_past ∙ here

@@ -4,7 +4,8 @@ use Rattle.std.proofs.lemmas.List.{take_all, take-append-le, length-append}
 use Rattle.std.proofs.lemmas.Bool.{cases_lt}
 use Rattle.outside.specs.declared.faults.WireFault.{WireFault}
 use Rattle.wire_body.specs.Bodies.{body_says}
-use Rattle.http_wire.specs.Messages.{Kind, Front, head_limit, start_of, with_body, message_said}
+use Rattle.http_wire.specs.Messages.{Kind, Front, start_of, with_body, message_said}
+use Rattle.http_head.specs.declared.TheConstants.{HEAD_LIMIT}
 use Rattle.http_wire.specs.Messages.Front.{Refused, Longer, Open, Headed}
 use Rattle.http_laws.proofs.Finals.{body_stays}
 
@@ -18,29 +19,29 @@ pub record Laws {P M : Type 0} (k : Kind P M) : Type 0 where
   pub cut : (bytes : List ℕ) (p : P) (r : List ℕ) (n : ℕ) → length bytes ≤ n + length r → k.reads bytes p r → (s : List ℕ) × k.reads (take n bytes) p s
 
 -- a whole head stands within its limit, so the first bytes are neither none nor only begun
-cut_not_none : {P M : Type 0} (k : Kind P M) (laws : Laws k) (bytes : List ℕ) (p : P) (r : List ℕ) → length bytes ≤ head_limit + length r → k.reads bytes p r → k.refuses (take head_limit bytes) → ⊥
+cut_not_none : {P M : Type 0} (k : Kind P M) (laws : Laws k) (bytes : List ℕ) (p : P) (r : List ℕ) → length bytes ≤ HEAD_LIMIT + length r → k.reads bytes p r → k.refuses (take HEAD_LIMIT bytes) → ⊥
 cut_not_none k laws bytes p r within reads none =
-    let c : (s : List ℕ) × k.reads (take head_limit bytes) p s = laws.cut bytes p r head_limit within reads in
-    laws.not_none (take head_limit bytes) p c.0 c.1 none
+    let c : (s : List ℕ) × k.reads (take HEAD_LIMIT bytes) p s = laws.cut bytes p r HEAD_LIMIT within reads in
+    laws.not_none (take HEAD_LIMIT bytes) p c.0 c.1 none
 
-cut_not_begun : {P M : Type 0} (k : Kind P M) (laws : Laws k) (bytes : List ℕ) (p : P) (r : List ℕ) → length bytes ≤ head_limit + length r → k.reads bytes p r → k.begins (take head_limit bytes) → ⊥
+cut_not_begun : {P M : Type 0} (k : Kind P M) (laws : Laws k) (bytes : List ℕ) (p : P) (r : List ℕ) → length bytes ≤ HEAD_LIMIT + length r → k.reads bytes p r → k.begins (take HEAD_LIMIT bytes) → ⊥
 cut_not_begun k laws bytes p r within reads begun =
-    let c : (s : List ℕ) × k.reads (take head_limit bytes) p s = laws.cut bytes p r head_limit within reads in
-    laws.not_begun (take head_limit bytes) p c.0 c.1 begun
+    let c : (s : List ℕ) × k.reads (take HEAD_LIMIT bytes) p s = laws.cut bytes p r HEAD_LIMIT within reads in
+    laws.not_begun (take HEAD_LIMIT bytes) p c.0 c.1 begun
 
 -- all of few bytes
-few : (bytes : List ℕ) → length bytes < head_limit → take head_limit bytes ≡ bytes
-few bytes less = take_all head_limit bytes (omega arith)
+few : (bytes : List ℕ) → length bytes < HEAD_LIMIT → take HEAD_LIMIT bytes ≡ bytes
+few bytes less = take_all HEAD_LIMIT bytes (omega arith)
 
-refused_not_open : {P M : Type 0} (k : Kind P M) (laws : Laws k) (bytes : List ℕ) → length bytes < head_limit → k.refuses (take head_limit bytes) → k.begins bytes → ⊥
+refused_not_open : {P M : Type 0} (k : Kind P M) (laws : Laws k) (bytes : List ℕ) → length bytes < HEAD_LIMIT → k.refuses (take HEAD_LIMIT bytes) → k.begins bytes → ⊥
 refused_not_open k laws bytes less none begun = laws.begun_or_none bytes begun (subst (λ xs. k.refuses xs) (few bytes less) none)
 
 pub one_front : {P M : Type 0} (k : Kind P M) (laws : Laws k) (bytes : List ℕ) (f g : Front k bytes) (ended : Bool) → message_said f ended ≡ message_said g ended
 one_front k laws bytes (Refused none) (Refused none') ended = refl
-one_front k laws bytes (Refused none) (Longer full begun) ended = absurd (laws.begun_or_none (take head_limit bytes) begun none)
+one_front k laws bytes (Refused none) (Longer full begun) ended = absurd (laws.begun_or_none (take HEAD_LIMIT bytes) begun none)
 one_front k laws bytes (Refused none) (Open less begun) ended = absurd (refused_not_open k laws bytes less none begun)
 one_front k laws bytes (Refused none) (Headed p r reads within) ended = absurd (cut_not_none k laws bytes p r within reads none)
-one_front k laws bytes (Longer full begun) (Refused none) ended = absurd (laws.begun_or_none (take head_limit bytes) begun none)
+one_front k laws bytes (Longer full begun) (Refused none) ended = absurd (laws.begun_or_none (take HEAD_LIMIT bytes) begun none)
 one_front k laws bytes (Longer full begun) (Longer full' begun') ended = refl
 one_front k laws bytes (Longer full begun) (Open less begun') ended = absurd (omega arith)
 one_front k laws bytes (Longer full begun) (Headed p r reads within) ended = absurd (cut_not_begun k laws bytes p r within reads begun)
@@ -72,16 +73,16 @@ said_with k p (Some b) later said stays is = ap (with_body k p) (stays b refl) �
 grown : {P M : Type 0} (k : Kind P M) (laws : Laws k) (bytes more : List ℕ) (f : Front k bytes) (said : Result M WireFault) (ended : Bool)
     → message_said f false ≡ Some said → (g : Front k (bytes ++ more)) × (message_said g ended ≡ Some said)
 grown k laws bytes more (Refused none) said ended is = (
-  Refused (elim (cases_lt (length bytes) head_limit) [
+  Refused (elim (cases_lt (length bytes) HEAD_LIMIT) [
     | inl less ↦
-        subst (λ xs. k.refuses xs) (sym (take_over bytes more head_limit (omega arith)))
-        (laws.none_stays bytes (take (head_limit - length bytes) more) (subst (λ xs. k.refuses xs) (few bytes less) none))
-    | inr full ↦ subst (λ xs. k.refuses xs) (sym (take-append-le head_limit bytes more full)) none
+        subst (λ xs. k.refuses xs) (sym (take_over bytes more HEAD_LIMIT (omega arith)))
+        (laws.none_stays bytes (take (HEAD_LIMIT - length bytes) more) (subst (λ xs. k.refuses xs) (few bytes less) none))
+    | inr full ↦ subst (λ xs. k.refuses xs) (sym (take-append-le HEAD_LIMIT bytes more full)) none
   ]),
   is,
 )
 grown k laws bytes more (Longer full begun) said ended is =
-    (Longer (omega (arith, length-append bytes more)) (subst (λ xs. k.begins xs) (sym (take-append-le head_limit bytes more full)) begun), is)
+    (Longer (omega (arith, length-append bytes more)) (subst (λ xs. k.begins xs) (sym (take-append-le HEAD_LIMIT bytes more full)) begun), is)
 grown k laws bytes more (Open less begun) said ended is = cc
 grown k laws bytes more (Headed p r reads within) said ended is = (
   Headed p (r ++ more) (k.grows bytes p r more reads) (omega (arith, within, length-append bytes more, length-append r more)),

@@ -8,7 +8,8 @@ use Rattle.httparse.specs.Grammar.{AllPass, ChunkLine, IsExtension, print_chunk_
 use Rattle.wire_body.specs.declared.states.BodyState.{BodyState}
 use Rattle.wire_body.specs.declared.states.Phase.{Phase}
 use Rattle.wire_body.specs.declared.states.Phase.TheVariants.{Size, Digits, Pad, Extension, SizeEnd, Bad, TooLong}
-use Rattle.wire_body.specs.Bodies.{step, line_step, with_digit, behind_size, behind_size_line, in_phase, line_limit, framing_at, expects}
+use Rattle.wire_body.specs.Bodies.{step, line_step, with_digit, behind_size, behind_size_line, in_phase, framing_at, expects}
+use Rattle.wire_body.specs.declared.states.TheConstants.{LINE_LIMIT}
 use Rattle.http_laws.specs.Spellings.{IsSizeLine}
 use Rattle.http_laws.proofs.Leads.{place, Leads, leads_none, leads_then, leads_one, leads_first, fits, in_line, first_passes, others_pass}
 
@@ -186,5 +187,5 @@ line_at limit l size room ok within short =
     (m, subst (λ v. Leads (place Size 0 room limit) (print_chunk_line l) (behind_size_line (place SizeEnd v room m))) ok.value all)
 
 pub size_line : (l : ChunkLine) (size room : ℕ) → IsSizeLine l size → size ≤ room
-    → (m : ℕ) × Leads (place Size 0 room line_limit) (print_chunk_line l) (behind_size_line (place SizeEnd size room m))
-size_line l size room ok within = line_at line_limit l size room ok within ok.within
+    → (m : ℕ) × Leads (place Size 0 room LINE_LIMIT) (print_chunk_line l) (behind_size_line (place SizeEnd size room m))
+size_line l size room ok within = line_at LINE_LIMIT l size room ok within ok.within

@@ -8,7 +8,8 @@ use Rattle.httparse.specs.Grammar.{AllPass, ChunkLine, IsExtension, print_chunk_
 use Rattle.wire_body.specs.declared.states.BodyState.{BodyState}
 use Rattle.wire_body.specs.declared.states.Phase.{Phase}
 use Rattle.wire_body.specs.declared.states.Phase.TheVariants.{Size, Digits, Pad, Extension, SizeEnd, Bad, TooLong}
-use Rattle.wire_body.specs.Bodies.{with_digit, behind_size, behind_size_line, expects, line_limit}
+use Rattle.wire_body.specs.Bodies.{with_digit, behind_size, behind_size_line, expects}
+use Rattle.wire_body.specs.declared.states.TheConstants.{LINE_LIMIT}
 use Rattle.http_laws.specs.Spellings.{IsSizeLine}
 use Rattle.http_laws.proofs.Leads.{place}
 use Rattle.http_laws.proofs.Ends.{Ends, ends_at, bad_ends, long_ends, not_yet, line_next, split, same_byte, expect_next, none_pass, one_passes}
@@ -226,7 +227,7 @@ feed_in (b ∷ bytes) v room k body out e =
 short_enough : (limit m0 m1 k1 k2 k3 ds pad ext : ℕ) → limit ≡ m0 + 1 → m0 ≡ ds + (m1 + 1) → m1 ≡ pad + k1 → k1 ≡ ext + k2 → k2 ≡ k3 + 1 → (1 + ds) + pad + ext + 2 ≤ limit
 short_enough limit m0 m1 k1 k2 k3 ds pad ext a b c d e = omega arith
 
-line_of : (room m0 b : ℕ) (body bytes out : List ℕ) → line_limit ≡ m0 + 1 → is_ascii_hexdigit b ≡ true
+line_of : (room m0 b : ℕ) (body bytes out : List ℕ) → LINE_LIMIT ≡ m0 + 1 → is_ascii_hexdigit b ≡ true
     → (d : DigitsIn (0 * 16 + digit_value b) room m0 body bytes out)
     → (p : PadsIn (digits_value_after 16 (0 * 16 + digit_value b) d.ds) room d.m body (d.b ∷ d.rest) out)
     → (x : ExtensionsIn (digits_value_after 16 (0 * 16 + digit_value b) d.ds) room p.k body (p.c ∷ p.rest) out)
@@ -244,9 +245,9 @@ line_of room m0 b body bytes out first is d p x f =
         pad = p.blanks;
         extension = x.ok;
         within =
-            subst (λ n. n ≤ line_limit) (sym (line_len (record { digits = b ∷ d.ds; pad = p.pad; extension = x.x })))
-            (through (length (b ∷ d.ds) + length p.pad + length (print_extension x.x) + 2) ((1 + length d.ds) + length p.pad + length (print_extension x.x) + 2) line_limit (omega arith)
-            (short_enough line_limit m0 d.m p.k x.k f.m (length d.ds) (length p.pad) (length (print_extension x.x)) first d.len p.len x.len f.len));
+            subst (λ n. n ≤ LINE_LIMIT) (sym (line_len (record { digits = b ∷ d.ds; pad = p.pad; extension = x.x })))
+            (through (length (b ∷ d.ds) + length p.pad + length (print_extension x.x) + 2) ((1 + length d.ds) + length p.pad + length (print_extension x.x) + 2) LINE_LIMIT (omega arith)
+            (short_enough LINE_LIMIT m0 d.m p.k x.k f.m (length d.ds) (length p.pad) (length (print_extension x.x)) first d.len p.len x.len f.len));
         value = refl;
       };
       fits = d.small;
@@ -256,11 +257,11 @@ line_of room m0 b body bytes out first is d p x f =
       ends = f.ends;
     }
 
-pub size_line_in : (bytes : List ℕ) (room : ℕ) (body out : List ℕ) → Ends (place Size 0 room line_limit) body bytes out → SizeLineIn room body bytes out
-size_line_in [] room body out e = absurd (not_yet (place Size 0 room line_limit) body out refl e)
+pub size_line_in : (bytes : List ℕ) (room : ℕ) (body out : List ℕ) → Ends (place Size 0 room LINE_LIMIT) body bytes out → SizeLineIn room body bytes out
+size_line_in [] room body out e = absurd (not_yet (place Size 0 room LINE_LIMIT) body out refl e)
 size_line_in (b ∷ bytes) room body out e =
-    let l : (m : ℕ) × (line_limit ≡ m + 1) × Ends (cond (is_ascii_hexdigit b) (with_digit (place Size 0 room m) b) (place Bad 0 room m)) body bytes out
-    = line_next Size 0 room line_limit b body bytes out refl e in
+    let l : (m : ℕ) × (LINE_LIMIT ≡ m + 1) × Ends (cond (is_ascii_hexdigit b) (with_digit (place Size 0 room m) b) (place Bad 0 room m)) body bytes out
+    = line_next Size 0 room LINE_LIMIT b body bytes out refl e in
     elim (split (is_ascii_hexdigit b) (with_digit (place Size 0 room l.0) b) (place Bad 0 room l.0) body bytes out l.2) [
       | inl h ↦
           let g : (0 * 16 + digit_value b ≤ room) × Ends (place Digits (0 * 16 + digit_value b) room l.0) body bytes out = one_digit Size 0 room l.0 b body bytes out h.1 in

@@ -9,7 +9,8 @@ use Rattle.outside.specs.declared.faults.WireFault.{WireFault}
 use Rattle.outside.specs.declared.faults.WireFault.TheVariants.{BadChunk, CutOff}
 use Rattle.wire_body.specs.declared.states.Phase.{Phase}
 use Rattle.wire_body.specs.declared.states.Phase.TheVariants.{Counted, Open, Full, Size, Data, DataEnd, DataFeed, Trailer, Done, TooLong, Bad}
-use Rattle.wire_body.specs.Bodies.{run, reached, Reached, taken, verdict, body_says, chunked_body, line_limit, body_limit, framing_in, framing_limit}
+use Rattle.wire_body.specs.Bodies.{run, reached, Reached, taken, verdict, body_says, chunked_body, framing_in}
+use Rattle.wire_body.specs.declared.states.TheConstants.{BODY_LIMIT, FRAMING_LIMIT, LINE_LIMIT}
 use Rattle.wire_body.proofs.Runs.{run_none, block_of_piece, block}
 use Rattle.http_laws.specs.Spellings.{print_chunk, AreChunks, IsSizeLine, Spelling, print_spelling, content, IsSpelling}
 use Rattle.http_laws.proofs.Leads.{place}
@@ -69,13 +70,13 @@ data_in bytes size room line body out some e =
 record BreakIn (room : ℕ) (body bytes out : List ℕ) : Type 0 where
   pub rest : List ℕ
   pub text : bytes ≡ 13 ∷ (10 ∷ rest)
-  pub ends : Ends (place Size 0 room line_limit) body rest out
+  pub ends : Ends (place Size 0 room LINE_LIMIT) body rest out
 
-feed_in : (bytes : List ℕ) (room line : ℕ) (body out : List ℕ) → Ends (place DataFeed 0 room line) body bytes out → (rest : List ℕ) × (bytes ≡ 10 ∷ rest) × Ends (place Size 0 room line_limit) body rest out
+feed_in : (bytes : List ℕ) (room line : ℕ) (body out : List ℕ) → Ends (place DataFeed 0 room line) body bytes out → (rest : List ℕ) × (bytes ≡ 10 ∷ rest) × Ends (place Size 0 room LINE_LIMIT) body rest out
 feed_in [] room line body out e = absurd (not_yet (place DataFeed 0 room line) body out refl e)
 feed_in (b ∷ bytes) room line body out e =
-    let r : (b ≡ 10) × Ends (place Size 0 room line_limit) body bytes out
-    = expect_next 10 b 0 room line DataFeed (place Size 0 room line_limit) body bytes out (ends_next (place DataFeed 0 room line) b body bytes out refl e) in
+    let r : (b ≡ 10) × Ends (place Size 0 room LINE_LIMIT) body bytes out
+    = expect_next 10 b 0 room line DataFeed (place Size 0 room LINE_LIMIT) body bytes out (ends_next (place DataFeed 0 room line) b body bytes out refl e) in
     (bytes, ap (λ c. c ∷ bytes) r.0, r.1)
 
 break_in : (bytes : List ℕ) (room line : ℕ) (body out : List ℕ) → Ends (place DataEnd 0 room line) body bytes out → BreakIn room body bytes out
@@ -83,7 +84,7 @@ break_in [] room line body out e = absurd (not_yet (place DataEnd 0 room line) b
 break_in (b ∷ bytes) room line body out e =
     let r : (b ≡ 13) × Ends (place DataFeed 0 room line) body bytes out
     = expect_next 13 b 0 room line DataEnd (place DataFeed 0 room line) body bytes out (ends_next (place DataEnd 0 room line) b body bytes out refl e) in
-    let f : (rest : List ℕ) × (bytes ≡ 10 ∷ rest) × Ends (place Size 0 room line_limit) body rest out = feed_in bytes room line body out r.1 in
+    let f : (rest : List ℕ) × (bytes ≡ 10 ∷ rest) × Ends (place Size 0 room LINE_LIMIT) body rest out = feed_in bytes room line body out r.1 in
     record { rest = f.0; text = ap (λ c. c ∷ bytes) r.0 ∙ ap (λ z. 13 ∷ z) f.1; ends = f.2 }
 
 record SpelledIn (room : ℕ) (body bytes out : List ℕ) : Type 0 where
@@ -92,7 +93,7 @@ record SpelledIn (room : ℕ) (body bytes out : List ℕ) : Type 0 where
   chunks : AreChunks m.chunks
   last : IsSizeLine m.last 0
   trailers : All IsField m.trailers
-  few : length (print_section m.trailers m.end) ≤ line_limit
+  few : length (print_section m.trailers m.end) ≤ LINE_LIMIT
   fits : length (content m) ≤ room
   text : bytes ≡ print_spelling m ++ rest
   same : body ++ content m ≡ out
@@ -104,7 +105,7 @@ is_some : (n : ℕ) → eqb n 0 ≡ false → 0 < n
 is_some n is = grind (arith, nat_tests)
 
 -- the last chunk and the trailers
-last_of : (room : ℕ) (body bytes out : List ℕ) (s : SizeLineIn room body bytes out) → s.size ≡ 0 → SectionIn line_limit body s.rest out → SpelledIn room body bytes out
+last_of : (room : ℕ) (body bytes out : List ℕ) (s : SizeLineIn room body bytes out) → s.size ≡ 0 → SectionIn LINE_LIMIT body s.rest out → SpelledIn room body bytes out
 last_of room body bytes out s none t = record {
   m = record { chunks = []; last = s.line; trailers = t.fields; end = t.end };
   rest = t.rest;
@@ -143,13 +144,13 @@ with_chunk room body bytes out s line some d e r = record {
 shorter : (fuel : ℕ) (line xs rest r1 r2 bytes : List ℕ) → bytes ≡ line ++ rest → rest ≡ xs ++ r1 → r1 ≡ 13 ∷ (10 ∷ r2) → length bytes ≤ suc fuel → length r2 ≤ fuel
 shorter fuel line xs rest r1 r2 bytes e1 e2 e3 fits = omega (arith, ap length e1, ap length e2, ap length e3, length-append line rest, length-append xs r1)
 
-spelled_in : (fuel : ℕ) (bytes : List ℕ) (room : ℕ) (body out : List ℕ) → length bytes ≤ fuel → Ends (place Size 0 room line_limit) body bytes out → SpelledIn room body bytes out
-spelled_in zero [] room body out fits e = absurd (not_yet (place Size 0 room line_limit) body out refl e)
+spelled_in : (fuel : ℕ) (bytes : List ℕ) (room : ℕ) (body out : List ℕ) → length bytes ≤ fuel → Ends (place Size 0 room LINE_LIMIT) body bytes out → SpelledIn room body bytes out
+spelled_in zero [] room body out fits e = absurd (not_yet (place Size 0 room LINE_LIMIT) body out refl e)
 spelled_in zero (b ∷ bytes) room body out fits e = absurd (omega arith)
 spelled_in (suc fuel) bytes room body out fits e =
     let s : SizeLineIn room body bytes out = size_line_in bytes room body out e in
-    elim (split (eqb s.size 0) (place Trailer 0 room line_limit) (place Data s.size (room - s.size) s.k) body s.rest out s.ends) [
-      | inl h ↦ last_of room body bytes out s (is_zero s.size h.0) (section_in (length s.rest) s.rest 0 room line_limit body out (omega arith) h.1)
+    elim (split (eqb s.size 0) (place Trailer 0 room LINE_LIMIT) (place Data s.size (room - s.size) s.k) body s.rest out s.ends) [
+      | inl h ↦ last_of room body bytes out s (is_zero s.size h.0) (section_in (length s.rest) s.rest 0 room LINE_LIMIT body out (omega arith) h.1)
       | inr h ↦
           let some : 0 < s.size = is_some s.size h.0 in
           let d : DataIn s.size (room - s.size) s.k body s.rest out = data_in s.rest s.size (room - s.size) s.k body out some h.1 in
@@ -177,19 +178,19 @@ body_within true v out is = (refl, is)
 body_within false v out is = cc
 
 -- what was read is within the limit of framing
-framed_in : {bytes body : List ℕ} (s : SpelledIn body_limit [] bytes body) → nat_le (framing_in chunked_body bytes) framing_limit ≡ true → length (print_spelling s.m) ≤ length (content s.m) + framing_limit
+framed_in : {bytes body : List ℕ} (s : SpelledIn BODY_LIMIT [] bytes body) → nat_le (framing_in chunked_body bytes) FRAMING_LIMIT ≡ true → length (print_spelling s.m) ≤ length (content s.m) + FRAMING_LIMIT
 framed_in {bytes} {body} s within =
     let here : framing_in chunked_body bytes ≡ framing_in chunked_body (print_spelling s.m ++ s.rest) = ap (λ xs. framing_in chunked_body xs) s.text in
-    omega (arith, here, test_holds (framing_in chunked_body bytes) framing_limit within, spelling_counts s.m s.rest s.chunks s.last s.trailers s.few s.fits)
+    omega (arith, here, test_holds (framing_in chunked_body bytes) FRAMING_LIMIT within, spelling_counts s.m s.rest s.chunks s.last s.trailers s.few s.fits)
 
 pub read_is_spelled : (bytes body : List ℕ) (ended : Bool) → body_says chunked_body bytes ended ≡ Some (Ok body)
     → (m : Spelling) × IsSpelling m × (body ≡ content m) × ((rest : List ℕ) × (bytes ≡ print_spelling m ++ rest))
 read_is_spelled bytes body ended is =
-    let said : (nat_le (framing_in chunked_body bytes) framing_limit ≡ true) × (verdict (run chunked_body [] bytes).state.phase (run chunked_body [] bytes).body ended ≡ Some (Ok body))
-    = body_within (nat_le (framing_in chunked_body bytes) framing_limit) (verdict (run chunked_body [] bytes).state.phase (run chunked_body [] bytes).body ended) body is in
+    let said : (nat_le (framing_in chunked_body bytes) FRAMING_LIMIT ≡ true) × (verdict (run chunked_body [] bytes).state.phase (run chunked_body [] bytes).body ended ≡ Some (Ok body))
+    = body_within (nat_le (framing_in chunked_body bytes) FRAMING_LIMIT) (verdict (run chunked_body [] bytes).state.phase (run chunked_body [] bytes).body ended) body is in
     let done : ((run chunked_body [] bytes).state.phase ≡ Done) × ((run chunked_body [] bytes).body ≡ body)
     = said_done (run chunked_body [] bytes).state.phase (run chunked_body [] bytes).body body ended (run_kept chunked_body [] bytes refl) said.1 in
     let ends : Ends chunked_body [] bytes body
     = record { to = (run chunked_body [] bytes).state; runs = ap (λ b. reached (run chunked_body [] bytes).state b) done.1; done = done.0 } in
-    let s : SpelledIn body_limit [] bytes body = spelled_in (length bytes) bytes body_limit [] body (omega arith) ends in
+    let s : SpelledIn BODY_LIMIT [] bytes body = spelled_in (length bytes) bytes BODY_LIMIT [] body (omega arith) ends in
     (s.m, record { chunks = s.chunks; last = s.last; trailers = s.trailers; few = s.few; fits = s.fits; framed = framed_in s said.0 }, sym s.same, (s.rest, s.text))

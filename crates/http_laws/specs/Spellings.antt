@@ -4,7 +4,7 @@ use Rattle.std.specs.List.{flat_map}
 use Rattle.std.specs.Char.{is_ascii_hexdigit}
 use Rattle.httparse.specs.Ascii.{crlf_bytes}
 use Rattle.httparse.specs.Grammar.{AllPass, ChunkLine, IsExtension, chunk_size, print_chunk_line, is_ows, Field, IsField, LineEnd, print_section}
-use Rattle.wire_body.specs.Bodies.{body_limit, line_limit, framing_limit}
+use Rattle.wire_body.specs.declared.states.TheConstants.{BODY_LIMIT, FRAMING_LIMIT, LINE_LIMIT}
 
 -- a size line that writes this size in any number of digits, within its limit
 pub record IsSizeLine (l : ChunkLine) (size : ℕ) : Type 0 where
@@ -12,7 +12,7 @@ pub record IsSizeLine (l : ChunkLine) (size : ℕ) : Type 0 where
   pub hex : AllPass is_ascii_hexdigit l.digits
   pub pad : AllPass is_ows l.pad
   pub extension : IsExtension l.extension
-  pub within : length (print_chunk_line l) ≤ line_limit
+  pub within : length (print_chunk_line l) ≤ LINE_LIMIT
   pub value : chunk_size l ≡ size
 
 -- a size line and the content behind it
@@ -51,6 +51,6 @@ pub record IsSpelling (m : Spelling) : Type 0 where
   pub chunks : AreChunks m.chunks
   pub last : IsSizeLine m.last 0
   pub trailers : All IsField m.trailers
-  pub few : length (print_section m.trailers m.end) ≤ line_limit
-  pub fits : length (content m) ≤ body_limit
-  pub framed : length (print_spelling m) ≤ length (content m) + framing_limit
+  pub few : length (print_section m.trailers m.end) ≤ LINE_LIMIT
+  pub fits : length (content m) ≤ BODY_LIMIT
+  pub framed : length (print_spelling m) ≤ length (content m) + FRAMING_LIMIT

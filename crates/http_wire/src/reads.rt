@@ -3,7 +3,7 @@ ghost use Rattle.std.specs.Prelude.{◌≡◌, ◌≢◌, ◌<◌, ◌≤◌, �
 ghost use Rattle.outside.specs.Causes.{HasCause};
 ghost use Rattle.outside.specs.Wires.{Hears};
 ghost use Rattle.http_head.specs.Phases.{Leads, IsOpen};
-ghost use Rattle.http_wire.specs.Messages.{head_limit, ReadsMessage, GotHead, Scans};
+ghost use Rattle.http_wire.specs.Messages.{ReadsMessage, GotHead, Scans};
 ghost use Rattle.http_wire.specs.Following.{Follows};
 
 use crate::heads::{Head, start_of};
@@ -36,7 +36,7 @@ fn look<H: Head>(alloc: Global, phase: HeadPhase, bytes: &[u8]) -> Result<Scan<H
     H::scan(alloc, bytes)
 }
 
-// Reads until a whole head is there: 16,384 bytes at most.
+// Reads until a whole head is there: `HEAD_LIMIT` bytes at most.
 fn read_head<H: Head, W: Wire>(alloc: Global, wire: &mut W) -> Result<Found<H>, HttpFault>
     ensures found { IfOk result (λ f. GotHead H.kind (W.talk wire.old) (W.talk wire.new) f.parts f.bytes.items f.len) }
     ensures refused { IfErr result (λ fault. ReadsMessage H.kind (W.talk wire.old) (W.talk wire.new) (Err fault)) }

@@ -1,5 +1,5 @@
 -- What is written is read again.
-use Rattle.wire_body.specs.Bodies.{body_limit}
+use Rattle.wire_body.specs.declared.states.TheConstants.{BODY_LIMIT}
 use Rattle.std.proofs.Common.{◌≡◌, ℕ, ◌≤◌, Bool, true, false, ◌&&◌, nat_lt, nat_le, le-leb, List, [], ◌∷◌, ◌++◌, reverse, length, refl, sym, ap, ◌∙◌, subst, arith, append_assoc, Option, Some, None}
 use Rattle.std.specs.Prelude.{if◌then◌else◌, codes, decimal, option_and_then}
 use Rattle.std.specs.List.{list_all}
@@ -28,7 +28,7 @@ use Rattle.std.proofs.lemmas.List.Folds.{list_all-append}
 use Rattle.http_head.specs.Requests.{ReadsRequestHead, request_by, request_with, method_named}
 use Rattle.http_head.specs.Responses.{ReadsResponseHead, response_by, response_with}
 use Rattle.http_write.specs.Texts.{method_text, optional, length_line, length_lines, old_lines, size_lines, request_lines, request_bytes, response_lines, response_bytes}
-use Rattle.http_write.specs.Again.{is_word, starts_shut, is_clean, is_clean_or_none, IsAsked, IsReadable, request_parts, IsAnswer, response_parts, framing_told}
+use Rattle.http_write.specs.Again.{is_word, starts_shut, is_clean, is_clean_or_none, IsAsked, IsReadableRequest, request_parts, IsReadableResponse, response_parts, framing_told}
 
 -- ---- values
 
@@ -159,10 +159,10 @@ optional_line : (name : List ℕ) (text : Option (List ℕ)) → is_token name �
 optional_line name None token clean = no_line
 optional_line name (Some text) token clean = one_line name text token clean
 
-sized_line : (body : List ℕ) → length body ≤ body_limit → are_headers (length_line body ∷ []) ≡ true
+sized_line : (body : List ℕ) → length body ≤ BODY_LIMIT → are_headers (length_line body ∷ []) ≡ true
 sized_line body small = one_line (codes "Content-Length") (decimal (length body)) length_name (digits_are_clean (decimal (length body)) (written_digits (length body) (omega arith)))
 
-method_line : (method : Method) (body : List ℕ) → length body ≤ body_limit → are_headers (length_lines method body) ≡ true
+method_line : (method : Method) (body : List ℕ) → length body ≤ BODY_LIMIT → are_headers (length_lines method body) ≡ true
 method_line Get body small = no_line
 method_line Post body small = sized_line body small
 method_line Other body small = no_line
@@ -171,7 +171,7 @@ old_line : (old : Bool) → are_headers (old_lines old) ≡ true
 old_line true = one_line (codes "X-WOPI-OldLock") [] old_name refl
 old_line false = no_line
 
-pub request_lines_sent : (host : List ℕ) (r : Request) → IsReadable host r → are_headers (request_lines host r) ≡ true
+pub request_lines_sent : (host : List ℕ) (r : Request) → IsReadableRequest host r → are_headers (request_lines host r) ≡ true
 request_lines_sent host r is =
     let old = old_line r.old_lock in
     let over = optional_line (codes "X-WOPI-Override") r.over over_name is.over in
@@ -182,14 +182,14 @@ request_lines_sent host r is =
     let first = one_line (codes "Host") host host_name (word_is_clean host is.to_host) in
     more_lines ((codes "Host", host) ∷ []) _ first (more_lines ((codes "Connection", codes "close") ∷ []) _ close tail)
 
-status_line : (status : ℕ) (body : List ℕ) → length body ≤ body_limit → are_headers (size_lines status body) ≡ true
+status_line : (status : ℕ) (body : List ℕ) → length body ≤ BODY_LIMIT → are_headers (size_lines status body) ≡ true
 status_line status body small = by (is_bodiless status)
   where
     by : (b : Bool) → are_headers (if b then [] else (length_line body ∷ [])) ≡ true
     by true = no_line
     by false = sized_line body small
 
-pub response_lines_sent : (r : Response) → IsAnswer r → are_headers (response_lines r) ≡ true
+pub response_lines_sent : (r : Response) → IsReadableResponse r → are_headers (response_lines r) ≡ true
 response_lines_sent r is =
     let lock = optional_line (codes "X-WOPI-Lock") r.lock lock_name is.lock in
     let tail = more_lines (size_lines r.status r.body) (optional (codes "X-WOPI-Lock") r.lock) (status_line r.status r.body is.body) lock in
@@ -256,7 +256,7 @@ parts_said method target lines m lock over old framing named framed has_lock has
     ap (option_map (request_with method target lines)) framed
     ∙ (λ i. Some (record { method = named i; target = target; lock = lock_shown i; over = over_shown i; old_lock = has_old i; framing = framing }))
 
-pub request_said_again : (host : List ℕ) (r : Request) → IsReadable host r → request_by (method_text r.method) r.target (request_lines host r) ≡ Some (request_parts r)
+pub request_said_again : (host : List ℕ) (r : Request) → IsReadableRequest host r → request_by (method_text r.method) r.target (request_lines host r) ≡ Some (request_parts r)
 request_said_again host r is = by r.method is.asked
   where
     by : (m : Method) → IsAsked m r.body
@@ -299,7 +299,7 @@ method_is_token Get = refl
 method_is_token Post = refl
 method_is_token Other = refl
 
-pub request_again : (host : List ℕ) (r : Request) (rest : List ℕ) → IsReadable host r → ReadsRequestHead (request_bytes host r ++ rest) (request_parts r) (r.body ++ rest)
+pub request_again : (host : List ℕ) (r : Request) (rest : List ℕ) → IsReadableRequest host r → ReadsRequestHead (request_bytes host r ++ rest) (request_parts r) (r.body ++ rest)
 request_again host r rest is =
     let lines = request_lines host r in
     let target = and_parts (nat_lt 0 (length r.target)) (list_all is_ascii_graphic r.target) is.target in
@@ -333,7 +333,7 @@ answer_said status lines lock framing framed has_lock clean =
     let lock_shown = ap (option_map shown) has_lock ∙ shown_as_it_is lock clean in
     ap (option_map (response_with status lines)) framed ∙ (λ i. Some (record { status = status; lock = lock_shown i; framing = framing }))
 
-pub response_said_again : (r : Response) → IsAnswer r → response_by r.status (response_lines r) ≡ Some (response_parts r)
+pub response_said_again : (r : Response) → IsReadableResponse r → response_by r.status (response_lines r) ≡ Some (response_parts r)
 response_said_again r is = answer_said r.status (response_lines r) r.lock (if is_bodiless r.status then Empty else Sized (length r.body)) (framed (is_bodiless r.status)) (has_lock (is_bodiless r.status)) is.lock
   where
     framed : (b : Bool) → option_and_then (λ f. Some (if b then Empty else f)) (said_framing (said_together Nothing (lines_said ((if b then [] else (length_line r.body ∷ [])) ++ optional (codes "X-WOPI-Lock") r.lock)))) ≡ Some (if b then Empty else Sized (length r.body))
@@ -353,7 +353,7 @@ few_sizes status body = by (is_bodiless status)
     by true = omega arith
     by false = omega arith
 
-pub response_again : (r : Response) (rest : List ℕ) → IsAnswer r → ReadsResponseHead (response_bytes r ++ rest) (response_parts r) (r.body ++ rest)
+pub response_again : (r : Response) (rest : List ℕ) → IsReadableResponse r → ReadsResponseHead (response_bytes r ++ rest) (response_parts r) (r.body ++ rest)
 response_again r rest is =
     let lines = response_lines r in
     let sent = response_lines_sent r is in

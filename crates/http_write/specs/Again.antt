@@ -1,5 +1,5 @@
 -- Which requests and responses are read again from what is written of them.
-use Rattle.wire_body.specs.Bodies.{body_limit}
+use Rattle.wire_body.specs.declared.states.TheConstants.{BODY_LIMIT}
 use Rattle.std.specs.Prelude.{ℕ, ◌≡◌, ◌≤◌, Bool, true, not, ◌&&◌, ◌==◌, nat_lt, List, [], ◌∷◌, reverse, length, Option, Some, None, if◌then◌else◌}
 use Rattle.std.specs.List.{list_all}
 use Rattle.std.specs.Char.{is_ascii_graphic}
@@ -45,25 +45,25 @@ framing_told Post body = Sized (length body)
 framing_told Other body = Empty
 
 -- a request that is read again
-pub record IsReadable (host : List ℕ) (r : Request) : Type 0 where
+pub record IsReadableRequest (host : List ℕ) (r : Request) : Type 0 where
   pub asked : IsAsked r.method r.body
   pub to_host : is_word host ≡ true
   pub target : is_word r.target ≡ true
   pub lock : is_clean_or_none r.lock ≡ true
   pub over : is_clean_or_none r.over ≡ true
-  pub body : length r.body ≤ body_limit
+  pub body : length r.body ≤ BODY_LIMIT
 
 -- what its head says
 abbrev pub request_parts : Request → RequestParts
 request_parts r = record { method = r.method; target = r.target; lock = r.lock; over = r.over; old_lock = r.old_lock; framing = framing_told r.method r.body }
 
 -- a response that is read again
-pub record IsAnswer (r : Response) : Type 0 where
+pub record IsReadableResponse (r : Response) : Type 0 where
   pub low : 100 ≤ r.status
   pub high : r.status ≤ 999
   pub lock : is_clean_or_none r.lock ≡ true
   pub bodiless : is_bodiless r.status ≡ true → r.body ≡ []
-  pub body : length r.body ≤ body_limit
+  pub body : length r.body ≤ BODY_LIMIT
 
 -- what its head says
 abbrev pub response_parts : Response → ResponseParts

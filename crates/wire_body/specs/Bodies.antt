@@ -6,28 +6,16 @@ use Rattle.httparse.specs.Ascii.{line_feed, carriage_return, colon, semicolon}
 use Rattle.outside.specs.declared.faults.WireFault.{WireFault}
 use Rattle.outside.specs.declared.faults.WireFault.TheVariants.{BodyTooLong, BadChunk, CutOff}
 use Rattle.wire_body.specs.declared.states.BodyState.{BodyState}
+use Rattle.wire_body.specs.declared.states.TheConstants.{BODY_LIMIT, FRAMING_LIMIT, LINE_LIMIT}
 use Rattle.wire_body.specs.declared.states.Phase.{Phase}
 use Rattle.wire_body.specs.declared.states.Phase.TheVariants.{Counted, Open, Full, Size, Digits, Pad, Extension, SizeEnd, Data, DataEnd, DataFeed, Trailer, Name, Value, ValueEnd, LastEnd, Done, TooLong, Bad}
-
--- how many bytes a body has at most
-abbrev pub body_limit : ℕ
-body_limit = 67108864
-
--- how many bytes the line of a chunk's size has at most, its end included, and all trailers together
-abbrev pub line_limit : ℕ
-line_limit = 16384
 
 abbrev pub in_phase : Phase → BodyState → BodyState
 in_phase phase s = record s { phase = phase }
 
--- how many bytes of a body in chunks are framing at most: all that are no content, as the lines of
--- sizes with their extensions, the line ends behind content, and the trailers
-abbrev pub framing_limit : ℕ
-framing_limit = 67108864
-
 -- at the first byte of a line, or of the trailers
 abbrev pub on_new_line : Phase → BodyState → BodyState
-on_new_line phase s = record s { phase = phase; left = 0; line = line_limit }
+on_new_line phase s = record s { phase = phase; left = 0; line = LINE_LIMIT }
 
 -- a body that isn't there
 abbrev pub no_body : BodyState
@@ -37,16 +25,16 @@ no_body = record { phase = Done; left = 0; room = 0; line = 0 }
 abbrev pub body_of : ℕ → BodyState
 body_of len =
     if len == 0 then no_body
-    else if nat_le len body_limit then record { phase = Counted; left = len; room = 0; line = 0 }
+    else if nat_le len BODY_LIMIT then record { phase = Counted; left = len; room = 0; line = 0 }
     else record { phase = TooLong; left = 0; room = 0; line = 0 }
 
 -- a body in chunks
 abbrev pub chunked_body : BodyState
-chunked_body = record { phase = Size; left = 0; room = body_limit; line = line_limit }
+chunked_body = record { phase = Size; left = 0; room = BODY_LIMIT; line = LINE_LIMIT }
 
 -- a body that has all bytes to the end of the wire
 abbrev pub open_body : BodyState
-open_body = record { phase = Open; left = body_limit; room = 0; line = 0 }
+open_body = record { phase = Open; left = BODY_LIMIT; room = 0; line = 0 }
 
 -- this byte and no other goes on
 abbrev pub expects : ℕ → BodyState → BodyState → ℕ → BodyState
@@ -178,7 +166,7 @@ verdict _ body ended = if ended then Some (Err CutOff) else None
 
 -- the same behind so much framing, which makes the chunks bad where it is past its limit
 abbrev pub verdict_behind : ℕ → Phase → List ℕ → Bool → Option (Result (List ℕ) WireFault)
-verdict_behind framing phase body ended = if nat_le framing framing_limit then verdict phase body ended else Some (Err BadChunk)
+verdict_behind framing phase body ended = if nat_le framing FRAMING_LIMIT then verdict phase body ended else Some (Err BadChunk)
 
 -- what the bytes of a body say
 abbrev pub body_says : BodyState → List ℕ → Bool → Option (Result (List ℕ) WireFault)

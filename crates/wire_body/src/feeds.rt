@@ -1,6 +1,7 @@
 // A piece of a body: its content by blocks, all else byte by byte.
 ghost use Rattle.std.specs.Prelude.{◌≡◌, ◌<◌, ◌≤◌, ◌++◌, [], ◌∷◌, List, ℕ, length, drop, take, min, max, true, false, if◌then◌else◌, IfOk, ◌+◌};
-ghost use Rattle.wire_body.specs.Bodies.{run, reached, is_content, behind, taken, framing_at, framing_in, framing_limit};
+ghost use Rattle.wire_body.specs.Bodies.{run, reached, is_content, behind, taken, framing_at, framing_in};
+ghost use Rattle.wire_body.specs.declared.states.TheConstants.{FRAMING_LIMIT};
 
 use crate::states::{BodyState, Phase};
 use cool_base::Memory;
@@ -47,7 +48,7 @@ fn feed_front(
 // Takes the piece, adds its content to the body, and counts its framing. The time is linear in the
 // piece.
 pub fn feed(start: Progress, body: &mut Vec<u8>, piece: &[u8]) -> Result<Progress, Memory>
-    requires { start.framing ≤ framing_limit }
+    requires { start.framing ≤ FRAMING_LIMIT }
     ensures leads { IfOk result (λ to. run start.state body.old.items piece.now ≡ reached to.state body.new.items) }
     ensures counts { IfOk result (λ to. to.framing ≡ start.framing + framing_in start.state piece.now) }
 {

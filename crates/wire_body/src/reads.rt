@@ -2,7 +2,7 @@
 ghost use Rattle.std.specs.Prelude.{◌≡◌, ◌≢◌, ◌<◌, ◌≤◌, ◌++◌, [], ℕ, List, Bool, true, false, length, Some, None, Err, IfOk, not, ◌||◌, nat_le};
 ghost use Rattle.outside.specs.Causes.{HasCause};
 ghost use Rattle.outside.specs.Wires.{Hears};
-ghost use Rattle.wire_body.specs.Bodies.{run, is_final, verdict_behind, reached, framing_in, framing_limit};
+ghost use Rattle.wire_body.specs.Bodies.{run, is_final, verdict_behind, reached, framing_in};
 ghost use Rattle.wire_body.specs.Reads.{IsSaid, ReadsBody};
 
 use crate::faults::HttpFault;
@@ -12,12 +12,12 @@ use bytes::Bytes;
 use outside::{ReadStep, Wire, WireFault};
 use std::alloc::Global;
 
-// How many bytes are received at once, at most.
-const PIECE: usize = 4096;
+/// How many bytes are received at once, at most.
+pub const PIECE_LIMIT: usize = 4096;
 
 // Whether the bytes say something without the wire's end.
 fn is_said(place: Progress) -> bool
-    ensures { result ≡ not (nat_le place.framing framing_limit) || is_final place.state.phase }
+    ensures { result ≡ not (nat_le place.framing FRAMING_LIMIT) || is_final place.state.phase }
 {
     place.framing > FRAMING_LIMIT || place.state.phase.is_final()
 }
@@ -41,8 +41,8 @@ fn answer_of(place: Progress, body: Vec<u8>, ended: bool) -> Result<Bytes, HttpF
 
 /// Reads a body that begins in the given state, of which the bytes in `front` have come already. Where
 /// its bytes are past a limit or not in the grammar, that is the answer as soon as they say so:
-/// BodyTooLong past 67,108,864 bytes of content, BadChunk past 67,108,864 bytes of framing, or past
-/// 16,384 in the line of a size or in all trailers.
+/// BodyTooLong past `BODY_LIMIT` bytes of content, BadChunk past `FRAMING_LIMIT` bytes of framing, or
+/// past `LINE_LIMIT` in the line of a size or in all trailers.
 pub fn read_body<W: Wire>(
     alloc: Global,
     wire: &mut W,
@@ -58,7 +58,7 @@ pub fn read_body<W: Wire>(
         framing: 0,
     };
     let mut place = feed(begun, &mut body, front)?;
-    let mut room = [0u8; PIECE];
+    let mut room = [0u8; PIECE_LIMIT];
     while !is_said(place) {
         match wire.receive(&mut room) {
             ReadStep::Read(count) => place = feed(place, &mut body, &room[..count])?,

@@ -63,4 +63,4 @@ pub const LINE_LIMIT: u32 = 16_384;
 
 /// How many bytes of a body in chunks are framing at most, that is all that are no content: the lines
 /// of sizes with their extensions, the line ends behind content, and the trailers.
-pub const FRAMING_LIMIT: usize = 67_108_864;
+pub const FRAMING_LIMIT: usize = BODY_LIMIT as usize;

@@ -323,6 +323,7 @@ impl<D: Dial> Store for WopiStore<D> {
         // It checks the file.
         ensures asked { AskedOnce (host_of self.old) (Ask.Check file.now token.now) (D.told (dial_of self.old)) (D.told (dial_of self.new)) (info_told result) }
         ensures host { host_of self.new ≡ host_of self.old }
+        ensures away { D.away (dial_of self.new) ≡ D.away (dial_of self.old) }
     {
         self.check_file_info(alloc, file, token)
     }
@@ -340,6 +341,7 @@ impl<D: Dial> Store for WopiStore<D> {
         // It locks the file where it is to be written, and gets it.
         ensures asked { FetchesBy (host_of self.old) file.now token.now write (D.told (dial_of self.old)) (D.told (dial_of self.new)) (content_told result) }
         ensures host { host_of self.new ≡ host_of self.old }
+        ensures away { D.away (dial_of self.new) ≡ D.away (dial_of self.old) }
     {
         if write {
             self.lock_and_get(alloc, file, token)
@@ -356,6 +358,7 @@ impl<D: Dial> Store for WopiStore<D> {
         // It locks the file and puts the content.
         ensures asked { PutsBy (host_of self.old) errand.now (D.told (dial_of self.old)) (D.told (dial_of self.new)) (done_told result) }
         ensures host { host_of self.new ≡ host_of self.old }
+        ensures away { D.away (dial_of self.new) ≡ D.away (dial_of self.old) }
     {
         self.lock_and_put(alloc, errand)
     }
@@ -367,6 +370,7 @@ impl<D: Dial> Store for WopiStore<D> {
         // It refreshes the lock.
         ensures asked { AskedOnce (host_of self.old) (Ask.Refresh file.now token.now) (D.told (dial_of self.old)) (D.told (dial_of self.new)) (done_told result) }
         ensures host { host_of self.new ≡ host_of self.old }
+        ensures away { D.away (dial_of self.new) ≡ D.away (dial_of self.old) }
     {
         self.refresh_lock(alloc, file, token)
     }
@@ -378,6 +382,7 @@ impl<D: Dial> Store for WopiStore<D> {
         // It takes the lock away.
         ensures asked { AskedOnce (host_of self.old) (Ask.Unlock file.now token.now) (D.told (dial_of self.old)) (D.told (dial_of self.new)) (done_told result) }
         ensures host { host_of self.new ≡ host_of self.old }
+        ensures away { D.away (dial_of self.new) ≡ D.away (dial_of self.old) }
     {
         self.unlock(alloc, file, token)
     }

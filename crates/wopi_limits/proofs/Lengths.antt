@@ -10,9 +10,9 @@ use Rattle.http1.specs.Fields.{Header}
 use Rattle.http1.specs.Head.{print_header, print_headers, request_text}
 use Rattle.http1.proofs.HeadLemmas.{request_text_is, length-section_text}
 use Rattle.cool_base.specs.Words.{is_file_character, is_token_byte, is_file_id, is_token}
-use Rattle.http_wire.specs.Messages.{head_limit}
+use Rattle.http_head.specs.declared.TheConstants.{HEAD_LIMIT}
 use Rattle.http_write.specs.Texts.{request_head}
-use Rattle.wire_body.specs.Bodies.{body_limit}
+use Rattle.wire_body.specs.declared.states.TheConstants.{BODY_LIMIT}
 use Rattle.wopi_client.specs.declared.asks.Ask.{Ask}
 use Rattle.wopi_client.specs.declared.asks.Ask.TheVariants as Asks
 use Rattle.wopi_client.specs.Asks.{file_target, contents_target, lock_id, getting, request_for}
@@ -40,7 +40,7 @@ line_few {hs} {s} name value n v a b rest =
     let few : length (print_headers ((name, value) ∷ hs)) ≤ n + v + 4 + s = omega (arith, one, line_length name value, a, b, rest.few) in
     record { few = few }
 
-head_small : {hs : List Header} {s : ℕ} (method target : List ℕ) (m t : ℕ) → length method ≤ m → length target ≤ t → Few hs s → m + t + 14 + s ≤ head_limit → length (request_text method target 1 hs) ≤ head_limit
+head_small : {hs : List Header} {s : ℕ} (method target : List ℕ) (m t : ℕ) → length method ≤ m → length target ≤ t → Few hs s → m + t + 14 + s ≤ HEAD_LIMIT → length (request_text method target 1 hs) ≤ HEAD_LIMIT
 head_small {hs} {s} method target m t a b lines within =
     let tail : List ℕ = codes " HTTP/1." ++ ((48 + 1) ∷ 13 ∷ 10 ∷ []) in
     let line : List ℕ = method ++ (32 ∷ (target ++ tail)) in
@@ -52,15 +52,15 @@ head_small {hs} {s} method target m t a b lines within =
     let four : length (print_headers []) ≡ 0 = refl in
     omega (arith, text, one, two, three, four, a, b, lines.few, within)
 
-get_small : (host target : List ℕ) → length host ≤ 8192 → length target ≤ 2200 → length (request_head host (getting target)) ≤ head_limit
+get_small : (host target : List ℕ) → length host ≤ 8192 → length target ≤ 2200 → length (request_head host (getting target)) ≤ HEAD_LIMIT
 get_small host target a b =
     head_small (codes "GET") target 3 2200 (omega arith) b
     (line_few (codes "Host") host 4 8192 (omega arith) a
     (line_few (codes "Connection") (codes "close") 10 5 (omega arith) (omega arith) none_few))
     (omega arith)
 
-post_small : (host target lock over body : List ℕ) → length host ≤ 8192 → length target ≤ 2200 → length lock ≤ 70 → length over ≤ 12 → length body ≤ body_limit
-    → length (request_text (codes "POST") target 1 ((codes "Host", host) ∷ (codes "Connection", codes "close") ∷ (codes "Content-Length", decimal (length body)) ∷ (codes "X-WOPI-Lock", lock) ∷ (codes "X-WOPI-Override", over) ∷ [])) ≤ head_limit
+post_small : (host target lock over body : List ℕ) → length host ≤ 8192 → length target ≤ 2200 → length lock ≤ 70 → length over ≤ 12 → length body ≤ BODY_LIMIT
+    → length (request_text (codes "POST") target 1 ((codes "Host", host) ∷ (codes "Connection", codes "close") ∷ (codes "Content-Length", decimal (length body)) ∷ (codes "X-WOPI-Lock", lock) ∷ (codes "X-WOPI-Override", over) ∷ [])) ≤ HEAD_LIMIT
 post_small host target lock over body a b c d e =
     let digits : length (decimal (length body)) ≤ 8 = length-decimal-le 8 (length body) (omega arith) (omega (arith, e)) (omega (arith, e)) in
     head_small (codes "POST") target 4 2200 (omega arith) b
@@ -103,7 +103,7 @@ lock_small file token is =
     let one : length (codes "cool-") ≡ 5 = refl in
     omega (arith, one, length-append (codes "cool-") file, file_few file is.0)
 
-pub small : (host : List ℕ) (ask : Ask) → length host ≤ 8192 → IsSound ask → length (request_head host (request_for ask)) ≤ head_limit
+pub small : (host : List ℕ) (ask : Ask) → length host ≤ 8192 → IsSound ask → length (request_head host (request_for ask)) ≤ HEAD_LIMIT
 small host (Asks.Check file token) a is = get_small host (file_target file token) a (file_small file token is)
 small host (Asks.Get file token) a is = get_small host (contents_target file token) a (contents_small file token is)
 small host (Asks.Lock file token) a is = post_small host (file_target file token) (lock_id file) (codes "LOCK") [] a (file_small file token is) (lock_small file token is) (omega arith) (omega arith)

@@ -7,9 +7,9 @@ use Rattle.std.proofs.lemmas.Bool.Decides.{nat_tests}
 use Rattle.std.proofs.lemmas.List.{length-append}
 use Rattle.std.proofs.lemmas.List.Folds.{list_all-append}
 use Rattle.cool_base.specs.Words.{is_file_character, is_token_byte, is_file_id, is_token}
-use Rattle.http_write.specs.Again.{IsReadable, is_word, is_clean}
+use Rattle.http_write.specs.Again.{IsReadableRequest, is_word, is_clean}
 use Rattle.http_write.proofs.Again.{wider, word_is_clean}
-use Rattle.wire_body.specs.Bodies.{body_limit}
+use Rattle.wire_body.specs.declared.states.TheConstants.{BODY_LIMIT}
 use Rattle.wopi_client.specs.declared.asks.Ask.{Ask}
 use Rattle.wopi_client.specs.declared.asks.Ask.TheVariants as Asks
 use Rattle.wopi_client.specs.Asks.{file_target, contents_target, lock_id, getting, posting, request_for}
@@ -57,14 +57,14 @@ lock_clean file token is =
     let some : 0 < length (codes "cool-" ++ file) = omega (arith, length-append (codes "cool-") file) in
     word_is_clean (codes "cool-" ++ file) (word (codes "cool-" ++ file) some (both (codes "cool-") file refl (file_graphic file is.0)))
 
-get_readable : (host target : List ℕ) → is_word host ≡ true → is_word target ≡ true → IsReadable host (getting target)
+get_readable : (host target : List ℕ) → is_word host ≡ true → is_word target ≡ true → IsReadableRequest host (getting target)
 get_readable host target named is = record { asked = refl; to_host = named; target = is; lock = refl; over = refl; body = omega arith }
 
-post_readable : (host target file over body : List ℕ) → is_word host ≡ true → is_word target ≡ true → is_clean (lock_id file) ≡ true → is_clean over ≡ true → length body ≤ body_limit
-    → IsReadable host (posting target file over body)
+post_readable : (host target file over body : List ℕ) → is_word host ≡ true → is_word target ≡ true → is_clean (lock_id file) ≡ true → is_clean over ≡ true → length body ≤ BODY_LIMIT
+    → IsReadableRequest host (posting target file over body)
 post_readable host target file over body named is lock clean fits = record { asked = tt; to_host = named; target = is; lock = lock; over = clean; body = fits }
 
-pub readable : (host : List ℕ) (ask : Ask) → is_word host ≡ true → IsSound ask → IsReadable host (request_for ask)
+pub readable : (host : List ℕ) (ask : Ask) → is_word host ≡ true → IsSound ask → IsReadableRequest host (request_for ask)
 readable host (Asks.Check file token) named is = get_readable host (file_target file token) named (file_word file token is)
 readable host (Asks.Get file token) named is = get_readable host (contents_target file token) named (contents_word file token is)
 readable host (Asks.Lock file token) named is = post_readable host (file_target file token) file (codes "LOCK") [] named (file_word file token is) (lock_clean file token is) refl (omega arith)

@@ -1,7 +1,7 @@
 -- What may be asked.
 use Rattle.std.specs.Prelude.{ℕ, ◌≡◌, ◌≤◌, true, List, length}
 use Rattle.cool_base.specs.Words.{is_file_id, is_token}
-use Rattle.wire_body.specs.Bodies.{body_limit}
+use Rattle.wire_body.specs.declared.states.TheConstants.{BODY_LIMIT}
 use Rattle.wopi_client.specs.declared.asks.Ask.{Ask}
 use Rattle.wopi_client.specs.declared.asks.Ask.TheVariants as Asks
 
@@ -16,4 +16,4 @@ IsSound (Asks.Get file token) = IsNamed file token
 IsSound (Asks.Lock file token) = IsNamed file token
 IsSound (Asks.Refresh file token) = IsNamed file token
 IsSound (Asks.Unlock file token) = IsNamed file token
-IsSound (Asks.Put file token content) = IsNamed file token × (length content ≤ body_limit)
+IsSound (Asks.Put file token content) = IsNamed file token × (length content ≤ BODY_LIMIT)

@@ -1,13 +1,14 @@
-use Rattle.std.proofs.Common.{◌≡◌, ◌<◌, ◌≤◌, ◌++◌, ◌∙◌, false, length, take, drop, arith, ap, sym, subst, length-append, refl}
+use Rattle.std.proofs.Common.{◌≡◌, ◌<◌, ◌≤◌, ◌++◌, ◌∙◌, false, length, take, drop, arith, ap, sym, subst, length-append, refl, inl}
 use Rattle.std.proofs.lemmas.Result.{err_from_is_err_and}
 use Rattle.std.proofs.lemmas.Grind.{common_steps}
 use Rattle.outside.specs.Wires.{Hears}
 use Rattle.outside.proofs.Talks.{hears_nothing, hears_more}
 use Rattle.http_head.specs.Phases.{Leads}
-use Rattle.http_wire.specs.Messages.{head_limit}
+use Rattle.http_head.specs.declared.TheConstants.{HEAD_LIMIT}
 use Rattle.http_wire.specs.Following.{Follows}
+use Rattle.wire_body.proofs.Gathers.{piece_small}
 use Rattle.http_wire.proofs.Phases.{follows_none, follows_more, piece_is, piece_leads}
-use Rattle.http_wire.proofs.Joins.{refused_answer, longer_answer, cut_answer, fault_answer, piece_memory_answer, scan_refused, scan_begun}
+use Rattle.http_wire.proofs.Joins.{begun_late, refused_answer, longer_answer, cut_answer, fault_answer, piece_memory_answer, scan_refused, scan_begun}
 use Rattle.http_wire.proofs.reads.read_head.Goals as goal
 
 pub loop-bytes-init : goal.loop-bytes-init
@@ -20,6 +21,7 @@ loop-bytes-init g c =
           follows_none g.H.Head.kind c.new-bytes.result.items c.first_phase-phase.result
           c.first_phase-phase.ensures none;
       within = omega (arith, ap length none);
+      late = inl none;
       no_fault = refl;
     }
 
@@ -47,6 +49,14 @@ loop-bytes-preserved g c =
       within =
           let long = ap length grown ∙ length-append bytes piece in
           grind (arith, common_steps);
+      late =
+          begun_late g.H.Head.kind bytes piece c.extend_from_slice.new.self.items
+          (grind (arith, common_steps))
+          (scan_begun g.H.Head.kind c.deref.result.now bytes c.in_ok-parts.field-0
+          c.in_ok-parts.ensures c.in-Begun.is c.deref.ensures.value)
+          (piece_small c.in-Read.count c.receive.new.into c.in-Read.ensures.receives.1
+          (grind (arith, common_steps)))
+          grown;
       no_fault = c.in-Read.ensures.cause.kept (λ is. cc) ∙ c.loop-bytes.invariant.no_fault;
     }
 
@@ -59,13 +69,15 @@ pub returns-in-NoHead-clause-refused : goal.returns-in-NoHead-clause-refused
 returns-in-NoHead-clause-refused g c =
     refused_answer g.H.Head.kind (g.W.Wire.talk c.args.wire.now) (g.W.Wire.talk c.loop-bytes.wire) c.loop-bytes.bytes.items c.loop-bytes.invariant.heard c.loop-bytes.invariant.within
     (scan_refused g.H.Head.kind c.deref.result.now c.loop-bytes.bytes.items c.in_ok-parts.field-0 c.in_ok-parts.ensures c.in-NoHead.is c.deref.ensures.value)
+    c.loop-bytes.invariant.late
 
 pub returns-then-len-ge-HEAD_LIMIT-clause-refused :
     goal.returns-then-len-ge-HEAD_LIMIT-clause-refused
 returns-then-len-ge-HEAD_LIMIT-clause-refused g c =
-    let full : head_limit ≤ length c.loop-bytes.bytes.items = grind (arith, common_steps) in
+    let full : HEAD_LIMIT ≤ length c.loop-bytes.bytes.items = grind (arith, common_steps) in
     longer_answer g.H.Head.kind (g.W.Wire.talk c.args.wire.now) (g.W.Wire.talk c.loop-bytes.wire) c.loop-bytes.bytes.items c.loop-bytes.invariant.heard c.loop-bytes.invariant.within full
     (scan_begun g.H.Head.kind c.deref.result.now c.loop-bytes.bytes.items c.in_ok-parts.field-0 c.in_ok-parts.ensures c.in-Begun.is c.deref.ensures.value)
+    c.loop-bytes.invariant.late
 
 pub returns-in_err-extend_from_slice-in-Read-clause-refused :
     goal.returns-in_err-extend_from_slice-in-Read-clause-refused
@@ -76,12 +88,14 @@ returns-in_err-extend_from_slice-in-Read-clause-refused g c =
 
 pub returns-in-End-clause-refused : goal.returns-in-End-clause-refused
 returns-in-End-clause-refused g c =
-    let less : length c.loop-bytes.bytes.items < head_limit = grind (arith, common_steps) in
+    let less : length c.loop-bytes.bytes.items < HEAD_LIMIT = grind (arith, common_steps) in
     cut_answer g.H.Head.kind (g.W.Wire.talk c.args.wire.now) (g.W.Wire.talk c.loop-bytes.wire) (g.W.Wire.talk c.receive.new.self) c.loop-bytes.bytes.items c.loop-bytes.invariant.heard c.in-End.ensures.receives less
     (scan_begun g.H.Head.kind c.deref.result.now c.loop-bytes.bytes.items c.in_ok-parts.field-0 c.in_ok-parts.ensures c.in-Begun.is c.deref.ensures.value)
+    c.loop-bytes.invariant.late
 
 pub returns-in-Failed-clause-refused : goal.returns-in-Failed-clause-refused
 returns-in-Failed-clause-refused g c =
-    let less : length c.loop-bytes.bytes.items < head_limit = grind (arith, common_steps) in
+    let less : length c.loop-bytes.bytes.items < HEAD_LIMIT = grind (arith, common_steps) in
     fault_answer g.H.Head.kind (g.W.Wire.talk c.args.wire.now) (g.W.Wire.talk c.loop-bytes.wire) (g.W.Wire.talk c.receive.new.self) c.loop-bytes.bytes.items c.loop-bytes.invariant.heard c.in-Failed.ensures.receives less
     (scan_begun g.H.Head.kind c.deref.result.now c.loop-bytes.bytes.items c.in_ok-parts.field-0 c.in_ok-parts.ensures c.in-Begun.is c.deref.ensures.value)
+    c.loop-bytes.invariant.late
