@@ -33,7 +33,7 @@ use Rattle.part_calc.proofs.DependantLaws.{shown_apart}
 -- ---- texts and the cells that have one
 
 -- a cell that isn't listed has no text
-no_text : (part : Part) (p : Position) → is_listed (keys_of part) p ≡ false → text_at part p ≡ []
+pub no_text : (part : Part) (p : Position) → is_listed (keys_of part) p ≡ false → text_at part p ≡ []
 unfolding text_at
 no_text part p none = by (lookup (is_at (position_cmp p)) part) (is_some-lookup (is_at (position_cmp p)) part ∙ none)
   where
@@ -42,7 +42,7 @@ no_text part p none = by (lookup (is_at (position_cmp p)) part) (is_some-lookup 
     by None e = refl
 
 -- a formula's cell has a text
-formula_texted : (part : Part) (p : Position) → is_formula (content_at part p) ≡ true → is_listed (keys_of part) p ≡ true
+pub formula_texted : (part : Part) (p : Position) → is_formula (content_at part p) ≡ true → is_listed (keys_of part) p ≡ true
 formula_texted part p is =
     ⊎_elim (λ (e : is_listed (keys_of part) p ≡ true). e)
     (λ (e : is_listed (keys_of part) p ≡ false).
