@@ -9,9 +9,9 @@ use Rattle.std.specs.Option.{is_some}
 use Rattle.std.specs.Ordering.{nat_cmp, ordering_then, ordering_reverse, is_eq, is_lt, is_le, is_gt}
 use Rattle.std.specs.declared.cmp.Ordering.{Ordering}
 use Rattle.std.specs.declared.cmp.Ordering.TheVariants.{Less, Equal, Greater}
-use Rattle.std.specs.declared.ops.bounds.Bound.TheVariants.{Included, Excluded}
+use Rattle.std.specs.declared.ops.Bound.TheVariants.{Included, Excluded}
 use Rattle.std.proofs.lemmas.Bool.{both_ways, cases_Bool, or_cases, or_left, or_right, and_parts, and_from, cond-true, cond-false}
-use Rattle.std.proofs.lemmas.List.{map-append}
+use Rattle.std.proofs.lemmas.List.{map-append, append-nil}
 use Rattle.std.proofs.lemmas.List.Elements.{filter-append}
 use Rattle.std.proofs.lemmas.List.Folds.{list_any-append, list_all-append, list_all-map}
 use Rattle.std.proofs.lemmas.List.Kept.{IsStrictlySortedBy-filter}
@@ -20,7 +20,7 @@ use Rattle.formula_base.specs.declared.values.Value.TheVariants.{Empty, Fault}
 use Rattle.formula_base.specs.declared.values.CellFault.TheVariants.{Circ}
 use Rattle.formula_base.specs.declared.expressions.Expr.{Expr}
 use Rattle.formula_base.specs.Blocks.{Block, is_within, blocks_of}
-use Rattle.formula_base.specs.Evaluation.{reads_of}
+use Rattle.formula_base.specs.Evaluation.{eval_of, reads_of}
 use Rattle.formula_base.specs.Gathering.{is_filled}
 use Rattle.formula_base.specs.Ranges.{Position, position_cmp, cells_between}
 use Rattle.formula_base.proofs.BlockLaws.{between, one_cell}
@@ -31,13 +31,64 @@ use Rattle.part_calc.specs.declared.ranges.Stretch.{Stretch}
 use Rattle.part_calc.specs.Contents.{content_of, is_formula}
 use Rattle.part_calc.specs.Finding.{Known, seen_in, seen_at, look_at, is_listed}
 use Rattle.part_calc.specs.Parts.{Part, text_at, with_text, content_at}
-use Rattle.part_calc.specs.Present.{first_of, last_of, within, stretched, is_entry_seen, entry_value}
+use Rattle.part_calc.specs.Present.{first_of, last_of, whole, before, behind, within, stretched, is_entry_seen, entry_value}
 use Rattle.part_calc.proofs.ChangeLaws.{no_text, formula_texted, texted_before}
 use Rattle.part_calc.proofs.FindLaws.{is_seen_plain, look_empty}
 use Rattle.part_calc.proofs.KnowLaws.{read_within}
 use Rattle.part_calc.proofs.ListLaws.{listed_filter, same_filters, above_more}
 use Rattle.part_calc.proofs.PositionLaws.{positions_total, at_itself, at_one, at_flip, at_other}
 use Rattle.part_calc.proofs.TextLaws.{empty_at, text_same, text_other}
+
+-- ---- cell by cell
+
+-- a cell of the block
+within_taken : (b : Block) (e : Position × List ℕ) (s t : Part) → s ≡ e ∷ t → true ≡ is_within e.0 b → within b s ≡ e ∷ within b t
+within_taken b e s t is inside = ap (within b) is ∙ ap (λ (u : Bool). cond u (e ∷ within b t) (within b t)) (sym inside)
+
+-- and another
+within_passed : (b : Block) (e : Position × List ℕ) (s t : Part) → s ≡ e ∷ t → false ≡ is_within e.0 b → within b s ≡ within b t
+within_passed b e s t is out = ap (within b) is ∙ ap (λ (u : Bool). cond u (e ∷ within b t) (within b t)) (sym out)
+
+-- the values of entries that aren't Empty
+abbrev pub filled_of : Known → Part → List Value
+filled_of known es = filter is_filled (map (entry_value known) es)
+
+pub value_taken : (known : Known) (b : Block) (e : Position × List ℕ) (s t : Part) (first after all : List Value) → first ++ filled_of known (within b s) ≡ all → s ≡ e ∷ t → true ≡ is_within e.0 b → after ≡ first ++ filter is_filled (entry_value known e ∷ []) → after ++ filled_of known (within b t) ≡ all
+value_taken known b e s t first after all told is inside more =
+    ap (λ (vs : List Value). vs ++ filled_of known (within b t)) more
+    ∙ append_assoc first (filter is_filled (entry_value known e ∷ [])) (filled_of known (within b t))
+    ∙ ap (λ (vs : List Value). first ++ vs) (sym (filter-append is_filled (entry_value known e ∷ []) (map (entry_value known) (within b t))))
+    ∙ ap (λ (u : Part). first ++ filled_of known u) (sym (within_taken b e s t is inside))
+    ∙ told
+
+pub value_passed : (known : Known) (b : Block) (e : Position × List ℕ) (s t : Part) (first all : List Value) → first ++ filled_of known (within b s) ≡ all → s ≡ e ∷ t → false ≡ is_within e.0 b → first ++ filled_of known (within b t) ≡ all
+value_passed known b e s t first all told is out =
+    ap (λ (u : Part). first ++ filled_of known u) (sym (within_passed b e s t is out)) ∙ told
+
+pub values_end : (known : Known) (b : Block) (s : Part) (first all : List Value) → first ++ filled_of known (within b s) ≡ all → s ≡ [] → first ≡ all
+values_end known b s first all told none =
+    sym (append-nil first) ∙ ap (λ (u : Part). first ++ filled_of known (within b u)) (sym none) ∙ told
+
+pub seen_passed : (known : Known) (b : Block) (e : Position × List ℕ) (s t : Part) (all : Bool) → list_all (is_entry_seen known) (within b s) ≡ all → s ≡ e ∷ t → true ≡ (not (is_within e.0 b) || is_entry_seen known e) → list_all (is_entry_seen known) (within b t) ≡ all
+seen_passed known b e s t all told is passed = by (is_within e.0 b) refl
+  where
+    by : (w : Bool) → is_within e.0 b ≡ w → list_all (is_entry_seen known) (within b t) ≡ all
+    by true inside =
+        ap (λ (u : Bool). u && list_all (is_entry_seen known) (within b t)) (passed ∙ ap (λ (u : Bool). not u || is_entry_seen known e) inside)
+        ∙ ap (list_all (is_entry_seen known)) (sym (within_taken b e s t is (sym inside))) ∙ told
+    by false out = ap (list_all (is_entry_seen known)) (sym (within_passed b e s t is (sym out))) ∙ told
+
+pub seen_stopped : (known : Known) (b : Block) (e : Position × List ℕ) (s t : Part) (all : Bool) → list_all (is_entry_seen known) (within b s) ≡ all → s ≡ e ∷ t → false ≡ (not (is_within e.0 b) || is_entry_seen known e) → false ≡ all
+seen_stopped known b e s t all told is stopped = by (is_within e.0 b) refl
+  where
+    by : (w : Bool) → is_within e.0 b ≡ w → false ≡ all
+    by true inside =
+        ap (λ (u : Bool). u && list_all (is_entry_seen known) (within b t)) (stopped ∙ ap (λ (u : Bool). not u || is_entry_seen known e) inside)
+        ∙ ap (list_all (is_entry_seen known)) (sym (within_taken b e s t is (sym inside))) ∙ told
+    by false out = absurd (both_ways true (sym (stopped ∙ ap (λ (u : Bool). not u || is_entry_seen known e) out)) refl)
+
+pub seen_end : (known : Known) (b : Block) (s : Part) (all : Bool) → list_all (is_entry_seen known) (within b s) ≡ all → s ≡ [] → true ≡ all
+seen_end known b s all told none = ap (λ (u : Part). list_all (is_entry_seen known) (within b u)) (sym none) ∙ told
 
 -- ---- tests of cells in lists
 
@@ -87,13 +138,25 @@ listed_flat (b ∷ blocks) p =
     ∙ ap (λ (t : Bool). is_within p b || t) (listed_flat blocks p)
 
 -- all cells of the blocks of an expression are seen where all cells that it reads are
-pub all_read : (part : Part) (known : Known) (e : Expr) (blocks : List Block) (b : Bool) → blocks ≡ blocks_of e → b ≡ list_all (λ d. list_all (λ r. is_some (seen_at part known r)) (cells_between d.0 d.1)) blocks
+all_read : (part : Part) (known : Known) (e : Expr) (blocks : List Block) (b : Bool) → blocks ≡ blocks_of e → b ≡ list_all (λ d. list_all (λ r. is_some (seen_at part known r)) (cells_between d.0 d.1)) blocks
     → b ≡ list_all (λ r. is_some (seen_at part known r)) (reads_of e)
 all_read part known e blocks b is told =
     let seen = λ (r : Position). is_some (seen_at part known r) in
     told ∙ all_flat seen blocks
     ∙ all_same seen (flat_map (λ d. cells_between d.0 d.1) blocks) (reads_of e)
     (λ p lost. listed_flat blocks p ∙ ap (list_any (is_within p)) is ∙ read_within (Formula e) p)
+
+-- so the value of an expression is found, or it waits
+pub attempt_seen : (part : Part) (known : Known) (e : Expr) (blocks : List Block) (b : Bool) (v : Value) → blocks ≡ blocks_of e → b ≡ list_all (λ d. list_all (λ r. is_some (seen_at part known r)) (cells_between d.0 d.1)) blocks → b ≡ true → v ≡ eval_of (look_at part known) e
+    → Some v ≡ cond (list_all (λ r. is_some (seen_at part known r)) (reads_of e)) (Some (eval_of (look_at part known) e)) None
+attempt_seen part known e blocks b v is told seen value =
+    ap Some value
+    ∙ sym (cond-true (list_all (λ r. is_some (seen_at part known r)) (reads_of e)) (Some (eval_of (look_at part known) e)) None (sym (all_read part known e blocks b is told) ∙ seen))
+
+pub attempt_unseen : (part : Part) (known : Known) (e : Expr) (blocks : List Block) (b : Bool) → blocks ≡ blocks_of e → b ≡ list_all (λ d. list_all (λ r. is_some (seen_at part known r)) (cells_between d.0 d.1)) blocks → b ≡ false
+    → None ≡ cond (list_all (λ r. is_some (seen_at part known r)) (reads_of e)) (Some (eval_of (look_at part known) e)) None
+attempt_unseen part known e blocks b is told lost =
+    sym (cond-false (list_all (λ r. is_some (seen_at part known r)) (reads_of e)) (Some (eval_of (look_at part known) e)) None (sym (all_read part known e blocks b is told) ∙ lost))
 
 -- ---- values of cells in lists
 
@@ -268,16 +331,6 @@ to_last b p h = not_before (position_cmp p (last_of b)) (position_cmp (last_of b
 
 -- ---- the cells of a block that are there
 
--- all of a block, and what comes before and behind a cell
-abbrev whole : Block → Stretch
-whole b = record { block = b; start = Included (first_of b); end = Included (last_of b) }
-
-abbrev before : Block → Position → Stretch
-before b at = record { block = b; start = Included (first_of b); end = Excluded at }
-
-abbrev behind : Block → Position → Stretch
-behind b at = record { block = b; start = Excluded at; end = Included (last_of b) }
-
 outside_present : (cells : Part) (at : Position) (b : Block) → IsStrictlySortedBy position_cmp (keys_of cells) → is_within at b ≡ false → IsPresent cells at b (filter (lies (whole b)) (keys_of cells))
 outside_present cells at b sorted out = record {
   ordered = IsStrictlySortedBy-filter position_cmp (lies (whole b)) (keys_of cells) sorted;
@@ -380,10 +433,10 @@ no_whole b at out = ap (λ (t : Bool). t && range_contains position_cmp (Include
 -- ---- for the code
 
 -- the values of a block in which the edited cell doesn't lie
-pub values_outside : (cells part : Part) (at : Position) (raw : List ℕ) (known : Known) (b : Block) (s : Stretch) (values : List Value) → IsStrictlySortedBy position_cmp (keys_of cells) → part ≡ with_text cells at raw → false ≡ is_within at b
-    → s ≡ whole b → values ≡ [] ++ filter is_filled (map (entry_value known) (stretched s cells)) → values ≡ filter is_filled (map (look_at part known) (cells_between b.0 b.1))
-values_outside cells part at raw known b s values sorted is out stretch told =
-    told ∙ ap (λ (t : Stretch). filter is_filled (map (entry_value known) (stretched t cells))) stretch
+pub values_outside : (cells part : Part) (at : Position) (raw : List ℕ) (known : Known) (b : Block) (values : List Value) → IsStrictlySortedBy position_cmp (keys_of cells) → part ≡ with_text cells at raw → false ≡ is_within at b
+    → values ≡ [] ++ filter is_filled (map (entry_value known) (stretched (whole b) cells)) → values ≡ filter is_filled (map (look_at part known) (cells_between b.0 b.1))
+values_outside cells part at raw known b values sorted is out told =
+    told
     ∙ ap (filter is_filled) (stretch_values cells at raw known (whole b) sorted (no_whole b at (sym out)))
     ∙ values_present cells at raw known b (filter (lies (whole b)) (keys_of cells)) sorted (outside_present cells at b sorted (sym out))
     ∙ ap (λ (q : Part). filter is_filled (map (look_at q known) (cells_between b.0 b.1))) (sym is)
@@ -402,20 +455,18 @@ three look xs p ys =
     ∙ ap (filter is_filled) (sym (map-append look xs (p ∷ ys)))
 
 -- and of one in which it does
-pub values_inside : (cells part : Part) (at : Position) (raw : List ℕ) (known : Known) (b : Block) (s t : Stretch) (first second third : List Value) → IsStrictlySortedBy position_cmp (keys_of cells) → part ≡ with_text cells at raw → true ≡ is_within at b
-    → s ≡ before b at → t ≡ behind b at → first ≡ [] ++ filter is_filled (map (entry_value known) (stretched s cells)) → second ≡ first ++ filter is_filled (entry_value known (at, raw) ∷ []) → third ≡ second ++ filter is_filled (map (entry_value known) (stretched t cells))
+pub values_inside : (cells part : Part) (at : Position) (raw : List ℕ) (known : Known) (b : Block) (first second third : List Value) → IsStrictlySortedBy position_cmp (keys_of cells) → part ≡ with_text cells at raw → true ≡ is_within at b
+    → first ≡ [] ++ filter is_filled (map (entry_value known) (stretched (before b at) cells)) → second ≡ first ++ filter is_filled (entry_value known (at, raw) ∷ []) → third ≡ second ++ filter is_filled (map (entry_value known) (stretched (behind b at) cells))
     → third ≡ filter is_filled (map (look_at part known) (cells_between b.0 b.1))
-values_inside cells part at raw known b s t first second third sorted is inside stretch further one two all =
+values_inside cells part at raw known b first second third sorted is inside one two all =
     let look = look_at (with_text cells at raw) known in
     let xs = filter (lies (before b at)) (keys_of cells) in
     let ys = filter (lies (behind b at)) (keys_of cells) in
     let one_is : first ≡ filter is_filled (map look xs) =
-    one ∙ ap (λ (u : Stretch). filter is_filled (map (entry_value known) (stretched u cells))) stretch
-    ∙ ap (filter is_filled) (stretch_values cells at raw known (before b at) sorted (no_before b at)) in
-    let last_is : filter is_filled (map (entry_value known) (stretched t cells)) ≡ filter is_filled (map look ys) =
-    ap (λ (u : Stretch). filter is_filled (map (entry_value known) (stretched u cells))) further
-    ∙ ap (filter is_filled) (stretch_values cells at raw known (behind b at) sorted (no_behind b at)) in
-    all ∙ ap (λ (vs : List Value). vs ++ filter is_filled (map (entry_value known) (stretched t cells)))
+    one ∙ ap (filter is_filled) (stretch_values cells at raw known (before b at) sorted (no_before b at)) in
+    let last_is : filter is_filled (map (entry_value known) (stretched (behind b at) cells)) ≡ filter is_filled (map look ys) =
+    ap (filter is_filled) (stretch_values cells at raw known (behind b at) sorted (no_behind b at)) in
+    all ∙ ap (λ (vs : List Value). vs ++ filter is_filled (map (entry_value known) (stretched (behind b at) cells)))
     (two ∙ ap (λ (vs : List Value). vs ++ filter is_filled (entry_value known (at, raw) ∷ [])) one_is
     ∙ ap (λ (v : Value). filter is_filled (map look xs) ++ filter is_filled (v ∷ [])) (here_value cells at raw known sorted))
     ∙ ap (λ (vs : List Value). (filter is_filled (map look xs) ++ filter is_filled (look at ∷ [])) ++ vs) last_is
@@ -423,11 +474,10 @@ values_inside cells part at raw known b s t first second third sorted is inside 
     ∙ values_present cells at raw known b (xs ++ at ∷ ys) sorted (inside_present cells at b sorted (sym inside))
     ∙ ap (λ (q : Part). filter is_filled (map (look_at q known) (cells_between b.0 b.1))) (sym is)
 
-pub seen_outside : (cells part : Part) (at : Position) (raw : List ℕ) (known : Known) (b : Block) (s : Stretch) (r : Bool) → IsStrictlySortedBy position_cmp (keys_of cells) → part ≡ with_text cells at raw → false ≡ is_within at b
-    → s ≡ whole b → r ≡ list_all (is_entry_seen known) (stretched s cells) → r ≡ list_all (λ p. is_some (seen_at part known p)) (cells_between b.0 b.1)
-seen_outside cells part at raw known b s r sorted is out stretch told =
-    told ∙ ap (λ (t : Stretch). list_all (is_entry_seen known) (stretched t cells)) stretch
-    ∙ stretch_seen cells at raw known (whole b) sorted (no_whole b at (sym out))
+pub seen_outside : (cells part : Part) (at : Position) (raw : List ℕ) (known : Known) (b : Block) (r : Bool) → IsStrictlySortedBy position_cmp (keys_of cells) → part ≡ with_text cells at raw → false ≡ is_within at b
+    → r ≡ list_all (is_entry_seen known) (stretched (whole b) cells) → r ≡ list_all (λ p. is_some (seen_at part known p)) (cells_between b.0 b.1)
+seen_outside cells part at raw known b r sorted is out told =
+    told ∙ stretch_seen cells at raw known (whole b) sorted (no_whole b at (sym out))
     ∙ seen_present cells at raw known b (filter (lies (whole b)) (keys_of cells)) sorted (outside_present cells at b sorted (sym out))
     ∙ ap (λ (q : Part). list_all (λ p. is_some (seen_at q known p)) (cells_between b.0 b.1)) (sym is)
 
@@ -436,19 +486,17 @@ unfolding seen_at
 here_seen cells at raw known sorted =
     ap (λ (t : List ℕ). is_some (seen_in (content_of t) (known at))) (sym (text_same cells at raw sorted))
 
-pub seen_inside : (cells part : Part) (at : Position) (raw : List ℕ) (known : Known) (b : Block) (s t : Stretch) (r : Bool) → IsStrictlySortedBy position_cmp (keys_of cells) → part ≡ with_text cells at raw → true ≡ is_within at b
-    → s ≡ before b at → t ≡ behind b at → r ≡ (list_all (is_entry_seen known) (stretched s cells) && (is_entry_seen known (at, raw) && list_all (is_entry_seen known) (stretched t cells)))
+pub seen_inside : (cells part : Part) (at : Position) (raw : List ℕ) (known : Known) (b : Block) (r : Bool) → IsStrictlySortedBy position_cmp (keys_of cells) → part ≡ with_text cells at raw → true ≡ is_within at b
+    → r ≡ (list_all (is_entry_seen known) (stretched (before b at) cells) && (is_entry_seen known (at, raw) && list_all (is_entry_seen known) (stretched (behind b at) cells)))
     → r ≡ list_all (λ p. is_some (seen_at part known p)) (cells_between b.0 b.1)
-seen_inside cells part at raw known b s t r sorted is inside stretch further told =
+seen_inside cells part at raw known b r sorted is inside told =
     let seen = λ (p : Position). is_some (seen_at (with_text cells at raw) known p) in
     let xs = filter (lies (before b at)) (keys_of cells) in
     let ys = filter (lies (behind b at)) (keys_of cells) in
-    let one : list_all (is_entry_seen known) (stretched s cells) ≡ list_all seen xs =
-    ap (λ (u : Stretch). list_all (is_entry_seen known) (stretched u cells)) stretch ∙ stretch_seen cells at raw known (before b at) sorted (no_before b at) in
-    let last : list_all (is_entry_seen known) (stretched t cells) ≡ list_all seen ys =
-    ap (λ (u : Stretch). list_all (is_entry_seen known) (stretched u cells)) further ∙ stretch_seen cells at raw known (behind b at) sorted (no_behind b at) in
-    told ∙ ap (λ (u : Bool). u && (is_entry_seen known (at, raw) && list_all (is_entry_seen known) (stretched t cells))) one
-    ∙ ap (λ (u : Bool). list_all seen xs && (u && list_all (is_entry_seen known) (stretched t cells))) (here_seen cells at raw known sorted)
+    let one : list_all (is_entry_seen known) (stretched (before b at) cells) ≡ list_all seen xs = stretch_seen cells at raw known (before b at) sorted (no_before b at) in
+    let last : list_all (is_entry_seen known) (stretched (behind b at) cells) ≡ list_all seen ys = stretch_seen cells at raw known (behind b at) sorted (no_behind b at) in
+    told ∙ ap (λ (u : Bool). u && (is_entry_seen known (at, raw) && list_all (is_entry_seen known) (stretched (behind b at) cells))) one
+    ∙ ap (λ (u : Bool). list_all seen xs && (u && list_all (is_entry_seen known) (stretched (behind b at) cells))) (here_seen cells at raw known sorted)
     ∙ ap (λ (u : Bool). list_all seen xs && (seen at && u)) last
     ∙ sym (list_all-append seen xs (at ∷ ys))
     ∙ seen_present cells at raw known b (xs ++ at ∷ ys) sorted (inside_present cells at b sorted (sym inside))

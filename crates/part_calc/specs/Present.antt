@@ -1,6 +1,7 @@
 -- The cells of a block that are there.
 use Rattle.std.specs.Prelude.{ℕ, min, max, Bool, List, unwrap_or}
 use Rattle.std.specs.BTreeMap.Range.{entries_between}
+use Rattle.std.specs.declared.ops.Bound.TheVariants.{Included, Excluded}
 use Rattle.std.specs.List.{filter}
 use Rattle.std.specs.Option.{is_some}
 use Rattle.formula_base.specs.declared.values.Value.{Value}
@@ -19,6 +20,16 @@ first_of b = (min b.0.0 b.1.0, min b.0.1 b.1.1)
 
 abbrev pub last_of : Block → Position
 last_of b = (max b.0.0 b.1.0, max b.0.1 b.1.1)
+
+-- all of a block, and what comes before one of its cells and behind it
+abbrev pub whole : Block → Stretch
+whole b = record { block = b; start = Included (first_of b); end = Included (last_of b) }
+
+abbrev pub before : Block → Position → Stretch
+before b at = record { block = b; start = Included (first_of b); end = Excluded at }
+
+abbrev pub behind : Block → Position → Stretch
+behind b at = record { block = b; start = Excluded at; end = Included (last_of b) }
 
 -- the cells of a block that are there
 abbrev pub within : Block → Part → Part

@@ -112,7 +112,6 @@ fn attempt(
 }
 
 // The value of an expression that names these blocks, where those of all cells that it reads are seen.
-#[tactic(auto, using(crate::proofs::RangeLaws::all_read))]
 fn attempt_formula(
     alloc: Global,
     edited: &Edited<'_>,
@@ -124,14 +123,14 @@ fn attempt_formula(
     requires { blocks.now ≡ blocks_of expression.now }
     ensures { IfOk result (λ value. value ≡ (if list_all (λ r. is_some (seen_at edited.now (found_over fresh.now.entries kept.now.entries) r)) (reads_of expression.now) then Some (eval_of (look_at edited.now (found_over fresh.now.entries kept.now.entries)) expression.now) else None)) }
 {
-    if !are_blocks_seen(edited, kept, fresh, blocks) {
-        return Ok(None);
+    if are_blocks_seen(edited, kept, fresh, blocks) {
+        let seen = Seen {
+            edited,
+            kept,
+            fresh,
+        };
+        let value = eval(alloc, expression, &seen)?;
+        return Ok(Some(value));
     }
-    let seen = Seen {
-        edited,
-        kept,
-        fresh,
-    };
-    let value = eval(alloc, expression, &seen)?;
-    Ok(Some(value))
+    Ok(None)
 }
