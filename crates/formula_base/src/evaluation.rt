@@ -1,5 +1,5 @@
 //! The value of an expression, given the values of cells.
-ghost use Rattle.std.specs.Prelude.{◌≡◌, IfOk, OnOk, fold, map};
+ghost use Rattle.std.specs.Prelude.{◌≡◌, ◌++◌, ◌∷◌, [], IfOk, OnOk, fold, map};
 ghost use Rattle.std.specs.List.{filter};
 ghost use Rattle.formula_base.specs.Values.{chosen};
 ghost use Rattle.formula_base.specs.Ranges.{Position, cells_between};
@@ -10,6 +10,7 @@ ghost use Rattle.formula_base.specs.declared.values.Value.{Value};
 use crate::arithmetic::{combined, compared, negated};
 use crate::expressions::{Argument, Expr};
 use crate::gathering::Gathered;
+use crate::spans::cells_between;
 use crate::values::{CellFault, Value};
 use cool_base::Memory;
 use std::alloc::Global;
@@ -32,6 +33,35 @@ pub trait Lookup {
         last: (u32, u32),
     ) -> Result<Vec<Value>, Memory>
         ensures { IfOk result (λ values. values.items ≡ filter is_filled (map (value_at self.now) (cells_between first last))) };
+}
+
+/// The values of the cells between two corners that aren't Empty, row by row, each looked up: for a
+/// look-up that doesn't know which cells are there.
+pub fn each_value<L: Lookup>(
+    alloc: Global,
+    lookup: &L,
+    first: (u32, u32),
+    last: (u32, u32),
+) -> Result<Vec<Value>, Memory>
+    ensures { IfOk result (λ values. values.items ≡ filter is_filled (map (L.value_at lookup.now) (cells_between first last))) }
+{
+    let cells = cells_between(alloc, first, last)?;
+    let mut values = Vec::new(alloc);
+    for position in &cells {
+        let value = lookup.value(alloc, position.0, position.1)?;
+        push_filled(&mut values, value)?;
+    }
+    Ok(values)
+}
+
+/// Adds a value, unless it is Empty.
+pub fn push_filled(values: &mut Vec<Value>, value: Value) -> Result<(), Memory>
+    ensures { OnOk result (values.new.items ≡ values.old.items ++ filter is_filled (value ∷ [])) }
+{
+    match value {
+        Value::Empty => Ok(()),
+        value => Ok(values.push(value)?),
+    }
 }
 
 /// The value of the expression where cells have the values that `lookup` gives.

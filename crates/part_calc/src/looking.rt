@@ -32,6 +32,7 @@ impl<'a> Lookup for Seen<'a> {
     fn value(&self, alloc: Global, row: u32, col: u32) -> Result<Value, Memory> {
         seen_value(alloc, self.edited, self.kept, self.fresh, (row, col))
     }
+
     fn values(
         &self,
         alloc: Global,
@@ -116,12 +117,7 @@ fn found_value(
 }
 
 /// Whether the value of a cell whose text says this is seen.
-pub fn is_content_seen(
-    kept: &Fates,
-    fresh: &Fresh,
-    position: (u32, u32),
-    content: &Content,
-) -> bool
+pub fn is_content_seen(kept: &Fates, fresh: &Fresh, position: (u32, u32), content: &Content) -> bool
     ensures { result ≡ is_some (seen_in content.now (found_over fresh.now.entries kept.now.entries position)) }
 {
     match content {

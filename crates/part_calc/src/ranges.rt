@@ -3,7 +3,6 @@
 //! The cells that have a text come by rows and then columns, so those of a block are among the ones from
 //! its first cell to its last. What was edited comes in its place among them.
 ghost use Rattle.std.specs.Prelude.{◌≡◌, ◌++◌, ◌∷◌, ◌||◌, ◌&&◌, true, not, [], map, IfOk, OnOk};
-ghost use Rattle.std.specs.BTreeMap.{is_at};
 ghost use Rattle.std.specs.BTreeMap.Range.{IsLeBy, IsLtBy};
 ghost use Rattle.std.specs.List.{filter, list_all};
 ghost use Rattle.std.specs.Option.{is_some};
@@ -22,7 +21,7 @@ use crate::looking::{Fresh, content_value, is_content_seen, is_seen};
 use crate::readers::is_within;
 use crate::shown::Fates;
 use cool_base::Memory;
-use formula_base::{Block, Value};
+use formula_base::{Block, Value, push_filled};
 use std::alloc::Global;
 use std::collections::BTreeMap;
 use std::ops::Bound;
@@ -93,23 +92,8 @@ fn push_value(
     push_filled(values, value)
 }
 
-// Adds a value, unless it is Empty.
-fn push_filled(values: &mut Vec<Value>, value: Value) -> Result<(), Memory>
-    ensures { OnOk result (values.new.items ≡ values.old.items ++ filter is_filled (value ∷ [])) }
-{
-    match value {
-        Value::Empty => Ok(()),
-        value => Ok(values.push(value)?),
-    }
-}
-
 /// Whether the values of all cells of the blocks are seen.
-pub fn are_blocks_seen(
-    edited: &Edited<'_>,
-    kept: &Fates,
-    fresh: &Fresh,
-    blocks: &[Block],
-) -> bool
+pub fn are_blocks_seen(edited: &Edited<'_>, kept: &Fates, fresh: &Fresh, blocks: &[Block]) -> bool
     ensures { result ≡ list_all (λ b. list_all (λ r. is_some (seen_at edited.now (found_over fresh.now.entries kept.now.entries) r)) (cells_between b.0 b.1)) blocks.now }
 {
     blocks
@@ -179,13 +163,7 @@ fn are_seen(
 }
 
 // Whether a cell lies outside a block, or its value is seen.
-fn is_passed(
-    kept: &Fates,
-    fresh: &Fresh,
-    block: Block,
-    position: (u32, u32),
-    cell: &Cell,
-) -> bool
+fn is_passed(kept: &Fates, fresh: &Fresh, block: Block, position: (u32, u32), cell: &Cell) -> bool
     ensures { result ≡ (not (is_within position block) || is_entry_seen (found_over fresh.now.entries kept.now.entries) (position, cell.now)) }
 {
     !is_within(position, block) || is_content_seen(kept, fresh, position, cell.content())
