@@ -1,8 +1,10 @@
 #!/bin/sh
 # Times edits of a chain of cells, and edits beside formulas of ranges, each beside plain Rust that does
 # the same work: A1 holds a number, and every further cell of column A is one more than the cell above it;
-# and 80,000 formulas of ranges that don't read the cell of the edit. Run it at the top of the repository,
-# as bench/chain.sh [CELLS [RT WORDS]]; it takes what is committed there, and works in a folder of its own.
+# 80,000 formulas of ranges that don't read the cell of the edit; and a formula that sums a whole part, of
+# which 20,000 cells are there. Of 100 edits it prints the least time of one, which is about its processor
+# time however busy the machine is, and the mean. Run it at the top of the repository, as
+# bench/chain.sh [CELLS [RT WORDS]]; it takes what is committed there, and works in a folder of its own.
 # With no words it proves, compiles and runs its program; with the words `try --seconds 900` it compiles
 # with checks and proves nothing, and its times say little.
 set -eu
@@ -48,20 +50,28 @@ fn timed(rt: &HostRuntime) -> Option<()> {
     let mut book = ranges(rt.alloc())?;
     let built = begun.elapsed(rt).ok()?.as_millis();
     println!(rt; "a draft of 80,000 ranges becomes a book: {built} ms").ok()?;
-    time_edits(rt, &mut book, "an edit beside 80,000 ranges")
+    time_edits(rt, &mut book, "an edit beside 80,000 ranges")?;
+    let begun = Instant::now(rt).ok()?;
+    let mut book = whole(rt.alloc())?;
+    let built = begun.elapsed(rt).ok()?.as_millis();
+    println!(rt; "a draft of 20,000 numbers and their sum becomes a book: {built} ms").ok()?;
+    time_edits(rt, &mut book, "an edit of a cell in a range over the whole part")
 }
 
 // Times edits of A1.
 fn time_edits(rt: &HostRuntime, book: &mut Book, what: &str) -> Option<()> {
     let start = Instant::now(rt).ok()?;
+    let mut least = u128::MAX;
     let mut count: usize = 0;
     for turn in 0..EDITS {
         let raw = if turn % 2 == 0 { "2" } else { "1" };
+        let begun = Instant::now(rt).ok()?;
         count = edit(book, 0, raw)?.positions.get().len();
+        least = least.min(begun.elapsed(rt).ok()?.as_nanos());
     }
-    let taken = start.elapsed(rt).ok()?.as_nanos();
-    let each = taken / 100_000;
-    println!(rt; "{what}: {each} us, {count} cells changed").ok()?;
+    let mean = start.elapsed(rt).ok()?.as_nanos() / 100_000;
+    let least = least / 1000;
+    println!(rt; "{what}: at least {least} us, {mean} us in the mean, {count} cells changed").ok()?;
     Some(())
 }
 
@@ -87,6 +97,19 @@ fn ranges(alloc: Global) -> Option<Book> {
             put(&mut draft, row, col, raw.as_str())?;
         }
     }
+    draft.finish().ok()
+}
+
+// Numbers in 4,000 rows of each of five columns, and in the last column of the first row the sum of all
+// other columns.
+fn whole(alloc: Global) -> Option<Book> {
+    let mut draft = BookDraft::new(alloc, 1).ok()?;
+    for row in 0..4000_u32 {
+        for col in 0..5_u32 {
+            put(&mut draft, row, col, "1")?;
+        }
+    }
+    put(&mut draft, 0, 255, "=SUM(A1:IU4096)")?;
     draft.finish().ok()
 }
 
@@ -116,7 +139,7 @@ sed -i "s/@CELLS@/$cells/" crates/chain_bench/src/main.rt
 (cd crates/chain_bench && rt "${@:-run}")
 cat >chain.rs <<'END'
 // The work of chain.sh in plain Rust: values are kept, and an edit computes anew the cell and the formulas
-// that read it, from cell to cell. It reads `=A1+1` and `=SUM(B1:C2)` alone.
+// that read it, from cell to cell. It reads formulas as `=A1+1` and `=SUM(B1:C2)` alone.
 use std::collections::{BTreeMap, HashMap, HashSet};
 use std::time::Instant;
 
@@ -141,14 +164,19 @@ struct Sheet {
     ranges: Vec<(Place, Place, Place)>,
 }
 
+fn place(name: &str) -> Place {
+    let letters = name.find(|c: char| c.is_ascii_digit()).unwrap();
+    let (letters, row) = name.split_at(letters);
+    let col = letters.bytes().fold(0, |col, letter| col * 26 + u32::from(letter - b'A') + 1) - 1;
+    (row.parse::<u32>().unwrap() - 1, col)
+}
+
 fn read(raw: &str) -> Content {
-    if let Some(rest) = raw.strip_prefix("=SUM(B") {
-        let (top, rest) = rest.split_once(":C").unwrap();
-        let bottom: u32 = rest.strip_suffix(')').unwrap().parse().unwrap();
-        Content::Sum((top.parse::<u32>().unwrap() - 1, 1), (bottom - 1, 2))
-    } else if let Some(rest) = raw.strip_prefix("=A") {
-        let row: u32 = rest.strip_suffix("+1").unwrap().parse().unwrap();
-        Content::Next((row - 1, 0))
+    if let Some(rest) = raw.strip_prefix("=SUM(") {
+        let (first, last) = rest.strip_suffix(')').unwrap().split_once(':').unwrap();
+        Content::Sum(place(first), place(last))
+    } else if let Some(rest) = raw.strip_prefix('=') {
+        Content::Next(place(rest.strip_suffix("+1").unwrap()))
     } else {
         Content::Number(raw.parse().unwrap())
     }
@@ -235,11 +263,15 @@ impl Sheet {
 
 fn time_edits(sheet: &mut Sheet, what: &str) {
     let start = Instant::now();
+    let mut least = u128::MAX;
     let mut count = 0;
     for turn in 0..100 {
+        let begun = Instant::now();
         count = sheet.set((0, 0), if turn % 2 == 0 { "2" } else { "1" }).len();
+        least = least.min(begun.elapsed().as_nanos());
     }
-    println!("{what}: {} us, {count} cells changed", start.elapsed().as_micros() / 100);
+    let mean = start.elapsed().as_nanos() / 100_000;
+    println!("{what}: at least {} us, {mean} us in the mean, {count} cells changed", least / 1000);
 }
 
 fn main() {
@@ -256,6 +288,14 @@ fn main() {
         }
     }
     time_edits(&mut sheet, "an edit beside 80,000 ranges");
+    let mut sheet = Sheet::default();
+    for row in 0..4000 {
+        for col in 0..5 {
+            sheet.put((row, col), "1");
+        }
+    }
+    sheet.put((0, 255), "=SUM(A1:IU4096)");
+    time_edits(&mut sheet, "an edit of a cell in a range over the whole part");
 }
 END
 sed -i "s/@CELLS@/$cells/" chain.rs

@@ -1,9 +1,7 @@
 -- The blocks that an expression names hold exactly the cells that it reads.
-use Rattle.std.proofs.Common.{◌≡◌, ℕ, zero, suc, ◌+◌, ◌-◌, ◌<◌, ◌≤◌, min, max, Bool, true, false, ◌&&◌, ◌||◌, nat_eq, nat_lt, nat_le, List, [], ◌∷◌, ◌++◌, map, refl, ap, sym, ◌∙◌, arith, subst, length, take, append_assoc}
-use Rattle.std.specs.Prelude.{fold}
+use Rattle.std.proofs.Common.{◌≡◌, ℕ, zero, suc, ◌+◌, ◌-◌, ◌≤◌, min, max, Bool, true, false, ◌&&◌, ◌||◌, nat_eq, nat_lt, nat_le, List, [], ◌∷◌, ◌++◌, map, refl, ap, sym, ◌∙◌, arith, subst, length, take, append_assoc}
 use Rattle.std.specs.List.{list_any, flat_map, range_with_len}
 use Rattle.std.specs.BTreeMap.{is_at}
-use Rattle.std.specs.BTreeSet.{insert_key}
 use Rattle.std.specs.Ordering.{nat_cmp, ordering_then, is_eq}
 use Rattle.std.specs.declared.cmp.Ordering.{Ordering}
 use Rattle.std.specs.declared.cmp.Ordering.TheVariants.{Less, Equal, Greater}
@@ -155,12 +153,15 @@ call_within p (One e ∷ arguments) =
 eq_single : (k a : ℕ) → nat_eq k a ≡ (nat_le (min a a) k && nat_le k (max a a))
 eq_single k a = grind (arith, nat_tests)
 
-single : (p q : Position) → among p (q ∷ []) ≡ in_blocks p ((q, q) ∷ [])
-single p q =
-    ap (λ (b : Bool). b || false)
-    (at_parts p q
+-- a cell is another exactly where it lies in the block of that one alone
+pub one_cell : (p q : Position) → is_at (position_cmp p) q ≡ is_within p (q, q)
+one_cell p q =
+    at_parts p q
     ∙ ap (λ (b : Bool). b && nat_eq p.1 q.1) (eq_single p.0 q.0)
-    ∙ ap (λ (b : Bool). (nat_le (min q.0 q.0) p.0 && nat_le p.0 (max q.0 q.0)) && b) (eq_single p.1 q.1))
+    ∙ ap (λ (b : Bool). (nat_le (min q.0 q.0) p.0 && nat_le p.0 (max q.0 q.0)) && b) (eq_single p.1 q.1)
+
+single : (p q : Position) → among p (q ∷ []) ≡ in_blocks p ((q, q) ∷ [])
+single p q = ap (λ (b : Bool). b || false) (one_cell p q)
 
 layer_within : (p : Position) (y : Expr-F (Blocked p)) → AreBlocks p (roll-Expr (map-Expr (Blocked p) Expr (λ e. e.0) y))
 unfolding links_of arguments_of

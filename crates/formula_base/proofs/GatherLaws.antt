@@ -1,14 +1,15 @@
 -- What is gathered of more values.
-use Rattle.std.proofs.Common.{◌≡◌, ℤ, List, [], ◌∷◌, ◌++◌, refl, ap, sym, ◌∙◌, append_assoc}
+use Rattle.std.proofs.Common.{◌≡◌, ℕ, ◌≤◌, length, take, ℤ, List, [], ◌∷◌, ◌++◌, refl, ap, sym, ◌∙◌, append_assoc}
 use Rattle.std.specs.Prelude.{Option, Some, None, fold}
+use Rattle.std.specs.List.{filter}
 use Rattle.std.specs.Option.{option_or}
-use Rattle.std.proofs.lemmas.List.{append-nil}
+use Rattle.std.proofs.lemmas.List.{append-nil, take_all}
 use Rattle.formula_base.specs.declared.gathering.Gathered.{Gathered}
 use Rattle.formula_base.specs.declared.values.CellFault.{CellFault}
 use Rattle.formula_base.specs.declared.values.Value.{Value}
 use Rattle.formula_base.specs.declared.values.Value.TheVariants.{Empty, Number, Words, Fault}
 use Rattle.formula_base.specs.Evaluation.{numbers_in, first_fault}
-use Rattle.formula_base.specs.Gathering.{gathered, with_value}
+use Rattle.formula_base.specs.Gathering.{gathered, is_filled, with_value}
 
 pub numbers_in-append : (vs ws : List Value) → numbers_in (vs ++ ws) ≡ numbers_in vs ++ numbers_in ws
 numbers_in-append [] ws = refl
@@ -43,3 +44,16 @@ pub gathered_all : (vs ws : List Value) → fold with_value (gathered vs) ws ≡
 gathered_all vs [] = ap gathered (sym (append-nil vs))
 gathered_all vs (w ∷ ws) =
     ap (λ (g : Gathered). fold with_value g ws) (gathered_push vs w) ∙ gathered_all (vs ++ w ∷ []) ws ∙ ap gathered (append_assoc vs (w ∷ []) ws)
+
+-- an Empty value adds nothing
+pub gathered_filled : (g : Gathered) (vs : List Value) → fold with_value g (filter is_filled vs) ≡ fold with_value g vs
+gathered_filled g [] = refl
+gathered_filled g (Empty ∷ vs) = gathered_filled g vs
+gathered_filled g (Number z ∷ vs) = gathered_filled (with_value g (Number z)) vs
+gathered_filled g (Words t ∷ vs) = gathered_filled (with_value g (Words t)) vs
+gathered_filled g (Fault f ∷ vs) = gathered_filled (with_value g (Fault f)) vs
+
+-- so what is gathered of the values that aren't Empty is what is gathered of all
+pub gathered_done : (g after : Gathered) (items filled all : List Value) (i : ℕ) → length items ≤ i → after ≡ fold with_value g (take i items) → items ≡ filled → filled ≡ filter is_filled all → after ≡ fold with_value g all
+gathered_done g after items filled all i h told items_are is =
+    told ∙ ap (fold with_value g) (take_all i items h ∙ items_are ∙ is) ∙ gathered_filled g all

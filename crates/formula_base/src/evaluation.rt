@@ -1,9 +1,10 @@
 //! The value of an expression, given the values of cells.
-ghost use Rattle.std.specs.Prelude.{◌≡◌, IfOk, OnOk, fold, map};
+ghost use Rattle.std.specs.Prelude.{◌≡◌, ◌++◌, ◌∷◌, [], IfOk, OnOk, fold, map};
+ghost use Rattle.std.specs.List.{filter};
 ghost use Rattle.formula_base.specs.Values.{chosen};
 ghost use Rattle.formula_base.specs.Ranges.{Position, cells_between};
 ghost use Rattle.formula_base.specs.Evaluation.{eval_of};
-ghost use Rattle.formula_base.specs.Gathering.{with_value};
+ghost use Rattle.formula_base.specs.Gathering.{is_filled, with_value};
 ghost use Rattle.formula_base.specs.declared.values.Value.{Value};
 
 use crate::arithmetic::{combined, compared, negated};
@@ -22,6 +23,45 @@ pub trait Lookup {
     /// The value of the cell at a row and a column, counted from 0.
     fn value(&self, alloc: Global, row: u32, col: u32) -> Result<Value, Memory>
         ensures { IfOk result (λ value. value ≡ value_at self.now (row, col)) };
+
+    /// The values of the cells between two corners, row by row, without those that are Empty. So the
+    /// cells that aren't there need not be gone through.
+    fn values(
+        &self,
+        alloc: Global,
+        first: (u32, u32),
+        last: (u32, u32),
+    ) -> Result<Vec<Value>, Memory>
+        ensures { IfOk result (λ values. values.items ≡ filter is_filled (map (value_at self.now) (cells_between first last))) };
+}
+
+/// The values of the cells between two corners that aren't Empty, row by row, each looked up: for a
+/// look-up that doesn't know which cells are there.
+pub fn each_value<L: Lookup>(
+    alloc: Global,
+    lookup: &L,
+    first: (u32, u32),
+    last: (u32, u32),
+) -> Result<Vec<Value>, Memory>
+    ensures { IfOk result (λ values. values.items ≡ filter is_filled (map (L.value_at lookup.now) (cells_between first last))) }
+{
+    let cells = cells_between(alloc, first, last)?;
+    let mut values = Vec::new(alloc);
+    for position in &cells {
+        let value = lookup.value(alloc, position.0, position.1)?;
+        push_filled(&mut values, value)?;
+    }
+    Ok(values)
+}
+
+/// Adds a value, unless it is Empty.
+pub fn push_filled(values: &mut Vec<Value>, value: Value) -> Result<(), Memory>
+    ensures { OnOk result (values.new.items ≡ values.old.items ++ filter is_filled (value ∷ [])) }
+{
+    match value {
+        Value::Empty => Ok(()),
+        value => Ok(values.push(value)?),
+    }
 }
 
 /// The value of the expression where cells have the values that `lookup` gives.
@@ -73,7 +113,7 @@ pub fn eval<L: Lookup>(alloc: Global, expr: &Expr, lookup: &L) -> Result<Value, 
     }
 }
 
-// Takes the values of the cells between two corners.
+// Takes the values of the cells between two corners. An Empty one adds nothing.
 fn gather_range<L: Lookup>(
     alloc: Global,
     gathered: &mut Gathered,
@@ -83,10 +123,9 @@ fn gather_range<L: Lookup>(
 ) -> Result<(), Memory>
     ensures { OnOk result (gathered.new ≡ fold with_value gathered.old (map (L.value_at lookup.now) (cells_between first last))) }
 {
-    let cells = cells_between(alloc, first, last)?;
-    for position in &cells {
-        let value = lookup.value(alloc, position.0, position.1)?;
-        gathered.add(&value)?;
+    let values = lookup.values(alloc, first, last)?;
+    for value in &values {
+        gathered.add(value)?;
     }
     Ok(())
 }

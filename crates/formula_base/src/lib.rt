@@ -15,7 +15,7 @@ mod naming;
 mod spans;
 mod values;
 
-pub use evaluation::{Lookup, eval};
+pub use evaluation::{Lookup, each_value, eval, push_filled};
 pub use expressions::{Argument, Comparison, Expr, Function, Link, Operator};
 pub use naming::{Block, blocks, reads};
 pub use values::{CellFault, Name, Value};

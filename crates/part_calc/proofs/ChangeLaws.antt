@@ -1,14 +1,14 @@
 -- The cells whose shown text an edit changes.
-use Rattle.std.proofs.Common.{◌≡◌, ◌⊎◌, ◌↔◌, ◌≢◌, ℕ, Bool, true, false, cond, not, ◌||◌, ◌&&◌, List, [], ◌∷◌, Option, Some, None, Bor, MatchOption, refl, ap, sym, ◌∙◌, ⊎_elim, unwrap_or}
+use Rattle.std.proofs.Common.{◌≡◌, ◌↔◌, ◌≢◌, ℕ, Bool, true, false, cond, not, ◌||◌, ◌&&◌, List, [], ◌∷◌, Option, Some, None, Bor, MatchOption, refl, ap, sym, ◌∙◌, ⊎_elim, unwrap_or}
 use Rattle.std.specs.Prelude.{fold}
 use Rattle.std.specs.BTreeMap.{is_at, insert_entry}
 use Rattle.std.specs.BTreeSet.{insert_key}
 use Rattle.std.specs.List.{filter, Contains}
 use Rattle.std.specs.List.Sorted.{IsStrictlySortedBy}
 use Rattle.std.specs.Map.{lookup, keys_of, remove_entry}
-use Rattle.std.specs.Option.{is_some, is_none, option_copied}
+use Rattle.std.specs.Option.{is_some, option_copied}
 use Rattle.std.specs.Str.{bytes_eq}
-use Rattle.std.proofs.lemmas.Bool.{both_ways, or_cases, or_right, cases_Bool, not_from_true, not_from_false, false_from_ne_true}
+use Rattle.std.proofs.lemmas.Bool.{both_ways, or_right, cases_Bool, not_from_true, not_from_false, false_from_ne_true}
 use Rattle.std.specs.Cmp.Lexicographic.{same_text}
 use Rattle.std.proofs.lemmas.Cmp.{nat_list_eq_equiv}
 use Rattle.std.proofs.lemmas.Map.Views.{Contains-from_any, list_any-from_Contains, tells_apart}
@@ -16,7 +16,6 @@ use Rattle.std.proofs.lemmas.List.Kept.{IsStrictlySortedBy-filter}
 use Rattle.std.proofs.lemmas.Map.Made.{is_some-lookup}
 use Rattle.formula_base.specs.Ranges.{Position, position_cmp}
 use Rattle.part_calc.specs.declared.contents.Content.{Content}
-use Rattle.part_calc.specs.declared.contents.Content.TheVariants.{Plain, Formula}
 use Rattle.part_calc.specs.Contents.{content_of, is_formula}
 use Rattle.part_calc.specs.Parts.{Part, text_at, with_text, content_at, value_at}
 use Rattle.part_calc.specs.Shown.{shown_at, shown_value, differs, changed_cells}
@@ -33,7 +32,7 @@ use Rattle.part_calc.proofs.DependantLaws.{shown_apart}
 -- ---- texts and the cells that have one
 
 -- a cell that isn't listed has no text
-no_text : (part : Part) (p : Position) → is_listed (keys_of part) p ≡ false → text_at part p ≡ []
+pub no_text : (part : Part) (p : Position) → is_listed (keys_of part) p ≡ false → text_at part p ≡ []
 unfolding text_at
 no_text part p none = by (lookup (is_at (position_cmp p)) part) (is_some-lookup (is_at (position_cmp p)) part ∙ none)
   where
@@ -42,7 +41,7 @@ no_text part p none = by (lookup (is_at (position_cmp p)) part) (is_some-lookup 
     by None e = refl
 
 -- a formula's cell has a text
-formula_texted : (part : Part) (p : Position) → is_formula (content_at part p) ≡ true → is_listed (keys_of part) p ≡ true
+pub formula_texted : (part : Part) (p : Position) → is_formula (content_at part p) ≡ true → is_listed (keys_of part) p ≡ true
 formula_texted part p is =
     ⊎_elim (λ (e : is_listed (keys_of part) p ≡ true). e)
     (λ (e : is_listed (keys_of part) p ≡ false).

@@ -20,7 +20,7 @@ use Rattle.part_calc.specs.Parts.{Part, content_at, formulas, reads_at, step_at,
 use Rattle.part_calc.specs.Finding.{Known, with_found, seen_in, seen_at, look_at, is_ready, attempted, known_after, left_after, IsSound, is_listed, Covers, AllWait, IsSwept, AreFound}
 use Rattle.part_calc.specs.Fates.{Fates, fate_in, is_fresh, found_over, fresh_after, fate_at}
 use Rattle.part_calc.proofs.PositionLaws.{at_one, lookup_insert}
-use Rattle.part_calc.proofs.PartLaws.{covers, local, plain_cell, circular_value}
+use Rattle.part_calc.proofs.PartLaws.{covers, local, plain_cell}
 
 -- ---- what is seen
 

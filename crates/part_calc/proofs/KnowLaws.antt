@@ -1,18 +1,16 @@
 -- Lanes know which formulas name a cell.
 use Rattle.std.specs.Prelude.{Result, Ok, Err, OnOk, OnErr}
-use Rattle.std.proofs.Common.{◌≡◌, ◌⊎◌, ◌≢◌, ℕ, ◌+◌, ◌<◌, Bool, true, false, cond, not, ◌||◌, ◌&&◌, List, [], ◌∷◌, ◌++◌, length, take, get_or, Option, Some, None, Bor, refl, ap, sym, ◌∙◌, subst, ⊎_elim, unwrap_or, min, max, nat_le, eqb, leb-true, arith}
+use Rattle.std.proofs.Common.{◌≡◌, ◌≢◌, ℕ, ◌+◌, ◌<◌, Bool, true, false, cond, not, ◌||◌, ◌&&◌, List, [], ◌∷◌, ◌++◌, length, take, get_or, Option, Some, None, refl, ap, sym, ◌∙◌, ⊎_elim, unwrap_or, min, max, nat_le, eqb, leb-true, arith}
 use Rattle.std.specs.BTreeMap.{is_at, insert_entry}
 use Rattle.std.specs.List.{list_any, filter}
 use Rattle.std.specs.List.Sorted.{IsStrictlySortedBy}
 use Rattle.std.specs.Map.{keys_of, lookup}
-use Rattle.std.specs.Option.{option_copied}
-use Rattle.std.proofs.lemmas.Bool.{both_ways, cases_Bool, or_cases, or_left, or_right, and_parts, and_from, cond-true, cond-false, eqb-true, not_from_true, not_from_false}
+use Rattle.std.proofs.lemmas.Bool.{both_ways, or_cases, or_left, or_right, and_parts, and_from, cond-true, eqb-true, not_from_true, not_from_false}
 use Rattle.std.proofs.lemmas.List.{take_more}
 use Rattle.std.proofs.lemmas.List.Folds.{list_any-append}
 use Rattle.formula_base.specs.Blocks.{Block, is_within}
-use Rattle.formula_base.specs.Evaluation.{names_of, reads_of}
+use Rattle.formula_base.specs.Evaluation.{names_of}
 use Rattle.formula_base.specs.Ranges.{Position, position_cmp}
-use Rattle.formula_base.specs.declared.expressions.Expr.{Expr}
 use Rattle.formula_base.proofs.BlockLaws.{held}
 use Rattle.part_calc.specs.declared.contents.Content.{Content}
 use Rattle.part_calc.specs.declared.contents.Content.TheVariants.{Plain, Formula}

@@ -14,4 +14,5 @@ pub mod KeptLaws
 pub mod LengthLaws
 pub mod EditLengths
 pub mod ReaderLaws
+pub mod RangeLaws
 pub mod EditLaws

@@ -82,7 +82,7 @@ above_insert x (y ∷ positions) k all h = by (position_cmp k y) (above_insert x
     by Equal ih = all
     by Greater ih = (all.0, ih)
 
-above_more : (k x : Position) (positions : List Position) → position_cmp k x ≡ Less → AllByRecursion (λ y. position_cmp x y ≡ Less) positions → AllByRecursion (λ y. position_cmp k y ≡ Less) positions
+pub above_more : (k x : Position) (positions : List Position) → position_cmp k x ≡ Less → AllByRecursion (λ y. position_cmp x y ≡ Less) positions → AllByRecursion (λ y. position_cmp k y ≡ Less) positions
 above_more k x [] h all = tt
 above_more k x (y ∷ positions) h all = (positions_total.trans k x y h all.0, above_more k x positions h all.1)
 

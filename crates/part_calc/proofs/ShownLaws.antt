@@ -1,7 +1,6 @@
 -- The shown texts by what is kept.
 use Rattle.std.proofs.Common.{◌≡◌, ℕ, Bool, true, false, cond, List, [], Option, Some, None, Bor, refl, ap, sym, ◌∙◌, unwrap_or}
 use Rattle.std.specs.Option.{option_copied}
-use Rattle.std.proofs.lemmas.Bool.{cond-true}
 use Rattle.formula_base.specs.declared.values.Value.{Value}
 use Rattle.formula_base.specs.declared.values.Value.TheVariants.{Fault}
 use Rattle.formula_base.specs.declared.values.CellFault.TheVariants.{Circ}

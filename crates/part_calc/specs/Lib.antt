@@ -9,3 +9,4 @@ pub mod Dependants
 pub mod Lanes
 pub mod Walking
 pub mod Readers
+pub mod Present

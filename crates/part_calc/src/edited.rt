@@ -1,12 +1,16 @@
 //! A part as it is with one more edit.
 ghost use Rattle.std.specs.Prelude.{◌≡◌, [], false, MatchOption};
+ghost use Rattle.std.specs.List.Sorted.{IsStrictlySortedBy};
+ghost use Rattle.std.specs.Map.{keys_of};
+ghost use Rattle.formula_base.specs.Blocks.{blocks_of};
+ghost use Rattle.formula_base.specs.Ranges.{position_cmp};
 ghost use Rattle.part_calc.specs.Contents.{is_formula, content_of};
 ghost use Rattle.part_calc.specs.Parts.{text_at, with_text, content_at};
 ghost use Rattle.part_calc.specs.declared.contents.Content.TheVariants.{Plain, Formula};
 ghost use Rattle.formula_base.specs.declared.values.Value.TheVariants.{Empty};
 
 use crate::contents::{Cell, Content};
-use formula_base::Expr;
+use formula_base::{Block, Expr};
 use std::collections::BTreeMap;
 use std::marker::Model;
 
@@ -45,6 +49,14 @@ impl<'a> Edited<'a> {
         Edited { cells, at, cell }
     }
 
+    /// The cells before the edit, the position of the edit, and its cell.
+    pub fn parts(&self) -> (&'a BTreeMap<(u32, u32), Cell>, (u32, u32), &'a Cell)
+        ensures whole { self.now ≡ with_text result.0.now.entries result.1 result.2.now }
+        ensures ordered { IsStrictlySortedBy position_cmp (keys_of result.0.now.entries) }
+    {
+        (self.cells, self.at, self.cell)
+    }
+
     /// The cell at a position; None only where it has no raw text.
     pub fn cell(&self, position: (u32, u32)) -> Option<&'a Cell>
         ensures { MatchOption result (text_at self.now position ≡ []) (λ cell. cell.now ≡ text_at self.now position) }
@@ -77,6 +89,17 @@ impl<'a> Edited<'a> {
             None => None,
         }
     }
+
+    /// The formula at a position, and the blocks that it names.
+    #[tactic(auto, using(crate::proofs::TextLaws::no_formula))]
+    pub fn naming_formula(&self, position: (u32, u32)) -> Option<(&'a Expr, &'a [Block])>
+        ensures { MatchOption result (is_formula (content_at self.now position) ≡ false) (λ f. (content_at self.now position ≡ Formula f.0.now) × (f.1.now ≡ blocks_of f.0.now)) }
+    {
+        match self.cell(position) {
+            Some(cell) => naming_formula_of(cell),
+            None => None,
+        }
+    }
 }
 
 // The formula that the cell's text holds.
@@ -85,6 +108,16 @@ fn formula_of(cell: &Cell) -> Option<&Expr>
 {
     match cell.content() {
         Content::Formula(expression) => Some(expression),
+        Content::Plain(_) => None,
+    }
+}
+
+// The formula that the cell's text holds, and the blocks that it names.
+fn naming_formula_of(cell: &Cell) -> Option<(&Expr, &[Block])>
+    ensures { MatchOption result (is_formula (content_of cell.now) ≡ false) (λ f. (content_of cell.now ≡ Formula f.0.now) × (f.1.now ≡ blocks_of f.0.now)) }
+{
+    match cell.content() {
+        Content::Formula(expression) => Some((expression, cell.named_blocks())),
         Content::Plain(_) => None,
     }
 }

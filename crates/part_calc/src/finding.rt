@@ -5,42 +5,22 @@
 //! nothing, and the cells that still wait are circular. Which order the cells come in decides how many
 //! sweeps there are, and nothing else; they come behind those that they read, so that one finds all
 //! values and one more ends.
-ghost use Rattle.std.specs.Prelude.{◌≡◌, [], true, Some, None, IfOk, OnOk, unwrap_or, if◌then◌else◌};
+ghost use Rattle.std.specs.Prelude.{◌≡◌, [], true, Some, None, IfOk, OnOk, if◌then◌else◌};
 ghost use Rattle.std.specs.List.{list_all};
-ghost use Rattle.std.specs.Option.{is_some, option_copied};
+ghost use Rattle.std.specs.Option.{is_some};
 ghost use Rattle.formula_base.specs.Ranges.{Position};
-ghost use Rattle.formula_base.specs.declared.values.Value.TheVariants.{Fault};
-ghost use Rattle.formula_base.specs.declared.values.CellFault.TheVariants.{Circ};
+ghost use Rattle.formula_base.specs.Blocks.{blocks_of};
 ghost use Rattle.formula_base.specs.Evaluation.{eval_of, reads_of};
-ghost use Rattle.part_calc.specs.Finding.{seen_in, seen_at, look_at, attempted, left_after, IsSound, Covers, IsSwept, AreFound};
+ghost use Rattle.part_calc.specs.Finding.{seen_at, look_at, attempted, left_after, IsSound, Covers, IsSwept, AreFound};
 ghost use Rattle.part_calc.specs.Fates.{is_fresh, found_over, fresh_after};
 
-use crate::contents::Content;
 use crate::edited::Edited;
+use crate::looking::{Fresh, Seen, found, seen_value};
+use crate::ranges::are_blocks_seen;
 use crate::shown::Fates;
 use cool_base::Memory;
-use formula_base::{CellFault, Expr, Lookup, Value, eval, reads};
+use formula_base::{Block, Expr, Value, eval};
 use std::alloc::Global;
-use std::collections::BTreeMap;
-
-/// What was found since an edit, for each cell that it affects.
-pub type Fresh = BTreeMap<(u32, u32), Option<Value>>;
-
-// The values of cells as far as they are seen.
-#[derive(Clone, Copy)]
-struct Seen<'a> {
-    edited: &'a Edited<'a>,
-    kept: &'a Fates,
-    fresh: &'a Fresh,
-}
-
-impl<'a> Lookup for Seen<'a> {
-    ghost value_at = { λ s position. look_at s.edited.now (found_over s.fresh.now.entries s.kept.now.entries) position };
-
-    fn value(&self, alloc: Global, row: u32, col: u32) -> Result<Value, Memory> {
-        seen_value(alloc, self.edited, self.kept, self.fresh, (row, col))
-    }
-}
 
 /// The values of the waiting cells: of each that isn't circular. What is kept of other cells is right.
 pub fn find_values(
@@ -112,20 +92,6 @@ fn try_cell(
     Ok(())
 }
 
-// The value that stands for a cell.
-#[tactic(auto, unfolding(crate::specs::Fates::found_over))]
-fn found<'a>(kept: &'a Fates, fresh: &'a Fresh, position: (u32, u32)) -> Option<&'a Value>
-    ensures { option_copied result ≡ found_over fresh.now.entries kept.now.entries position }
-{
-    match fresh.get(&position) {
-        Some(value) => value.as_ref(),
-        None => match kept.get(&position) {
-            Some(fate) => fate.value(),
-            None => None,
-        },
-    }
-}
-
 // The value of a cell, where those of all cells that it reads are seen.
 #[tactic(auto, using(crate::proofs::FindLaws::attempt_plain, crate::proofs::FindLaws::attempt_formula, crate::proofs::FindLaws::attempt_early))]
 fn attempt(
@@ -137,99 +103,34 @@ fn attempt(
 ) -> Result<Option<Value>, Memory>
     ensures { IfOk result (λ value. value ≡ attempted edited.now (found_over fresh.now.entries kept.now.entries) position) }
 {
-    match edited.formula(position) {
-        Some(expression) => attempt_formula(alloc, edited, kept, fresh, expression),
+    match edited.naming_formula(position) {
+        Some((expression, blocks)) => {
+            attempt_formula(alloc, edited, kept, fresh, expression, blocks)
+        }
         None => Ok(Some(seen_value(alloc, edited, kept, fresh, position)?)),
     }
 }
 
-// The value of an expression, where those of all cells that it reads are seen.
+// The value of an expression that names these blocks, where those of all cells that it reads are seen.
 fn attempt_formula(
     alloc: Global,
     edited: &Edited<'_>,
     kept: &Fates,
     fresh: &Fresh,
     expression: &Expr,
+    blocks: &[Block],
 ) -> Result<Option<Value>, Memory>
+    requires { blocks.now ≡ blocks_of expression.now }
     ensures { IfOk result (λ value. value ≡ (if list_all (λ r. is_some (seen_at edited.now (found_over fresh.now.entries kept.now.entries) r)) (reads_of expression.now) then Some (eval_of (look_at edited.now (found_over fresh.now.entries kept.now.entries)) expression.now) else None)) }
 {
-    let read = reads(alloc, expression)?;
-    if !are_seen(edited, kept, fresh, read.as_slice()) {
-        return Ok(None);
+    if are_blocks_seen(edited, kept, fresh, blocks) {
+        let seen = Seen {
+            edited,
+            kept,
+            fresh,
+        };
+        let value = eval(alloc, expression, &seen)?;
+        return Ok(Some(value));
     }
-    let seen = Seen {
-        edited,
-        kept,
-        fresh,
-    };
-    let value = eval(alloc, expression, &seen)?;
-    Ok(Some(value))
-}
-
-// Whether each of the cells is seen.
-fn are_seen(edited: &Edited<'_>, kept: &Fates, fresh: &Fresh, positions: &[(u32, u32)]) -> bool
-    ensures { result ≡ list_all (λ r. is_some (seen_at edited.now (found_over fresh.now.entries kept.now.entries) r)) positions.now }
-{
-    positions
-        .iter()
-        .all(|position| is_seen(edited, kept, fresh, *position))
-}
-
-// Whether the cell's value is seen: the cell has no formula, or its value was found.
-#[tactic(auto, using(crate::proofs::FindLaws::is_seen_plain, crate::proofs::FindLaws::seen_formula))]
-fn is_seen(edited: &Edited<'_>, kept: &Fates, fresh: &Fresh, position: (u32, u32)) -> bool
-    ensures { result ≡ is_some (seen_at edited.now (found_over fresh.now.entries kept.now.entries) position) }
-{
-    match edited.formula(position) {
-        Some(_) => found(kept, fresh, position).is_some(),
-        None => true,
-    }
-}
-
-// The value of a cell for a formula that names it.
-#[tactic(auto, using(crate::proofs::FindLaws::look_through, crate::proofs::FindLaws::look_empty))]
-fn seen_value(
-    alloc: Global,
-    edited: &Edited<'_>,
-    kept: &Fates,
-    fresh: &Fresh,
-    position: (u32, u32),
-) -> Result<Value, Memory>
-    ensures { IfOk result (λ value. value ≡ look_at edited.now (found_over fresh.now.entries kept.now.entries) position) }
-{
-    match edited.content(position) {
-        Some(content) => content_value(alloc, kept, fresh, position, content),
-        None => Ok(Value::Empty),
-    }
-}
-
-// The value of a cell whose text says this, for a formula that names it.
-fn content_value(
-    alloc: Global,
-    kept: &Fates,
-    fresh: &Fresh,
-    position: (u32, u32),
-    content: &Content,
-) -> Result<Value, Memory>
-    ensures { IfOk result (λ value. value ≡ unwrap_or (seen_in content.now (found_over fresh.now.entries kept.now.entries position)) (Fault Circ)) }
-{
-    match content {
-        Content::Plain(value) => value.copy(alloc),
-        Content::Formula(_) => found_value(alloc, kept, fresh, position),
-    }
-}
-
-// The value that stands for a cell, and else that of a circular one.
-fn found_value(
-    alloc: Global,
-    kept: &Fates,
-    fresh: &Fresh,
-    position: (u32, u32),
-) -> Result<Value, Memory>
-    ensures { IfOk result (λ value. value ≡ unwrap_or (found_over fresh.now.entries kept.now.entries position) (Fault Circ)) }
-{
-    match found(kept, fresh, position) {
-        Some(value) => value.copy(alloc),
-        None => Ok(Value::Fault(CellFault::Circ)),
-    }
+    Ok(None)
 }

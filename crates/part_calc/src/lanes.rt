@@ -102,8 +102,8 @@ fn is_block(block: Block, other: Block) -> bool
     is_cell(block.0, other.0) && is_cell(block.1, other.1)
 }
 
-// Whether two cells are one.
-fn is_cell(cell: (u32, u32), other: (u32, u32)) -> bool
+/// Whether two cells are one.
+pub fn is_cell(cell: (u32, u32), other: (u32, u32)) -> bool
     ensures { result ≡ is_at (position_cmp cell) other }
 {
     cell == other

@@ -5,6 +5,8 @@
 //! - `recalculate` (`recalculation`): what an edit leaves, found before anything is changed.
 //! - `follow` (`dependants`): the cells that an edit affects, along the cells that read a cell.
 //! - `find_values` (`finding`): the values of the affected formulas, by sweeps.
+//! - `Seen` (`looking`): the values of cells as far as they are found; `values_between` (`ranges`): those of
+//!   the cells of a range, of which the ones alone are gone through that are there.
 //! - `Index` (`lanes`): which formulas name a cell; `Fates` (`shown`): what becomes of formulas.
 //! - `commit` and its like (`keeping`): what is kept, from one edit to the next.
 //! - `Edited` (`edited`): a part as it is once a cell has another text.
@@ -22,8 +24,10 @@ mod lanes;
 mod laws;
 mod lengths;
 mod lines;
+mod looking;
 mod part;
 mod positions;
+mod ranges;
 mod readers;
 mod recalculation;
 mod shown;

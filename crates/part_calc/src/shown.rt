@@ -11,7 +11,7 @@ ghost use Rattle.part_calc.specs.Shown.{shown_value, fault_name};
 ghost use Rattle.part_calc.specs.Fates.{fate_shown, text_shown};
 
 use crate::contents::{Cell, Content};
-use crate::finding::Fresh;
+use crate::looking::Fresh;
 use cool_base::{Memory, TextOf};
 use formula_base::{CellFault, Value};
 use std::alloc::Global;

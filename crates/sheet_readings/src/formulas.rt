@@ -5,7 +5,7 @@ ghost use Rattle.formula_base.specs.declared.values.Value.TheVariants.{Empty, Nu
 
 use crate::spelling::number;
 use cool_base::Memory;
-use formula_base::{CellFault, Expr, Lookup, Value, eval, reads};
+use formula_base::{CellFault, Expr, Lookup, Value, each_value, eval, reads};
 use sheet_cells::{Plain, read_plain, read_ref};
 use sheet_formula::read_formula;
 use std::alloc::Global;
@@ -31,6 +31,15 @@ impl Lookup for Sevens {
         } else {
             Ok(Value::Empty)
         }
+    }
+
+    fn values(
+        &self,
+        alloc: Global,
+        first: (u32, u32),
+        last: (u32, u32),
+    ) -> Result<Vec<Value>, Memory> {
+        each_value(alloc, self, first, last)
     }
 }
 
