@@ -50,8 +50,8 @@ module _ {S : Type 0} (contents : S → Option (List ℕ)) where
       → Goes between gone after → Sends contents old frame pushed new
       → PushesNext contents old before pushed new after
   leaves old new before between after frame gone pushed first same goes sends =
-      Leaves frame (first_goes before after frame gone first (subst (λ q. Goes q gone after) same goes))
-      sends
+      Leaves frame
+      (first_goes before after frame gone first (subst (λ q. Goes q gone after) same goes)) sends
 
   -- The one on its way has left, and the next one goes.
   pub next_goes : (old mid new : Socket S) (before after : Queue) (result : Result Pushed Memory)
