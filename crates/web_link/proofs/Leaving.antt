@@ -33,11 +33,16 @@ same_first xs x y tail other one two =
 first_goes : (before after : Queue) (frame : List ℕ) (gone : Option (List ℕ))
     → IsFirst frame before → Goes before gone after → Goes before (Some frame) after
 first_goes before after frame None first goes =
-    absurd (omega (arith, ap (λ (l : List (List ℕ)). length l) first.1,
-    ap (λ (l : List (List ℕ)). length l) goes.0))
-first_goes before after frame (Some other) first goes =
-    (subst (λ f. before.waiting ≡ f ∷ after.waiting)
-    (same_first before.waiting frame other first.0 after.waiting first.1 goes.0) goes.0, goes.1)
+    absurd (omega (
+      arith,
+      ap (λ (l : List (List ℕ)). length l) first.1,
+      ap (λ (l : List (List ℕ)). length l) goes.0,
+    ))
+first_goes before after frame (Some other) first goes = (
+  subst (λ f. before.waiting ≡ f ∷ after.waiting)
+      (same_first before.waiting frame other first.0 after.waiting first.1 goes.0) goes.0,
+  goes.1,
+)
 
 -- Where one waits first, one waits.
 pub one_waits : (q : Queue) (frame : List ℕ) → IsFirst frame q → 0 < length q.waiting
