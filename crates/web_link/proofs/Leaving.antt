@@ -33,11 +33,16 @@ same_first xs x y tail other one two =
 first_goes : (before after : Queue) (frame : List ℕ) (gone : Option (List ℕ))
     → IsFirst frame before → Goes before gone after → Goes before (Some frame) after
 first_goes before after frame None first goes =
-    absurd (omega (arith, ap (λ (l : List (List ℕ)). length l) first.1,
-    ap (λ (l : List (List ℕ)). length l) goes.0))
-first_goes before after frame (Some other) first goes =
-    (subst (λ f. before.waiting ≡ f ∷ after.waiting)
-    (same_first before.waiting frame other first.0 after.waiting first.1 goes.0) goes.0, goes.1)
+    absurd (omega (
+      arith,
+      ap (λ (l : List (List ℕ)). length l) first.1,
+      ap (λ (l : List (List ℕ)). length l) goes.0,
+    ))
+first_goes before after frame (Some other) first goes = (
+  subst (λ f. before.waiting ≡ f ∷ after.waiting)
+      (same_first before.waiting frame other first.0 after.waiting first.1 goes.0) goes.0,
+  goes.1,
+)
 
 -- Where one waits first, one waits.
 pub one_waits : (q : Queue) (frame : List ℕ) → IsFirst frame q → 0 < length q.waiting
@@ -50,8 +55,8 @@ module _ {S : Type 0} (contents : S → Option (List ℕ)) where
       → Goes between gone after → Sends contents old frame pushed new
       → PushesNext contents old before pushed new after
   leaves old new before between after frame gone pushed first same goes sends =
-      Leaves frame (first_goes before after frame gone first (subst (λ q. Goes q gone after) same goes))
-      sends
+      Leaves frame
+      (first_goes before after frame gone first (subst (λ q. Goes q gone after) same goes)) sends
 
   -- The one on its way has left, and the next one goes.
   pub next_goes : (old mid new : Socket S) (before after : Queue) (result : Result Pushed Memory)

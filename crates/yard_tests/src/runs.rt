@@ -104,12 +104,7 @@ fn offer<R: Wait>(rt: &R, yard: &mut SharedYard<Work<Shade>>, work: Work<Shade>)
 }
 
 // Offers the works, and then so many close marks.
-fn offer_all<R: Wait>(
-    rt: &R,
-    yard: SharedYard<Work<Shade>>,
-    works: Vec<Work<Shade>>,
-    marks: u64,
-) {
+fn offer_all<R: Wait>(rt: &R, yard: SharedYard<Work<Shade>>, works: Vec<Work<Shade>>, marks: u64) {
     let mut yard = yard;
     for work in works {
         offer(rt, &mut yard, work);
@@ -222,7 +217,12 @@ fn a_work_that_lacks_memory_ends_its_run(rt: HostRuntime) -> Result<(), Fail> {
     assert_eq!(rt; worker.post.taken.as_slice(), before.as_slice());
     assert_eq!(rt; worker.work(&rt, alloc), WorkerEnd::Closed);
     assert_eq!(rt; worker.gate.passed, 6);
-    let after = [wanted(0, 200), wanted(1, 200), wanted(4, 200), wanted(5, 200)];
+    let after = [
+        wanted(0, 200),
+        wanted(1, 200),
+        wanted(4, 200),
+        wanted(5, 200),
+    ];
     assert_eq!(rt; worker.post.taken.as_slice(), after.as_slice());
     assert!(rt; matches!(worker.end.take(&rt), Item::Work(DocId(9), _)));
     Ok(())
