@@ -1,4 +1,4 @@
-use Rattle.std.proofs.Common.{◌≡◌, ◌∙◌, ◌+◌, ap, arith, [], sym}
+use Rattle.std.proofs.Common.{◌≡◌, ◌∙◌, ap, arith, []}
 use Rattle.std.proofs.lemmas.List.{nil_from_length}
 use Rattle.std.proofs.lemmas.Grind.{common_steps}
 use Rattle.wire_body.specs.Bodies.{run, framing_in}
