@@ -59,15 +59,20 @@ headed k old mid parts bytes more len got =
     Headed parts (drop len bytes ++ more) (k.grows bytes parts (drop len bytes) more got.reads) (omega (arith, within, length-append bytes more, length-append (drop len bytes) more))
 
 -- a piece that came where the bytes began a head
-pub begun_late : {P M : Type 0} (k : Kind P M) (bytes piece all : List ℕ) → length bytes < HEAD_LIMIT → k.begins bytes → length piece ≤ PIECE_LIMIT → all ≡ bytes ++ piece
-    → AllButLast (SaysNothing k) all
-begun_late k bytes piece all less begun small is = inr (bytes, piece, is, small, (Open less begun, refl))
+pub begun_late : {P M : Type 0} (k : Kind P M) (bytes piece all : List ℕ)
+    → length bytes < HEAD_LIMIT → k.begins bytes → length piece ≤ PIECE_LIMIT
+    → all ≡ bytes ++ piece → AllButLast (SaysNothing k) all
+begun_late k bytes piece all less begun small is =
+    inr (bytes, piece, is, small, (Open less begun, refl))
 
 -- the pieces of a body, behind those of its head
-late_body : {P M : Type 0} (k : Kind P M) (old mid : Option Talk) (parts : P) (bytes more : List ℕ) (len : ℕ) → GotHead k old mid parts bytes len
-    → AllButLast (IsSilent (start_of (k.framing parts)) (drop len bytes)) more → AllButLast (SaysNothing k) (bytes ++ more)
+late_body : {P M : Type 0} (k : Kind P M) (old mid : Option Talk) (parts : P)
+    (bytes more : List ℕ) (len : ℕ) → GotHead k old mid parts bytes len
+    → AllButLast (IsSilent (start_of (k.framing parts)) (drop len bytes)) more
+    → AllButLast (SaysNothing k) (bytes ++ more)
 late_body k old mid parts bytes more len got (inl none) =
-    subst (λ xs. AllButLast (SaysNothing k) xs) (sym (ap (λ xs. bytes ++ xs) none ∙ append-nil bytes)) got.late
+    subst (λ xs. AllButLast (SaysNothing k) xs)
+    (sym (ap (λ xs. bytes ++ xs) none ∙ append-nil bytes)) got.late
 late_body k old mid parts bytes more len got (inr (before, last, is, small, silent)) = inr (
   bytes ++ before,
   last,

@@ -21,8 +21,8 @@ pub fn read_request<W: Wire>(alloc: Global, wire: &mut W) -> Result<Request, Htt
 }
 
 /// The response that the wire gives, by the first head that is there. Its head has at most
-/// `HEAD_LIMIT` bytes, its body `BODY_LIMIT`. Nothing is received behind bytes that say it, or that say
-/// why there is none.
+/// `HEAD_LIMIT` bytes, its body `BODY_LIMIT`. Nothing is received behind bytes that say it, or that
+/// say why there is none.
 pub fn read_response<W: Wire>(alloc: Global, wire: &mut W) -> Result<Response, HttpFault>
     ensures says { ReadsMessage responses (W.talk wire.old) (W.talk wire.new) result }
     ensures cause { HasCause (W.faults wire.old) (W.faults wire.new) (IsErrOf result (HttpFault.Wire WireFault.ReadFault)) }

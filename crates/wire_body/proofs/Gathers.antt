@@ -1,6 +1,7 @@
 -- The pieces of a body that came over a wire, and what they lead to.
-use Rattle.std.proofs.Common.{ℕ, ◌≡◌, ◌+◌, ◌≤◌, Bool, true, false, List, [], ◌++◌, length, take, Option, Some, None, Result, Err, inl, inr}
-use Rattle.std.proofs.Common.{refl, sym, ap, ◌∙◌, subst, arith, not, ◌||◌, nat_le, cond, append_assoc, append-nil}
+use Rattle.std.proofs.Common.{ℕ, ◌≡◌, ◌+◌, ◌≤◌, Bool, true, false, not, ◌||◌, nat_le, cond}
+use Rattle.std.proofs.Common.{List, [], ◌++◌, length, take, Option, Some, None, Result, Err}
+use Rattle.std.proofs.Common.{refl, sym, ap, ◌∙◌, subst, arith, append_assoc, append-nil, inl, inr}
 use Rattle.std.proofs.lemmas.List.{length-take-le}
 use Rattle.outside.specs.declared.faults.WireFault.TheVariants.{ReadFault, BadChunk}
 use Rattle.outside.specs.Wires.{Talk, Hears}
@@ -90,14 +91,23 @@ pub goes_on : (n : ℕ) (p : Phase) → speaks n p ≡ false → (nat_le n FRAMI
 goes_on n p is = within_behind (nat_le n FRAMING_LIMIT) (is_final p) is
 
 -- what a receive gave is one piece
-pub piece_small : (count : ℕ) (into : List ℕ) → count ≤ length into → length into ≤ PIECE_LIMIT → length (take count into) ≤ PIECE_LIMIT
-piece_small count into within small = omega (arith, within, small, length-take-le count into within)
+pub piece_small : (count : ℕ) (into : List ℕ) → count ≤ length into
+    → length into ≤ PIECE_LIMIT → length (take count into) ≤ PIECE_LIMIT
+piece_small count into within small =
+    omega (arith, within, small, length-take-le count into within)
 
 -- a piece that was received where nothing was said yet
-late_by : (old new : Option Talk) (start : BodyState) (front : List ℕ) (s : BodyState) (body piece : List ℕ) (n : ℕ) (g : Gathers old new start front s body n)
-    → speaks n s.phase ≡ false → length piece ≤ PIECE_LIMIT → AllButLast (IsSilent start front) (g.more ++ piece)
-late_by old new start front s body piece n g is small =
-    inr (g.more, piece, refl, small, sym (says old new start front s body n g false) ∙ nothing_yet n s.phase body is)
+late_by : (old new : Option Talk) (start : BodyState) (front : List ℕ) (s : BodyState)
+    (body piece : List ℕ) (n : ℕ) (g : Gathers old new start front s body n)
+    → speaks n s.phase ≡ false → length piece ≤ PIECE_LIMIT
+    → AllButLast (IsSilent start front) (g.more ++ piece)
+late_by old new start front s body piece n g is small = inr (
+  g.more,
+  piece,
+  refl,
+  small,
+  sym (says old new start front s body n g false) ∙ nothing_yet n s.phase body is,
+)
 
 -- more was gathered
 pub gathers_more : (old new new' : Option Talk) (start : BodyState) (front : List ℕ) (s s' : BodyState) (body body' piece : List ℕ) (n n' : ℕ)

@@ -27,8 +27,8 @@ IsSaid said (Err (Wire fault)) = FaultSaid said fault
 abbrev pub Stops : {A : Type 0} → Option (Result A WireFault) → Bool → Type 0
 Stops said ended = ended ≡ true → said ≡ None
 
--- Bytes came in pieces, and all but the last piece led to bytes of which this holds: no receive gives
--- more than one piece. Or no bytes came.
+-- Bytes came in pieces, one in each receive, and of those before the last piece this holds. Or no
+-- bytes came.
 abbrev pub AllButLast : (List ℕ → Type 0) → List ℕ → Type 0
 AllButLast Holds bytes =
     (bytes ≡ [])
@@ -39,8 +39,9 @@ AllButLast Holds bytes =
 abbrev pub IsSilent : BodyState → List ℕ → List ℕ → Type 0
 IsSilent start front bytes = body_says start (front ++ bytes) false ≡ None
 
--- Bytes were received, with the end or without, and the answer is what they say behind those that came before.
--- No end was asked for behind a body that was whole without it, and all bytes but the last piece said nothing yet.
+-- Bytes were received, with the end or without, and the answer is what they say behind those that came
+-- before. No end was asked for behind a body that was whole without it, and all bytes but the last
+-- piece said nothing yet.
 abbrev pub ReadsBody : Option Talk → Option Talk → BodyState → List ℕ → Result (List ℕ) HttpFault → Type 0
 ReadsBody old new start front result =
     (more : List ℕ) × (ended : Bool) × Hears old more ended new × IsSaid (body_says start (front ++ more) ended) result

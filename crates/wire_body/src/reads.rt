@@ -41,8 +41,8 @@ fn answer_of(place: Progress, body: Vec<u8>, ended: bool) -> Result<Bytes, HttpF
 
 /// Reads a body that begins in the given state, of which the bytes in `front` have come already. Where
 /// its bytes are past a limit or not in the grammar, that is the answer as soon as they say so:
-/// BodyTooLong past `BODY_LIMIT` bytes of content, BadChunk past `FRAMING_LIMIT` bytes of framing, or
-/// past `LINE_LIMIT` in the line of a size or in all trailers.
+/// BodyTooLong past `BODY_LIMIT` bytes of content, BadChunk past `FRAMING_LIMIT` bytes of framing,
+/// or past `LINE_LIMIT` in the line of a size or in all trailers.
 pub fn read_body<W: Wire>(
     alloc: Global,
     wire: &mut W,
