@@ -16,7 +16,7 @@ use Rattle.document_machine.specs.declared.limits.TheConstants.{MOST_ASKED}
 use Rattle.view_session.specs.Viewing.{Viewing, Entry, asks, looks, zooms, goes_to, cancels, wants}
 use Rattle.view_session.specs.declared.views.ViewFault.{ViewFault}
 use Rattle.view_session.specs.declared.views.ViewFault.TheVariants.{TooLarge as SeesTooMuch, AskedFull as AsksTooMuch, Memory}
-use Rattle.broker_core.specs.Hearing.{Hears, effect_in, frames_in, inputs_in, outcome_of}
+use Rattle.broker_core.specs.Hearing.{Hears, effect_in, frames_in, inputs_in, save_in, outcome_of}
 use Rattle.broker_core.specs.Members.{shown_of, view_of}
 use Rattle.broker_core.specs.declared.hearing.Outcome.{Outcome}
 use Rattle.broker_core.specs.declared.hearing.Outcome.TheVariants.{Nothing, Answer}
@@ -65,10 +65,10 @@ refuses_hears sizes member command kind effect outcome is effect_is seen = same_
 
 -- a message by which the view is this one
 becomes_hears : (sizes : ℕ → Extent) (member : Member) (next : Viewing) (view : View) (keeps : Entry → Bool) (outcome : Outcome)
-    → frames_in outcome ≡ [] → inputs_in outcome ≡ [] → view_of (with_viewing member next) ≡ view → next.visible ≡ seen_keys sizes view → next.screen ≡ filter keeps member.view.screen
+    → frames_in outcome ≡ [] → inputs_in outcome ≡ [] → save_in outcome ≡ None → view_of (with_viewing member next) ≡ view → next.visible ≡ seen_keys sizes view → next.screen ≡ filter keeps member.view.screen
     → Hears sizes member (becomes view) outcome (with_viewing member next)
-becomes_hears sizes member next view keeps outcome frames inputs view_is seen screen = record {
-  is = λ i. record { frames = frames i; inputs = inputs i; view = view_is i };
+becomes_hears sizes member next view keeps outcome frames inputs save view_is seen screen = record {
+  is = λ i. record { frames = frames i; inputs = inputs i; save = save i; view = view_is i };
   seen = seen ∙ ap (seen_keys sizes) (sym view_is);
   keeps = keeps;
   screen_is = screen;
@@ -87,11 +87,11 @@ change_hears sizes member now command changed next keeps (Ok done) outcome id_is
     let effect_is : becomes (forgets sizes changed) ≡ seeing_effect sizes (view_of member) command changed = ap (λ b. cond b (refuses (view_of member) command TooLarge) (becomes (forgets sizes changed))) (sym small) in
     subst (λ (m : Member). Hears sizes member (seeing_effect sizes (view_of member) command changed) outcome m) now_is
     (subst (λ (e : Effect). Hears sizes member e outcome (with_viewing member next)) effect_is
-    (becomes_hears sizes member next (forgets sizes changed) keeps outcome (ap frames_in told) (ap inputs_in told) view_is seen screen))
+    (becomes_hears sizes member next (forgets sizes changed) keeps outcome (ap frames_in told) (ap inputs_in told) (ap save_in told) view_is seen screen))
 change_hears sizes member now command changed next keeps (Err SeesTooMuch) outcome id_is ok large full err memory told view_is seen screen was =
     let now_is : member ≡ now = λ i. record { id = sym id_is i; view = sym err i } in
     let effect_is : refuses (view_of member) command TooLarge ≡ seeing_effect sizes (view_of member) command changed = ap (λ b. cond b (refuses (view_of member) command TooLarge) (becomes (forgets sizes changed))) (sym (large.0 refl)) in
-    let is : effect_in (view_of member) outcome ≡ refuses (view_of member) command TooLarge = λ i. record { frames = ap frames_in told i; inputs = ap inputs_in told i; view = view_of member } in
+    let is : effect_in (view_of member) outcome ≡ refuses (view_of member) command TooLarge = λ i. record { frames = ap frames_in told i; inputs = ap inputs_in told i; save = ap save_in told i; view = view_of member } in
     subst (λ (m : Member). Hears sizes member (seeing_effect sizes (view_of member) command changed) outcome m) now_is (same_hears sizes member _ outcome (is ∙ effect_is) was)
 change_hears sizes member now command changed next keeps (Err AsksTooMuch) outcome id_is ok large full err memory told view_is seen screen was = absurd (full refl)
 change_hears sizes member now command changed next keeps (Err Memory) outcome id_is ok large full err memory told view_is seen screen was = absurd (memory refl)
@@ -155,14 +155,14 @@ ask_hears sizes member now keys (Ok done) outcome command id_is ok full large er
     let effect_is : becomes view ≡ asking_effect (view_of member) command (Some keys) = ap (λ b. cond b (refuses (view_of member) command AskedFull) (becomes view)) (sym few) in
     subst (λ (m : Member). Hears sizes member (asking_effect (view_of member) command (Some keys)) outcome m) now_is
     (subst (λ (e : Effect). Hears sizes member e outcome (with_viewing member (asks keys member.view))) effect_is
-    (becomes_hears sizes member (asks keys member.view) view (λ entry. true) outcome (ap frames_in told) (ap inputs_in told) refl was (sym (keeps_all member.view.screen))))
+    (becomes_hears sizes member (asks keys member.view) view (λ entry. true) outcome (ap frames_in told) (ap inputs_in told) (ap save_in told) refl was (sym (keeps_all member.view.screen))))
 ask_hears sizes member now keys (Err AsksTooMuch) outcome command id_is ok full large err memory told was =
     let asked : List Place = asked_with_all member.view.asked keys in
     let over : MOST_ASKED < length asked = full.0 refl in
     let many : nat_lt MOST_ASKED (length asked) ≡ true = grind (arith, nat_tests) in
     let now_is : member ≡ now = λ i. record { id = sym id_is i; view = sym err i } in
     let effect_is : refuses (view_of member) command AskedFull ≡ asking_effect (view_of member) command (Some keys) = ap (λ b. cond b (refuses (view_of member) command AskedFull) (becomes (record (view_of member) { asked = asked }))) (sym many) in
-    let is : effect_in (view_of member) outcome ≡ refuses (view_of member) command AskedFull = λ i. record { frames = ap frames_in told i; inputs = ap inputs_in told i; view = view_of member } in
+    let is : effect_in (view_of member) outcome ≡ refuses (view_of member) command AskedFull = λ i. record { frames = ap frames_in told i; inputs = ap inputs_in told i; save = ap save_in told i; view = view_of member } in
     subst (λ (m : Member). Hears sizes member (asking_effect (view_of member) command (Some keys)) outcome m) now_is (same_hears sizes member _ outcome (is ∙ effect_is) was)
 ask_hears sizes member now keys (Err SeesTooMuch) outcome command id_is ok full large err memory told was = absurd (large refl)
 ask_hears sizes member now keys (Err Memory) outcome command id_is ok full large err memory told was = absurd (memory refl)
@@ -177,13 +177,13 @@ cancel_hears sizes member was =
     ap (λ (s : List Shown). record (view_of (with_viewing member v)) { screen = s }) (sym (screen_keeps (wants v) member.view.screen)) in
     let keeps : Entry → Bool = λ entry. wants v entry.key in
     subst (λ (x : Viewing). Hears sizes member (becomes (cancels_all sizes (view_of member))) Nothing (with_viewing member (cancels x))) same
-    (becomes_hears sizes member (cancels e) (cancels_all sizes (view_of member)) keeps Nothing refl refl view_is refl refl)
+    (becomes_hears sizes member (cancels e) (cancels_all sizes (view_of member)) keeps Nothing refl refl refl view_is refl refl)
 
 -- the tiles with these numbers leave the window
 pub acknowledge_hears : (sizes : ℕ → Extent) (member now : Member) (wids : List ℕ) → now ≡ with_viewing member (record member.view { window = filter (λ tile. not (list_any (λ wid. nat_eq wid tile.wid) wids)) member.view.window }) → member.view.visible ≡ seen_keys sizes (view_of member) → Hears sizes member (becomes (acknowledged wids (view_of member))) Nothing now
 acknowledge_hears sizes member now wids is was =
     subst (λ (m : Member). Hears sizes member (becomes (acknowledged wids (view_of member))) Nothing m) (sym is)
-    (becomes_hears sizes member _ (acknowledged wids (view_of member)) (λ entry. true) Nothing refl refl refl was (sym (keeps_all member.view.screen)))
+    (becomes_hears sizes member _ (acknowledged wids (view_of member)) (λ entry. true) Nothing refl refl refl refl was (sym (keeps_all member.view.screen)))
 
 -- going to a part that the document lacks, and to one that it has
 pub goes_nowhere : (limits : Limits) (view : View) (part n : ℕ) → n ≡ limits.parts → n ≤ part → refuses view (codes "setclientpart") BadTile ≡ going_effect limits view part

@@ -64,7 +64,7 @@ pub damage_is : {C B : Type 0} (rules : Rules C B) (base : List ℕ) (journal : 
 damage_is rules base journal n input behind = rw behind refl
 
 -- an entry's mark is right after one more input
-mark_more : {C B : Type 0} (rules : Rules C B) (base : List ℕ) (journal : List Input) (applied : ℕ) (damages : List Damage) (entry : Entry) → damages ≡ damage_of rules base journal applied → entry.version ≤ applied → entry.stale ≡ touched rules base journal entry.version entry.key applied → (entry.stale || is_hurt damages entry.key) ≡ touched rules base journal entry.version entry.key (applied + 1)
+pub mark_more : {C B : Type 0} (rules : Rules C B) (base : List ℕ) (journal : List Input) (applied : ℕ) (damages : List Damage) (entry : Entry) → damages ≡ damage_of rules base journal applied → entry.version ≤ applied → entry.stale ≡ touched rules base journal entry.version entry.key applied → (entry.stale || is_hurt damages entry.key) ≡ touched rules base journal entry.version entry.key (applied + 1)
 mark_more rules base journal applied damages entry is le right =
     ap (λ b. b || is_hurt damages entry.key) right
     ∙ ap (λ (h : List Damage). touched rules base journal entry.version entry.key applied || is_hurt h entry.key) is

@@ -1,8 +1,7 @@
 -- What a turn does is a work of the machine, and the broker keeps what it kept.
-use Rattle.std.proofs.Common.{◌≡◌, ℕ, zero, suc, ◌+◌, ◌<◌, ◌≤◌, true, false, ◌&&◌, ◌||◌, cond, List, [], ◌∷◌, ◌++◌, length, map, drop, get_or, Option, Some, refl, sym, ap, subst, ◌∙◌, inl, inr, arith, rules, append_assoc, nat_eq}
+use Rattle.std.proofs.Common.{◌≡◌, ℕ, zero, suc, ◌+◌, ◌<◌, ◌≤◌, true, false, cond, List, [], ◌∷◌, ◌++◌, length, map, drop, get_or, Option, Some, refl, sym, ap, subst, ◌∙◌, arith, append_assoc}
 use Rattle.std.specs.Prelude.{nat_lt, slice_get}
-use Rattle.std.specs.List.{sum_by, AllByRecursion}
-use Rattle.std.proofs.lemmas.Bool.{and_parts}
+use Rattle.std.specs.List.{AllByRecursion}
 use Rattle.std.proofs.lemmas.Bool.Decides.{nat_tests}
 use Rattle.std.proofs.lemmas.List.{drop_more}
 use Rattle.cool_base.specs.declared.ids.ViewId.{ViewId}
@@ -11,44 +10,42 @@ use Rattle.cool_frame.specs.declared.frame.Frame.TheVariants.{Invalidate}
 use Rattle.kit_trait.specs.Rules.{Rules}
 use Rattle.kit_trait.specs.declared.values.Damage.{Damage}
 use Rattle.kit_trait.specs.declared.values.Input.{Input}
-use Rattle.tile_key.specs.Places.{Place, IsArea, place_of_keys}
-use Rattle.document_machine.specs.Due.{parts_of, damage_of, is_due, has_room}
-use Rattle.document_machine.specs.Event.{Turned}
-use Rattle.document_machine.specs.Kept.{IsKept, IsViewKept}
-use Rattle.document_machine.specs.Next.{Work, Apply, Cut, next_pair, none_kept, pick, serving_next}
+use Rattle.tile_cache.specs.Cached.{Cached}
+use Rattle.tile_key.specs.Places.{Place}
+use Rattle.document_machine.specs.Due.{parts_of, damage_of}
+use Rattle.document_machine.specs.Event.{Event, Turned}
+use Rattle.document_machine.specs.Goes.{Did, DoesNext, Goes, Moves, next_work}
+use Rattle.document_machine.specs.Held.{Held, current_version, kept_by}
+use Rattle.document_machine.specs.Kept.{IsHeld, IsKept, IsViewKept}
+use Rattle.document_machine.specs.Next.{Work, Serve, Apply, next_pair, serving_next}
 use Rattle.document_machine.specs.Outputs.{named, frames_only, outs_of}
 use Rattle.document_machine.specs.Rank.{Lowers}
-use Rattle.document_machine.specs.State.{Document, Job, View, Shown}
-use Rattle.document_machine.specs.Step.{Applies, Cuts, Does, Goes, told, given, is_owed, is_wanted}
+use Rattle.document_machine.specs.Saves.{has_ready_save}
+use Rattle.document_machine.specs.State.{Document, View, Shown}
+use Rattle.document_machine.specs.Step.{Applies, Does, told}
 use Rattle.document_machine.specs.declared.outs.Outs.{Outs}
 use Rattle.document_machine.specs.declared.outs.Turned.{Turned as TurnAnswer}
 use Rattle.document_machine.specs.declared.outs.Turned.TheVariants.{Worked, Idle}
 use Rattle.document_machine.proofs.Journal.{doc_more}
 use Rattle.document_machine.proofs.Lists.{all_at}
-use Rattle.document_machine.proofs.Turns.{does_turn, turn_steps}
-use Rattle.document_laws.proofs.Idle.{next_is}
-use Rattle.document_laws.proofs.Kept.{works_keep}
-use Rattle.document_laws.proofs.Rank.{work_lowers}
+use Rattle.document_machine.proofs.Turns.{does_turn}
 use Rattle.view_session.specs.Viewing.{Entry}
-use Rattle.broker_core.specs.Held.{Holds, IsPresent, IsTracked}
+use Rattle.broker_core.specs.Caching.{IsCacheOf, kept_tiles}
+use Rattle.broker_core.specs.Held.{Holds, IsTracked}
 use Rattle.broker_core.specs.Members.{shown_of, view_of, views_of}
-use Rattle.broker_core.specs.Serving.{marked_by, job_of, next_member}
+use Rattle.broker_core.specs.Serving.{cache_damaged, marked_by}
 use Rattle.broker_core.specs.declared.members.Member.{Member}
-use Rattle.broker_core.proofs.Lists.{all_unmap, all_weaker, any_weaker}
+use Rattle.document_laws.proofs.Moving.{moves_keep}
+use Rattle.document_laws.proofs.Rank.{work_lowers}
+use Rattle.broker_core.proofs.Lists.{all_unmap, all_weaker}
 use Rattle.broker_core.proofs.Marks.{damage_is, views_marked, all_marked}
-use Rattle.broker_core.proofs.Search.{next_part, pair_same}
+use Rattle.broker_core.proofs.Noted.{cache_more, jobs_past, kept_noted, next_noted, tiles_past}
 
 -- the element at a place
 got : {X : Type 0} (xs : List X) (i : ℕ) (x : X) → i < length xs → get_or xs i x ≡ x → slice_get xs i ≡ Some x
 got [] i x lt e = absurd (omega arith)
 got (y ∷ ys) zero x lt e = ap Some e
 got (y ∷ ys) (suc i) x lt e = got ys i x (omega arith) e
-
--- the next input names one of the kit's parts
-pub input_part : {C B S : Type 0} (rules : Rules C B) (cut : C → Place → S) (IsSound : C → Type 0) (contents : C) (members : List Member) (d : Document S) (input : Input) → Holds rules cut IsSound contents members d → d.applied < length d.journal → get_or d.journal d.applied input ≡ input → input.part < rules.parts (rules.body contents)
-input_part rules cut IsSound contents members d input h lt at =
-    let low : input.part < parts_of rules d.base = all_at (λ (i : Input). i.part < parts_of rules d.base) d.journal d.applied input h.kept.inputs lt at in
-    omega (arith, low, h.parts_are)
 
 -- the versions on the members' screens are applied
 versions_of : {C B S : Type 0} (rules : Rules C B) (cut : C → Place → S) (d : Document S) (members : List Member) → IsKept rules cut d → d.views ≡ views_of members → AllByRecursion (λ (m : Member). AllByRecursion (λ (e : Entry). e.version ≤ d.applied) m.view.screen) members
@@ -57,128 +54,99 @@ versions_of rules cut d members kept views =
     (λ m k. all_unmap (λ (s : Shown). s.version ≤ d.applied) shown_of m.view.screen k.versions)
     (all_unmap (IsViewKept rules d) view_of members (subst (λ vs. AllByRecursion (IsViewKept rules d) vs) views kept.each))
 
--- the document once its next input is applied
-abbrev pub applied_once : {S : Type 0} → Document S → List Member → Document S
-applied_once d members = record d { applied = d.applied + 1; views = views_of members }
-
--- the next input is applied
-pub applies_by : {C B S : Type 0} (rules : Rules C B) (cut : C → Place → S) (IsSound : C → Type 0) (contents : C) (members after : List Member) (d : Document S) (input : Input) (damages : List Damage) (frames : List (ViewId × Frame))
-    → Holds rules cut IsSound contents members d → d.applied < length d.journal → get_or d.journal d.applied input ≡ input → damages ≡ rules.hurt contents input → after ≡ map (marked_by damages) members
-    → frames ≡ told (views_of members) damages → Applies {S = S} rules d (frames_only frames) (applied_once d after)
-applies_by {C} {B} {S} rules cut IsSound contents members after d input damages frames h lt at damages_are after_is frames_are = record {
-  input = input;
-  behind = got d.journal d.applied input lt at;
-  new_is = ap (λ (vs : List View). record d { applied = d.applied + 1; views = vs }) (ap views_of after_is ∙ views_marked damages members ∙ sym h.views_are);
-  outs_are = ap (λ (fs : List (ViewId × Frame)). frames_only fs)
-      (frames_are ∙ ap (λ vs. told vs damages) (sym h.views_are) ∙ ap (λ (ds : List Damage). told d.views ds) (damages_are ∙ ap (λ c. rules.hurt c input) h.contents_are));
+-- a document once its next input is applied, with its cache noted
+abbrev pub applied_once : {S : Type 0} → Held S → List Member → Cached → Held S
+applied_once held members noted = record {
+  document = record (held.document) { applied = held.document.applied + 1; views = views_of members; next_ticket = noted.next };
+  kept = kept_tiles noted.tiles;
 }
 
-pub holds_applied : {C B S : Type 0} (rules : Rules C B) (cut : C → Place → S) (IsSound : C → Type 0) (contents now : C) (members after : List Member) (d : Document S) (input : Input) (damages : List Damage)
-    → Holds rules cut IsSound contents members d → d.jobs ≡ [] → d.applied < length d.journal → get_or d.journal d.applied input ≡ input → damages ≡ rules.hurt contents input → after ≡ map (marked_by damages) members
-    → now ≡ rules.step contents input
-    → IsSound (rules.step contents input) → rules.parts (rules.body (rules.step contents input)) ≡ rules.parts (rules.body contents) → ((part : ℕ) → rules.size (rules.body (rules.step contents input)) part ≡ rules.size (rules.body contents) part)
-    → Holds rules cut IsSound now after (applied_once d after)
-holds_applied {C} {B} {S} rules cut IsSound contents now members after d input damages h none lt at damages_are after_is is sound same_parts same_sizes =
-    let new : Document S = applied_once d after in
-    let applies : Applies {S = S} rules d (frames_only (told (views_of members) damages)) new = applies_by rules cut IsSound contents members after d input damages (told (views_of members) damages) h lt at damages_are after_is refl in
-    let damage : damages ≡ damage_of rules d.base d.journal d.applied =
-    damages_are ∙ ap (λ c. rules.hurt c input) h.contents_are ∙ sym (damage_is rules d.base d.journal d.applied input (got d.journal d.applied input lt at)) in
-    let marked : AllByRecursion (IsTracked rules d.base d.journal (d.applied + 1)) (map (marked_by damages) members) = all_marked rules d.base d.journal d.applied damages members damage (versions_of rules cut d members h.kept h.views_are) h.tracked in
-    record {
-      kept = works_keep rules cut d new (frames_only (told (views_of members) damages)) (inl applies) h.kept;
-      views_are = refl;
-      contents_are = is ∙ ap (λ c. rules.step c input) h.contents_are ∙ sym (doc_more rules d.base d.journal d.applied input lt at);
-      sound = subst IsSound (sym is) sound;
-      parts_are = ap (λ c. rules.parts (rules.body c)) is ∙ same_parts ∙ h.parts_are;
-      sizes_are = λ part. ap (λ c. rules.size (rules.body c) part) is ∙ same_sizes part ∙ h.sizes_are part;
-      some_part = h.some_part;
-      tracked = subst (λ ms. AllByRecursion (IsTracked rules d.base d.journal (d.applied + 1)) ms) (sym after_is) marked;
-      out = subst (λ (js : List (Job S)). AllByRecursion (IsPresent (d.applied + 1)) js) (sym none) tt;
-    }
+module _ {C B S : Type 0} (rules : Rules C B) (cut : C → Place → S) (IsSound : C → Type 0) (contents : C) (members : List Member) (cache : Cached) (held : Held S) (h : Holds rules cut IsSound contents members cache held) where
+  -- the next input names one of the kit's parts
+  pub input_part : (input : Input) → held.document.applied < length held.document.journal → get_or held.document.journal held.document.applied input ≡ input → input.part < rules.parts (rules.body contents)
+  input_part input lt at =
+      let d : Document S = held.document in
+      let low : input.part < parts_of rules d.base = all_at (λ (i : Input). i.part < parts_of rules d.base) d.journal d.applied input h.kept.document.inputs lt at in
+      omega (arith, low, h.parts_are)
 
--- a place of one key is that key
-place_alone : (key : Place) → key ≡ place_of_keys (key ∷ [])
-place_alone key =
-    let w : key.width ≡ sum_by (λ (q : Place). q.width) (key ∷ []) = omega arith in
-    let t : key.tilewidth ≡ sum_by (λ (q : Place). q.tilewidth) (key ∷ []) = omega arith in
-    ap (λ (n : ℕ). record key { width = n }) w
-    ∙ ap (λ (n : ℕ). record key { width = sum_by (λ (q : Place). q.width) (key ∷ []); tilewidth = n }) t
+  -- the next input is applied
+  pub applies_by : (after : List Member) (input : Input) (damages : List Damage) (noted : Cached) (frames : List (ViewId × Frame))
+      → has_ready_save held.document ≡ false → held.document.applied < length held.document.journal → get_or held.document.journal held.document.applied input ≡ input → damages ≡ rules.hurt contents input → after ≡ map (marked_by damages) members
+      → noted ≡ cache_damaged damages (held.document.applied + 1) cache → frames ≡ told (views_of members) damages → DoesNext rules cut held (Worked (frames_only frames)) (applied_once held after noted)
+  applies_by after input damages noted frames no_save lt at damages_are after_is noted_is frames_are =
+      let d : Document S = held.document in
+      let views_are : views_of after ≡ d.views = ap views_of after_is ∙ views_marked damages members ∙ sym h.views_are in
+      let ticket_is : noted.next ≡ d.next_ticket = ap (λ (c : Cached). c.next) noted_is ∙ next_noted damages (d.applied + 1) cache ∙ sym h.ticket_is in
+      let kept_is : kept_tiles noted.tiles ≡ held.kept = ap (λ (c : Cached). kept_tiles c.tiles) noted_is ∙ kept_noted damages (d.applied + 1) cache ∙ sym h.kept_are in
+      let applies : Applies {S = S} rules d (frames_only frames) ((applied_once held after noted).document) = record {
+        input = input;
+        no_save = no_save;
+        behind = got d.journal d.applied input lt at;
+        new_is = λ i. record d { applied = d.applied + 1; views = views_are i; next_ticket = ticket_is i };
+        outs_are = ap (λ (fs : List (ViewId × Frame)). frames_only fs)
+            (frames_are ∙ ap (λ vs. told vs damages) (sym h.views_are) ∙ ap (λ (ds : List Damage). told d.views ds) (damages_are ∙ ap (λ c. rules.hurt c input) h.contents_are));
+      } in
+      let behind : nat_lt d.applied (length d.journal) ≡ true = grind (arith, nat_tests) in
+      let next : Work = serving_next rules (current_version rules held) d (next_pair rules (current_version rules held) d) in
+      let work_is : next_work rules held ≡ Apply = ap (λ b. cond b Serve (cond (nat_lt d.applied (length d.journal)) Apply next)) no_save ∙ ap (λ b. cond b Apply next) behind in
+      subst (λ (work : Work). Does rules cut d work (Worked (frames_only frames)) ((applied_once held after noted).document) × (kept_tiles noted.tiles ≡ kept_by held.kept work)) (sym work_is) (applies, kept_is)
 
--- the next pair's key is of one of the kit's parts
-pub part_by : {C B S : Type 0} (rules : Rules C B) (cut : C → Place → S) (IsSound : C → Type 0) (contents : C) (members : List Member) (d : Document S) (id : ℕ) (key : Place)
-    → Holds rules cut IsSound contents members d → d.jobs ≡ [] → next_pair rules none_kept d ≡ Some (id, key) → key.part < rules.parts (rules.body contents)
-part_by rules cut IsSound contents members d id key h none next =
-    let low : key.part < parts_of rules d.base = next_part rules d members id key none h.views_are h.kept.each h.tracked next in
-    omega (arith, low, h.parts_are)
-
--- the document once a job of the key is out
-abbrev pub cut_once : {S : Type 0} → Document S → Place → S → Document S
-cut_once d key scene = record d { jobs = job_of d.next_ticket d.applied key scene ∷ []; next_ticket = d.next_ticket + 1 }
-
--- a job of the next pair's key is cut
-pub cuts_by : {C B S : Type 0} (rules : Rules C B) (cut : C → Place → S) (IsSound : C → Type 0) (contents : C) (members : List Member) (d : Document S) (id : ℕ) (key : Place) (scene : S) (outs : Outs S)
-    → Holds rules cut IsSound contents members d → d.jobs ≡ [] → d.applied ≡ length d.journal → next_pair rules none_kept d ≡ Some (id, key) → scene ≡ cut contents key
-    → outs ≡ record { frames = []; jobs = given (job_of d.next_ticket d.applied key scene) ∷ [] } → Does rules cut d (Cut id key) (Worked outs) (cut_once d key scene)
-cuts_by {C} {B} {S} rules cut IsSound contents members d id key scene outs h none level next scene_is outs_are =
-    let job : Job S = job_of d.next_ticket d.applied key scene in
-    let is = next_is rules d id key next in
-    let wanted : is_wanted rules d key ≡ true = any_weaker (λ view. nat_eq view.id id && (has_room view && is_due rules d view key)) (λ view. has_room view && is_due rules d view key) d.views (λ view so. (and_parts (nat_eq view.id id) (has_room view && is_due rules d view key) so).1) is.2 in
-    let owed : is_owed rules d key ≡ true = any_weaker (λ view. has_room view && is_due rules d view key) (λ view. is_due rules d view key) d.views (λ view so. (and_parts (has_room view) (is_due rules d view key) so).1) wanted in
-    let cuts : Cuts rules cut d outs (cut_once d key scene) = record {
-      job = job;
-      level = level;
-      few = is.0;
-      ticket_is = refl;
-      number_is = refl;
-      group = (omega arith, tt);
-      area_is = place_alone key;
-      free = (is.1, tt);
-      owed = (owed, tt);
-      wanted = ap (λ b. b || false) wanted;
-      scene_is = scene_is ∙ ap (λ c. cut c key) h.contents_are;
-      outs_are = outs_are;
-      new_is = ap (λ js. record d { jobs = js ++ job ∷ []; next_ticket = d.next_ticket + 1 }) (sym none);
-    } in
-    (cuts, refl)
-
-pub holds_cut : {C B S : Type 0} (rules : Rules C B) (cut : C → Place → S) (IsSound : C → Type 0) (contents now : C) (members : List Member) (d : Document S) (id : ℕ) (key : Place) (scene : S)
-    → Holds rules cut IsSound contents members d → d.jobs ≡ [] → d.applied ≡ length d.journal → next_pair rules none_kept d ≡ Some (id, key) → scene ≡ cut contents key → now ≡ contents → IsArea key
-    → Holds rules cut IsSound now members (cut_once d key scene)
-holds_cut {C} {B} {S} rules cut IsSound contents now members d id key scene h none level next scene_is is form =
-    let outs : Outs S = record { frames = []; jobs = given (job_of d.next_ticket d.applied key scene) ∷ [] } in
-    let does : Does rules cut d (Cut id key) (Worked outs) (cut_once d key scene) = cuts_by rules cut IsSound contents members d id key scene outs h none level next scene_is refl in
-    record {
-      kept = works_keep rules cut d (cut_once d key scene) outs (inr (inr does.0)) h.kept;
-      views_are = h.views_are;
-      contents_are = is ∙ h.contents_are;
-      sound = subst IsSound (sym is) h.sound;
-      parts_are = ap (λ c. rules.parts (rules.body c)) is ∙ h.parts_are;
-      sizes_are = λ part. ap (λ c. rules.size (rules.body c) part) is ∙ h.sizes_are part;
-      some_part = h.some_part;
-      tracked = h.tracked;
-      out = (record { now = refl; form = form }, tt);
-    }
-
--- the next pair is what the search finds
-pub next_by : {C B S : Type 0} (rules : Rules C B) (cut : C → Place → S) (IsSound : C → Type 0) (contents : C) (members : List Member) (d : Document S)
-    → Holds rules cut IsSound contents members d → d.jobs ≡ [] → next_member members ≡ next_pair rules none_kept d
-next_by rules cut IsSound contents members d h none = sym (pair_same rules d members none h.views_are h.tracked)
-
--- a number that isn't below another, and not above it, is that one
-pub level_by : (applied count : ℕ) → nat_lt applied count ≡ false → applied ≤ count → applied ≡ count
-level_by applied count past level = grind (arith, nat_tests)
-
-pub picks_next : {C B S : Type 0} (rules : Rules C B) (d : Document S) (pair : Option (ℕ × Place)) → nat_lt d.applied (length d.journal) ≡ false → next_pair rules none_kept d ≡ pair → serving_next none_kept pair ≡ pick rules none_kept d
-picks_next rules d pair level is = sym (ap (λ b. cond b Apply (serving_next none_kept (next_pair rules none_kept d))) level ∙ ap (serving_next none_kept) is)
+  pub holds_applied : ((base : List ℕ) → 0 < parts_of rules base) → (now : C) (after : List Member) (input : Input) (damages : List Damage) (noted : Cached)
+      → has_ready_save held.document ≡ false → held.document.applied < length held.document.journal → get_or held.document.journal held.document.applied input ≡ input → damages ≡ rules.hurt contents input → after ≡ map (marked_by damages) members
+      → noted ≡ cache_damaged damages (held.document.applied + 1) cache → now ≡ rules.step contents input
+      → IsSound (rules.step contents input) → rules.parts (rules.body (rules.step contents input)) ≡ rules.parts (rules.body contents) → ((part : ℕ) → rules.size (rules.body (rules.step contents input)) part ≡ rules.size (rules.body contents) part)
+      → Holds rules cut IsSound now after noted (applied_once held after noted)
+  holds_applied some_part now after input damages noted no_save lt at damages_are after_is noted_is is sound same_parts same_sizes =
+      let d : Document S = held.document in
+      let new : Held S = applied_once held after noted in
+      let outs : Outs S = frames_only (told (views_of members) damages) in
+      let does : DoesNext rules cut held (Worked outs) new = applies_by after input damages noted (told (views_of members) damages) no_save lt at damages_are after_is noted_is refl in
+      let moves : Moves rules cut held Turned outs new = (Worked outs, does, refl) in
+      let damage : damages ≡ damage_of rules d.base d.journal d.applied =
+      damages_are ∙ ap (λ c. rules.hurt c input) h.contents_are ∙ sym (damage_is rules d.base d.journal d.applied input (got d.journal d.applied input lt at)) in
+      let marked : AllByRecursion (IsTracked rules d.base d.journal (d.applied + 1)) (map (marked_by damages) members) = all_marked rules d.base d.journal d.applied damages members damage (versions_of rules cut d members h.kept.document h.views_are) h.tracked in
+      record {
+        kept = moves_keep rules cut some_part held new Turned outs moves h.kept;
+        views_are = refl;
+        contents_are = is ∙ ap (λ c. rules.step c input) h.contents_are ∙ sym (doc_more rules d.base d.journal d.applied input lt at);
+        sound = subst IsSound (sym is) sound;
+        parts_are = ap (λ c. rules.parts (rules.body c)) is ∙ same_parts ∙ h.parts_are;
+        sizes_are = λ part. ap (λ c. rules.size (rules.body c) part) is ∙ same_sizes part ∙ h.sizes_are part;
+        some_part = h.some_part;
+        tracked = subst (λ ms. AllByRecursion (IsTracked rules d.base d.journal (d.applied + 1)) ms) (sym after_is) marked;
+        forms = h.forms;
+        ticket_is = refl;
+        kept_are = refl;
+        cached = subst (λ (c : Cached). IsCacheOf rules d.base d.journal (d.applied + 1) d.jobs c) (sym noted_is)
+            (cache_more rules d.base d.journal d.applied d.jobs damages cache damage (tiles_past rules cut held cache h.kept h.kept_are) (jobs_past rules cut held h.kept) h.cached);
+      }
 
 -- a work that was done lowers the rank
-pub lowers_by : {C B S : Type 0} (rules : Rules C B) (cut : C → Place → S) (old new : Document S) (work : Work) (turned : TurnAnswer S) → IsKept rules cut old → Does rules cut old work turned new → Lowers rules (Some old) turned (Some new)
-lowers_by rules cut old new work (Worked outs) kept does = work_lowers rules cut old new outs (does_turn rules cut old new work (Worked outs) does) kept
-lowers_by rules cut old new work Idle kept does = tt
+pub lowers_by : {C B S : Type 0} (rules : Rules C B) (cut : C → Place → S) (old new : Held S) (turned : TurnAnswer S) → IsHeld rules cut old → DoesNext rules cut old turned new → Lowers rules (Some old) turned (Some new)
+lowers_by rules cut old new (Worked outs) kept does = work_lowers rules cut old.document new.document outs (does_turn rules cut old.document new.document (next_work rules old) (Worked outs) does.0) kept.document
+lowers_by rules cut old new Idle kept does = tt
 
--- the same of a broker
-pub did_steps : {C B S : Type 0} (rules : Rules C B) (cut : C → Place → S) (old new : Document S) (turned : TurnAnswer S) → Does rules cut old (pick rules none_kept old) turned new → Goes rules cut (Some old) Turned (outs_of turned) (Some new)
-did_steps rules cut old new turned does = turn_steps rules cut old new turned (does_turn rules cut old new (pick rules none_kept old) turned does)
+-- a move of a broker
+pub moves_go : {C B S : Type 0} (rules : Rules C B) (cut : C → Place → S) (before after : Option (Held S)) (old new : Held S) (event : Event S) (outs : Outs S) → before ≡ Some old → after ≡ Some new → Moves rules cut old event outs new → Goes rules cut before event outs after
+moves_go {C} {B} {S} rules cut before after old new event outs is now moves =
+    subst (λ (b : Option (Held S)). Goes rules cut b event outs after) (sym is)
+    (subst (λ (a : Option (Held S)). Goes rules cut (Some old) event outs a) (sym now) moves)
+
+-- a turn of a broker that did the work that is next is a move, does it, and lowers the rank
+pub turn_goes : {C B S : Type 0} (rules : Rules C B) (cut : C → Place → S) (before after : Option (Held S)) (old new : Held S) (turned : TurnAnswer S) → before ≡ Some old → after ≡ Some new → DoesNext rules cut old turned new → Goes rules cut before Turned (outs_of turned) after
+turn_goes {C} {B} {S} rules cut before after old new turned is now does =
+    subst (λ (b : Option (Held S)). Goes rules cut b Turned (outs_of turned) after) (sym is)
+    (subst (λ (a : Option (Held S)). Goes rules cut (Some old) Turned (outs_of turned) a) (sym now) (turned, does, refl))
+
+pub turn_did : {C B S : Type 0} (rules : Rules C B) (cut : C → Place → S) (before after : Option (Held S)) (old new : Held S) (turned : TurnAnswer S) → before ≡ Some old → after ≡ Some new → DoesNext rules cut old turned new → Did rules cut before turned after
+turn_did {C} {B} {S} rules cut before after old new turned is now does =
+    subst (λ (b : Option (Held S)). Did rules cut b turned after) (sym is)
+    (subst (λ (a : Option (Held S)). Did rules cut (Some old) turned a) (sym now) does)
+
+pub turn_lowers : {C B S : Type 0} (rules : Rules C B) (cut : C → Place → S) (before after : Option (Held S)) (old new : Held S) (turned : TurnAnswer S) → before ≡ Some old → after ≡ Some new → IsHeld rules cut old → DoesNext rules cut old turned new → Lowers rules before turned after
+turn_lowers {C} {B} {S} rules cut before after old new turned is now kept does =
+    subst (λ (b : Option (Held S)). Lowers rules b turned after) (sym is)
+    (subst (λ (a : Option (Held S)). Lowers rules (Some old) turned a) (sym now) (lowers_by rules cut old new turned kept does))
 
 -- one more view is told
 pub told_more : (members : List Member) (i : ℕ) (member : Member) (damages : List Damage) (frames now whole : List (ViewId × Frame)) → i < length members → member ≡ get_or members i member

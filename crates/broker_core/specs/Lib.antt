@@ -1,5 +1,10 @@
 pub mod Members
 pub mod Places
+pub mod Caching
 pub mod Held
+pub mod Stored
 pub mod Hearing
 pub mod Serving
+pub mod Choosing
+pub mod Sending
+pub mod Painting

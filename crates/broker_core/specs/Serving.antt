@@ -1,18 +1,15 @@
--- What a turn and a painted tile do to the members, in the words of their views.
-use Rattle.std.specs.Prelude.{◌≡◌, ◌≢◌, ⊤, ℕ, Bool, true, not, ◌&&◌, nat_eq, nat_lt, List, [], ◌∷◌, length, find, Option, None, Some, if◌then◌else◌}
+-- What an applied input and a painted tile do to the members, in the words of their views, and to the cache.
+use Rattle.std.specs.Prelude.{◌≡◌, ◌≢◌, ⊤, ℕ, Bool, true, not, ◌&&◌, nat_eq, nat_lt, List, [], ◌∷◌, length, Option, None, Some}
 use Rattle.std.specs.List.{list_any}
-use Rattle.cool_base.specs.declared.ids.ViewId.{ViewId}
-use Rattle.cool_frame.specs.declared.frame.Frame.{Frame}
-use Rattle.cool_frame.specs.declared.frame.Frame.TheVariants.{Tile}
 use Rattle.kit_trait.specs.declared.values.Damage.{Damage}
 use Rattle.tile_key.specs.Places.{Place}
 use Rattle.document_machine.specs.Due.{is_newer}
 use Rattle.document_machine.specs.Keys.{is_among}
-use Rattle.document_machine.specs.Next.{or_later}
-use Rattle.document_machine.specs.Outputs.{named}
 use Rattle.document_machine.specs.State.{Job}
 use Rattle.send_window.specs.declared.windows.TheConstants.{MOST_SENT}
-use Rattle.view_session.specs.Viewing.{Viewing, damaged, keys, is_due, version_on, sent}
+use Rattle.tile_cache.specs.Cached.{Cached}
+use Rattle.tile_cache.specs.Calls.{damaged as noted}
+use Rattle.view_session.specs.Viewing.{Viewing, damaged, is_due, version_on}
 use Rattle.broker_core.specs.declared.members.Member.{Member}
 
 -- a view with each of these damages noted, in order
@@ -27,37 +24,13 @@ marked_by damages member = record member { view = damaged_by damages member.view
 abbrev pub has_room : Viewing → Bool
 has_room v = nat_lt (length v.window) MOST_SENT
 
--- the first key, in key order, that a view with room is due
-abbrev pub next_due : Viewing → Option Place
-next_due v = if has_room v then find (is_due v) (keys v) else None
-
--- the first member that has such a key, with that key
-abbrev pub next_member : List Member → Option (ℕ × Place)
-next_member [] = None
-next_member (member ∷ members) = or_later member.id (next_due member.view) (next_member members)
-
 -- whether a view takes a painted tile of the key in this version
 abbrev pub takes : Place → (version : ℕ) → Viewing → Bool
 takes key version v = is_newer (version_on v key) version (is_among v.asked key) && (is_due v key && has_room v)
 
--- a member once a painted tile, which is the present one, was offered to it
-abbrev pub offered : Place → (version : ℕ) → Member → Member
-offered key version member =
-    if takes key version member.view then record member { view = sent key version true member.view } else member
-
--- the frame that a member gets of a painted tile with these pixels, if it takes it
-abbrev pub frames_for : Place → (version : ℕ) → (rgba : List ℕ) → Member → List (ViewId × Frame)
-frames_for key version rgba member =
-    if takes key version member.view then (named member.id, Tile key version (record { 0 = member.view.next_wid }) rgba) ∷ []
-    else []
-
 -- a view's window is empty, no key that it sees is due, and it asks for nothing
 abbrev pub is_still : Viewing → Bool
 is_still v = nat_eq (length v.window) 0 && (not (list_any (is_due v) v.visible) && nat_eq (length v.asked) 0)
-
--- the job of one key
-abbrev pub job_of : {S : Type 0} → (ticket number : ℕ) → Place → S → Job S
-job_of ticket number key scene = record { ticket = ticket; number = number; keys = key ∷ []; area = key; scene = scene }
 
 -- the job with a ticket is out and has this scene
 abbrev pub Awaits : {S : Type 0} → S → Option (Job S) → Type 0
@@ -68,3 +41,8 @@ Awaits scene (Some job) = scene ≡ job.scene
 abbrev pub Ignores : {S : Type 0} → S → Option (Job S) → Type 0
 Ignores scene None = ⊤
 Ignores scene (Some job) = scene ≢ job.scene
+
+-- a cache with each of these damages of input number n noted, in order
+abbrev pub cache_damaged : List Damage → (n : ℕ) → Cached → Cached
+cache_damaged [] n cache = cache
+cache_damaged (damage ∷ damages) n cache = cache_damaged damages n (noted damage.part damage.rect n cache)

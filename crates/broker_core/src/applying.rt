@@ -1,10 +1,13 @@
 //! The next input is applied.
-ghost use Rattle.std.specs.Prelude.{◌≡◌, ◌<◌, ◌++◌, [], length, map, IfOk, OnOk};
+ghost use Rattle.std.specs.Prelude.{◌≡◌, ◌<◌, ◌++◌, false, length, map, IfOk, OnOk};
 ghost use Rattle.cool_frame.specs.declared.frame.Frame.TheVariants.{Invalidate as InvalidateFrame};
 ghost use Rattle.document_machine.specs.Outputs.{named};
-ghost use Rattle.document_machine.specs.Step.{Applies, told};
+ghost use Rattle.document_machine.specs.Goes.{DoesNext};
+ghost use Rattle.document_machine.specs.Saves.{has_ready_save};
+ghost use Rattle.document_machine.specs.Step.{told};
+ghost use Rattle.document_machine.specs.declared.outs.Turned.TheVariants.{Worked};
 ghost use Rattle.broker_core.specs.Members.{views_of};
-ghost use Rattle.broker_core.specs.Serving.{marked_by};
+ghost use Rattle.broker_core.specs.Serving.{cache_damaged, marked_by};
 
 use crate::core_of::{Core, Frames, frames_only};
 use crate::members::Member;
@@ -13,6 +16,7 @@ use cool_frame::Frame;
 use document_machine::Outs;
 use kit_trait::{Damage, Kit};
 use std::alloc::Global;
+use tile_cache::TileCache;
 
 /// Adds the frames that tell a view of each damaged rectangle, in order.
 fn tell(frames: &mut Frames, id: u32, damages: &[Damage]) -> Result<(), Memory>
@@ -61,13 +65,22 @@ impl Member {
     }
 }
 
+/// Notes the damages of input number n for the tiles that are kept and for the jobs out.
+fn mark_tiles(tiles: &mut TileCache, damages: &[Damage], n: u64)
+    ensures { tiles.new ≡ cache_damaged damages.now n tiles.old }
+{
+    for damage in damages {
+        tiles.damage(damage.part, &damage.rect, n);
+    }
+}
+
 impl<K: Kit> Core<K> {
     /// The next input is applied. Every view, in order of ids, is told each rectangle that it damaged, and
-    /// marks what it has of it.
+    /// marks what it has of it; so do the tiles that are kept and the jobs out.
     pub(crate) fn apply(self) -> Result<(Core<K>, Outs<K::Scene>), Memory>
-        requires behind { self.applied < length self.journal }
-        requires none_out { self.jobs ≡ [] }
-        ensures { IfOk result (λ r. Applies K.rules self r.1 r.0) }
+        requires no_save { has_ready_save self.document ≡ false }
+        requires behind { self.document.applied < length self.document.journal }
+        ensures { IfOk result (λ r. DoesNext K.rules K.cut self (Worked r.1) r.0) }
     {
         let alloc = self.allocator();
         let Core {
@@ -76,18 +89,23 @@ impl<K: Kit> Core<K> {
             mut inputs,
             mut views,
             jobs,
+            mut tiles,
+            saves,
         } = self;
         let input = inputs.accepted[inputs.applied as usize];
         let damages = kit.input(alloc, &input)?;
         let frames = told(alloc, views.members.as_slice(), damages.as_slice())?;
         mark_all(&mut views.members, damages.as_slice());
         inputs.applied += 1;
+        mark_tiles(&mut tiles, damages.as_slice(), inputs.applied);
         let core = Core {
             kit,
             source,
             inputs,
             views,
             jobs,
+            tiles,
+            saves,
         };
         Ok((core, frames_only(alloc, frames)))
     }

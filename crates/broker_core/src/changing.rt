@@ -1,8 +1,9 @@
 //! A message changes what a view sees, what it asks for, or what it has acknowledged.
-ghost use Rattle.std.specs.Prelude.{◌≡◌, ◌≢◌, ◌<◌, ℕ, IfOk, OnOk, Err, codes, option_map};
+ghost use Rattle.std.specs.Prelude.{◌≡◌, ◌≢◌, ◌<◌, ℕ, List, IfOk, OnOk, Err, codes, option_map};
 ghost use Rattle.cool_base.specs.Points.{Extent};
 ghost use Rattle.document_machine.specs.Due.{seen_keys};
 ghost use Rattle.document_machine.specs.Message.{becomes, cancels, acknowledged, seeing_effect, zooming_effect, going_effect, asking_effect};
+ghost use Rattle.save_core.specs.declared.values.Save.{Save as Waiting};
 ghost use Rattle.tile_key.specs.Places.{zoom_of};
 ghost use Rattle.view_session.specs.declared.views.ViewFault.TheVariants.{Memory as NoMemory};
 ghost use Rattle.broker_core.specs.Hearing.{limits_in, sizes_in, outcome_of, Hears};
@@ -106,7 +107,7 @@ impl Member {
         part: u32,
     ) -> Result<Outcome, Memory>
         requires seen { self.old.view.visible ≡ seen_keys (sizes_in K.rules (K.contents kit.now)) (view_of self.old) }
-        ensures { IfOk result (λ outcome. (count : ℕ) → Hears (sizes_in K.rules (K.contents kit.now)) self.old (going_effect (limits_in K.rules (K.contents kit.now) count) (view_of self.old) part) outcome self.new) }
+        ensures { IfOk result (λ outcome. (count : ℕ) (saves : List Waiting) → Hears (sizes_in K.rules (K.contents kit.now)) self.old (going_effect (limits_in K.rules (K.contents kit.now) count saves) (view_of self.old) part) outcome self.new) }
     {
         if part >= kit.parts() {
             return refuse(alloc, "setclientpart", ErrorKind::BadTile);

@@ -1,5 +1,6 @@
 //! `JoinFault`.
 use cool_base::Memory;
+use std::alloc::AllocFailed;
 use thiserror::Error;
 
 /// Why a view did not join.
@@ -20,6 +21,17 @@ impl From<Memory> for JoinFault {
     ghost from_gives = { λ _ fault. fault ≡ NoMemory };
 
     fn from(_error: Memory) -> JoinFault {
+        JoinFault::Memory
+    }
+}
+
+impl<T: Drop> From<AllocFailed<T>> for JoinFault {
+    ghost use Rattle.std.specs.Prelude.{◌≡◌};
+    ghost use Rattle.broker_core.specs.declared.faults.JoinFault.TheVariants.{Memory as NoMemory};
+
+    ghost from_gives = { λ _ fault. fault ≡ NoMemory };
+
+    fn from(_error: AllocFailed<T>) -> JoinFault {
         JoinFault::Memory
     }
 }

@@ -1,9 +1,11 @@
 //! Views join and leave.
-ghost use Rattle.std.specs.Prelude.{◌≡◌, ◌<◌, ◌≤◌, ◌+◌, [], ◌∷◌, not, length, IfOk, IsSome};
+ghost use Rattle.std.specs.Prelude.{◌≡◌, ◌<◌, ◌≤◌, ◌+◌, ◌≢◌, ◌&&◌, [], ◌∷◌, true, false, not, nat_eq, length, IfOk, IsSome, if◌then◌else◌};
 ghost use Rattle.cool_frame.specs.declared.frame.Frame.TheVariants.{Status as StatusFrame};
+ghost use Rattle.document_machine.specs.Event.{Joined, Left};
+ghost use Rattle.document_machine.specs.Goes.{Moves};
 ghost use Rattle.document_machine.specs.Outputs.{named, nothing};
 ghost use Rattle.document_machine.specs.State.{find_view};
-ghost use Rattle.document_machine.specs.Step.{Joins, Leaves};
+ghost use Rattle.save_core.specs.Saving.{final_waits, has_mark, last_stored};
 
 use crate::core_of::{Core, Frames, frames_only};
 use crate::faults::JoinFault;
@@ -12,6 +14,7 @@ use cool_base::{ListOf, Memory, ViewId};
 use cool_frame::Frame;
 use document_machine::{MOST_VIEWS, Outs, Rights};
 use kit_trait::Kit;
+use save_core::Saves;
 use std::alloc::Global;
 use view_session::View;
 
@@ -51,16 +54,16 @@ fn status<K: Kit>(kit: &K, id: u32, can_write: bool) -> Frame
 impl<K: Kit> Core<K> {
     /// How many views the document has.
     pub(crate) fn views(&self) -> usize
-        ensures { result ≡ length self.now.views }
+        ensures { result ≡ length self.now.document.views }
     {
         self.views.members.len()
     }
 
     /// The document gets one more view, with the next id, and the view its status.
     pub(crate) fn join(self, rights: Rights) -> Result<(Core<K>, ViewId, Outs<K::Scene>), Memory>
-        requires { length self.views < MOST_VIEWS }
-        ensures step { IfOk result (λ r. Joins K.rules self rights r.2 r.0) }
-        ensures view { IfOk result (λ r. r.1.0 ≡ self.next_view) }
+        requires { length self.document.views < MOST_VIEWS }
+        ensures step { IfOk result (λ r. Moves K.rules K.cut self (Joined rights) r.2 r.0) }
+        ensures view { IfOk result (λ r. r.1.0 ≡ self.document.next_view) }
     {
         let alloc = self.allocator();
         let Core {
@@ -69,6 +72,8 @@ impl<K: Kit> Core<K> {
             inputs,
             mut views,
             jobs,
+            tiles,
+            saves,
         } = self;
         let id = views.next;
         let next = next_id(id)?;
@@ -84,32 +89,34 @@ impl<K: Kit> Core<K> {
             inputs,
             views,
             jobs,
+            tiles,
+            saves,
         };
         Ok((core, ViewId(id), frames_only(alloc, frames)))
     }
 
-    /// The view leaves, with its window, its asked keys and its screen.
-    pub(crate) fn leave(self, id: u32) -> Core<K>
-        requires { IsSome (find_view self.views id) }
-        ensures { Leaves self id nothing result }
+    /// The view leaves, with its window, its asked keys and its screen. Where it was the last view, a final
+    /// save waits if one is needed. It takes no memory.
+    pub(crate) fn leave(&mut self, id: u32)
+        requires { IsSome (find_view self.old.document.views id) }
+        ensures { Moves K.rules K.cut self.old (Left id) nothing self.new }
     {
-        let Core {
-            kit,
-            source,
-            inputs,
-            mut views,
-            jobs,
-        } = self;
-        let Some(i) = member_at(&views.members, id) else {
+        let Some(i) = member_at(&self.views.members, id) else {
             unreachable!()
         };
-        let _ = views.members.remove(i);
-        Core {
-            kit,
-            source,
-            inputs,
-            views,
-            jobs,
-        }
+        let is_last = self.views.members.len() == 1;
+        let count = self.inputs.accepted.len() as u64;
+        save_last(&mut self.saves, is_last, count);
+        let _ = self.views.members.remove(i);
+    }
+}
+
+/// A view leaves a document of so many inputs: where it is the last one, a final save waits if one is needed.
+fn save_last(saves: &mut Saves, is_last: bool, count: u64)
+    requires { last_stored saves.old ≢ count → has_mark count saves.old ≡ false → saves.old.has_room ≡ true }
+    ensures { saves.new ≡ (if is_last && (not (nat_eq (last_stored saves.old) count) && not (has_mark count saves.old)) then final_waits count saves.old else saves.old) }
+{
+    if is_last && saves.last_stored() != count && !saves.has_mark(count) {
+        saves.wait_final(count);
     }
 }

@@ -1,6 +1,6 @@
 //! `Member`: a view of the document, with its id.
 ghost use Rattle.std.specs.Prelude.{◌≡◌, IfSome, None};
-ghost use Rattle.document_machine.specs.State.{find_view};
+ghost use Rattle.document_machine.specs.State.{find_view, is_live};
 ghost use Rattle.broker_core.specs.Members.{views_of};
 ghost use Rattle.broker_core.specs.Places.{IsPlace};
 
@@ -24,4 +24,11 @@ pub(crate) fn member_at(members: &Vec<Member>, id: u32) -> Option<usize>
         }
     }
     None
+}
+
+/// Whether the view with this id is there.
+pub(crate) fn is_there(members: &Vec<Member>, id: u32) -> bool
+    ensures { result ≡ is_live (views_of members.now.items) id }
+{
+    member_at(members, id).is_some()
 }

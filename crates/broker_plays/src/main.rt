@@ -6,6 +6,7 @@
 mod client;
 mod stage;
 mod texts;
+mod works;
 
 use crate::stage::Stage;
 use cool_base::Memory;

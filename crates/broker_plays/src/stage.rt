@@ -3,31 +3,32 @@ use crate::client::{Client, Tile, afresh, compared, joined, rect};
 use crate::texts::{at, letters, line_of_frame, line_of_tile, numbers};
 use broker_core::{Broker, JoinFault, Outs, Rights, Turned};
 use bytes::Bytes;
-use cool_base::{FileId, Memory, Ticket, Token, ViewId};
+use cool_base::{FileId, Memory, Token, ViewId};
 use cool_frame::Frame;
-use kit_trait::{Done, Input, Kit, LoadFault, Scene, What};
+use kit_trait::{Input, Kit, LoadFault, What};
+use outside::Errand;
 use std::alloc::Global;
 use tile_key::{TileKey, Zoom};
 
 /// A job that was cut.
 #[derive(Drop)]
-struct Held<S> {
-    ticket: u64,
-    scene: S,
+pub(crate) struct Held<S> {
+    pub(crate) ticket: u64,
+    pub(crate) scene: S,
 }
 
-/// A document with its file, its views and the inputs that it accepts, the last tiles of each view, the last
-/// two jobs that it gave out, and in lines all that it gave out.
+/// A document with its file, its views and the inputs that it accepts, the last tiles of each view, the jobs
+/// and the errands that it gave out, and in lines all that it gave out.
 #[derive(Drop)]
 pub(crate) struct Stage<K: Kit> {
-    broker: Broker<K>,
+    pub(crate) broker: Broker<K>,
     file: Bytes,
     shades: bool,
     views: Vec<Client>,
     inputs: Vec<Input>,
     tiles: Vec<Tile>,
-    last: Option<Held<K::Scene>>,
-    before: Option<Held<K::Scene>>,
+    pub(crate) jobs: Vec<Held<K::Scene>>,
+    pub(crate) errands: Vec<Errand>,
     text: String,
 }
 
@@ -57,8 +58,8 @@ impl<K: Kit> Stage<K> {
             views: Vec::new(alloc),
             inputs: Vec::new(alloc),
             tiles: Vec::new(alloc),
-            last: None,
-            before: None,
+            jobs: Vec::new(alloc),
+            errands: Vec::new(alloc),
             text: String::new(alloc),
         })
     }
@@ -74,7 +75,7 @@ impl<K: Kit> Stage<K> {
     /// - `leave 0`, `say 0 text`: a view leaves, or says a text. `ask 9`: view 0 asks for nine tiles in a row.
     /// - `turn`: one turn. `paint`: the job that was cut last comes back painted. `paint_as 7`: the same under
     ///   another ticket. `paint_old`: the scene of the job before it comes back with the last one's ticket.
-    /// - `serve 2`: two times `turn` and `paint`.
+    /// - `serve 2`: two times `turn` and `paint`. What else becomes of works stands at `act_work`.
     /// - `tell`: the counts of inputs, and whether the document is quiet. `window 0`: the numbers of the tiles
     ///   that the view has not acknowledged.
     /// - `hush`: what was given out so far is forgotten.
@@ -130,11 +131,11 @@ impl<K: Kit> Stage<K> {
             "rounds" => self.rounds(alloc),
             "compare" => self.compares(alloc),
             "show" => self.shows(alloc, view, a, b),
-            _ => self.write("no such act"),
+            _ => self.act_work(alloc, word, view),
         }
     }
 
-    fn write(&mut self, line: &str) -> Result<(), Memory> {
+    pub(crate) fn write(&mut self, line: &str) -> Result<(), Memory> {
         self.text.push_str(line)?;
         self.text.push('\n')?;
         Ok(())
@@ -156,7 +157,7 @@ impl<K: Kit> Stage<K> {
     }
 
     /// The frames, each with its view before it. Tiles are kept.
-    fn show(&mut self, alloc: Global, outs: &Outs<K::Scene>) -> Result<(), Memory> {
+    pub(crate) fn show(&mut self, alloc: Global, outs: &Outs<K::Scene>) -> Result<(), Memory> {
         for (view, frame) in outs.frames.get() {
             let to = view.0;
             match frame {
@@ -203,24 +204,6 @@ impl<K: Kit> Stage<K> {
             pixels,
         })?;
         Ok(())
-    }
-
-    /// The jobs, of which the last two are kept.
-    fn hold(&mut self, alloc: Global, outs: Outs<K::Scene>) -> Result<(), Memory> {
-        for job in outs.jobs.into_inner() {
-            let ticket = job.ticket.0;
-            let number = job.number;
-            let count = job.group.keys().len();
-            let line = format!(in alloc; "job {ticket} of {count} key, number={number}")?;
-            self.write(line.as_str())?;
-            self.keep_job(ticket, job.scene);
-        }
-        Ok(())
-    }
-
-    fn keep_job(&mut self, ticket: u64, scene: K::Scene) {
-        self.before = self.last.take();
-        self.last = Some(Held { ticket, scene });
     }
 
     fn joins(&mut self, alloc: Global, can_write: bool) -> Result<(), Memory> {
@@ -281,9 +264,6 @@ impl<K: Kit> Stage<K> {
     }
 
     fn turns(&mut self, alloc: Global) -> Result<(), Memory> {
-        if !self.broker.is_free() {
-            return self.write("a job is out");
-        }
         match self.broker.turn()? {
             Turned::Idle => self.write("idle"),
             Turned::Worked(outs) => {
@@ -291,44 +271,6 @@ impl<K: Kit> Stage<K> {
                 self.hold(alloc, outs)
             }
         }
-    }
-
-    /// Brings this scene back painted, under this ticket.
-    fn gives(&mut self, alloc: Global, ticket: u64, scene: K::Scene) -> Result<(), Memory> {
-        let pixels = scene.paint(alloc)?;
-        let done = Done {
-            ticket: Ticket(ticket),
-            scene,
-            pixels,
-        };
-        let outs = self.broker.painted(&done)?;
-        self.show(alloc, &outs)
-    }
-
-    fn paints(&mut self, alloc: Global) -> Result<(), Memory> {
-        let Some(held) = &self.last else {
-            return self.write("no job");
-        };
-        let ticket = held.ticket;
-        let scene = held.scene.copy(alloc)?;
-        self.gives(alloc, ticket, scene)
-    }
-
-    fn paints_as(&mut self, alloc: Global, ticket: u32) -> Result<(), Memory> {
-        let Some(held) = &self.last else {
-            return self.write("no job");
-        };
-        let scene = held.scene.copy(alloc)?;
-        self.gives(alloc, u64::from(ticket), scene)
-    }
-
-    fn paints_old(&mut self, alloc: Global) -> Result<(), Memory> {
-        let (Some(last), Some(before)) = (&self.last, &self.before) else {
-            return self.write("no job");
-        };
-        let ticket = last.ticket;
-        let scene = before.scene.copy(alloc)?;
-        self.gives(alloc, ticket, scene)
     }
 
     fn serves(&mut self, alloc: Global, times: u32) -> Result<(), Memory> {
@@ -454,9 +396,6 @@ impl<K: Kit> Stage<K> {
 
     /// One turn, with each job painted and answered at once: whether it did a work.
     fn round(&mut self, alloc: Global) -> Result<bool, Memory> {
-        if !self.broker.is_free() {
-            return Ok(false);
-        }
         let Turned::Worked(outs) = self.broker.turn()? else {
             return Ok(false);
         };

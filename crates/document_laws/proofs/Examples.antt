@@ -20,7 +20,8 @@ use Rattle.document_machine.specs.Message.{Effect, acknowledged, asked_with_all,
 use Rattle.document_machine.specs.Next.{Apply, Cut, Rest, Send, none_kept, pick}
 use Rattle.document_machine.specs.State.{View, Document, first_zoom, no_area, opening}
 
--- tiles of 8 by 8 pixels, for 240 by 240 and for 480 by 480 twips, in a part of 3,840 by 3,840 twips
+-- tiles of 8 by 8 pixels, for 240 by 240 and for 480 by 480 twips, in a part of 3,840 by 3,840
+-- twips
 small : Scale
 small = record { pixel_w = 8; pixel_h = 8; twip_w = 240; twip_h = 240; nviewid = 0 }
 
@@ -41,7 +42,8 @@ thirteen_by_five : length (visible_keys 0 small (area 3120 1200) patch) ≡ 65
 unfolding visible_keys rows_of row_of small patch area
 thirteen_by_five = refl
 
-last_of_65 : slice_get (visible_keys 0 small (area 3120 1200) patch) 64 ≡ Some (tile_at 0 small 2880 960)
+last_of_65 : slice_get (visible_keys 0 small (area 3120 1200) patch) 64
+    ≡ Some (tile_at 0 small 2880 960)
 unfolding visible_keys rows_of row_of small patch area
 last_of_65 = refl
 
@@ -50,7 +52,8 @@ fourteen_by_five : length (visible_keys 0 small (area 3360 1200) patch) ≡ 70
 unfolding visible_keys rows_of row_of small patch area
 fourteen_by_five = refl
 
-next_of_70 : slice_get (visible_keys 0 small (area 3360 1200) patch) 64 ≡ Some (tile_at 0 small 1920 960)
+next_of_70 : slice_get (visible_keys 0 small (area 3360 1200) patch) 64
+    ≡ Some (tile_at 0 small 1920 960)
 unfolding visible_keys rows_of row_of small patch area
 next_of_70 = refl
 
@@ -59,7 +62,8 @@ seven_by_three : length (visible_keys 0 wide (area 3120 1200) patch) ≡ 21
 unfolding visible_keys rows_of row_of wide patch area
 seven_by_three = refl
 
--- one tile of the first zoom is the whole part; an area without a point has none, one beyond the part neither
+-- one tile of the first zoom is the whole part; an area without a point has none, one beyond the
+-- part neither
 whole : visible_keys 0 first_zoom (area 3840 3840) patch ≡ tile_at 0 first_zoom 0 0 ∷ []
 unfolding visible_keys rows_of row_of patch area
 whole = refl
@@ -72,11 +76,13 @@ beyond : visible_keys 0 small (record { x = 3840; y = 0; w = 240; h = 240 }) pat
 unfolding visible_keys rows_of row_of patch small
 beyond = refl
 
-edge : visible_keys 0 small (record { x = 239; y = 239; w = 2; h = 1 }) patch ≡ tile_at 0 small 0 0 ∷ (tile_at 0 small 240 0 ∷ [])
+edge : visible_keys 0 small (record { x = 239; y = 239; w = 2; h = 1 }) patch
+    ≡ tile_at 0 small 0 0 ∷ (tile_at 0 small 240 0 ∷ [])
 unfolding visible_keys rows_of row_of patch small
 edge = refl
 
--- with tiles of 15 twips the whole part would be 65,536 keys, too many; 4,096 keys of 4,096 pixels are the most
+-- with tiles of 15 twips the whole part would be 65,536 keys, too many; 4,096 keys of 4,096 pixels
+-- are the most
 too_many : length (visible_keys 0 tiny (area 3840 3840) patch) ≡ 65536
 unfolding visible_keys tiny patch area
 too_many = rows_length 0 tiny 0 256 0 256
@@ -85,13 +91,16 @@ too_large : is_too_large tiny 65536 ≡ true
 unfolding tiny
 too_large = refl
 
-large_enough : is_too_large (record { pixel_w = 64; pixel_h = 64; twip_w = 60; twip_h = 60; nviewid = 0 }) 4096 ≡ false
+large_enough : is_too_large
+    (record { pixel_w = 64; pixel_h = 64; twip_w = 60; twip_h = 60; nviewid = 0 }) 4096 ≡ false
 large_enough = refl
 
-too_many_pixels : is_too_large (record { pixel_w = 64; pixel_h = 65; twip_w = 60; twip_h = 60; nviewid = 0 }) 4096 ≡ true
+too_many_pixels : is_too_large
+    (record { pixel_w = 64; pixel_h = 65; twip_w = 60; twip_h = 60; nviewid = 0 }) 4096 ≡ true
 too_many_pixels = refl
 
--- key order goes by the part, then down, then to the right, and then by the size in pixels and in twips
+-- key order goes by the part, then down, then to the right, and then by the size in pixels and in
+-- twips
 down_first : key_order (tile_at 0 small 2880 0) (tile_at 0 small 0 240) ≡ Less
 unfolding small
 down_first = refl
@@ -108,7 +117,8 @@ twips_last : key_order (tile_at 0 small 0 0) (tile_at 0 wide 0 0) ≡ Less
 unfolding small wide
 twips_last = refl
 
--- the look comes last: of two keys that differ in it alone, the one with grid lines is first, and each is its own
+-- the look comes last: of two keys that differ in it alone, the one with grid lines is first, and
+-- each is its own
 plain : Scale
 plain = record small { nviewid = 1 }
 
@@ -120,7 +130,8 @@ look_behind : key_order (tile_at 0 plain 240 0) (tile_at 0 small 480 0) ≡ Less
 unfolding plain small
 look_behind = refl
 
-two_looks : ordered (tile_at 0 plain 240 0 ∷ []) (tile_at 0 small 240 0 ∷ []) ≡ tile_at 0 small 240 0 ∷ (tile_at 0 plain 240 0 ∷ [])
+two_looks : ordered (tile_at 0 plain 240 0 ∷ []) (tile_at 0 small 240 0 ∷ [])
+    ≡ tile_at 0 small 240 0 ∷ (tile_at 0 plain 240 0 ∷ [])
 unfolding plain small
 two_looks = refl
 
@@ -129,13 +140,18 @@ unfolding small
 same_key = refl
 
 -- asked keys are put among the seen ones, each once
-put_in_order : ordered (tile_at 0 small 240 0 ∷ (tile_at 0 small 480 0 ∷ (tile_at 0 small 0 0 ∷ []))) (tile_at 0 small 0 0 ∷ (tile_at 0 small 0 240 ∷ []))
-    ≡ tile_at 0 small 0 0 ∷ (tile_at 0 small 240 0 ∷ (tile_at 0 small 480 0 ∷ (tile_at 0 small 0 240 ∷ [])))
+put_in_order : ordered
+    (tile_at 0 small 240 0 ∷ (tile_at 0 small 480 0 ∷ (tile_at 0 small 0 0 ∷ [])))
+    (tile_at 0 small 0 0 ∷ (tile_at 0 small 0 240 ∷ []))
+    ≡ tile_at 0 small 0 0 ∷
+    (tile_at 0 small 240 0 ∷ (tile_at 0 small 480 0 ∷ (tile_at 0 small 0 240 ∷ [])))
 unfolding small
 put_in_order = refl
 
 -- keys that are asked for stand behind those that were, in the order given, each once
-asked_once : asked_with_all (tile_at 0 small 240 0 ∷ []) (tile_at 0 small 480 0 ∷ (tile_at 0 small 240 0 ∷ (tile_at 0 small 0 0 ∷ (tile_at 0 small 480 0 ∷ []))))
+asked_once : asked_with_all (tile_at 0 small 240 0 ∷ [])
+    (tile_at 0 small 480 0 ∷
+    (tile_at 0 small 240 0 ∷ (tile_at 0 small 0 0 ∷ (tile_at 0 small 480 0 ∷ []))))
     ≡ tile_at 0 small 240 0 ∷ (tile_at 0 small 480 0 ∷ (tile_at 0 small 0 0 ∷ []))
 unfolding small
 asked_once = refl
@@ -157,12 +173,17 @@ older_asked : is_newer (Some 2) 1 true ≡ false
 older_asked = refl
 
 -- a screen in key order
-screen_put : with_version (record { key = tile_at 0 small 0 0; version = 1 } ∷ (record { key = tile_at 0 small 480 0; version = 2 } ∷ [])) (tile_at 0 small 240 0) 3
-    ≡ record { key = tile_at 0 small 0 0; version = 1 } ∷ (record { key = tile_at 0 small 240 0; version = 3 } ∷ (record { key = tile_at 0 small 480 0; version = 2 } ∷ []))
+screen_put : with_version
+    (record { key = tile_at 0 small 0 0; version = 1 } ∷
+    (record { key = tile_at 0 small 480 0; version = 2 } ∷ [])) (tile_at 0 small 240 0) 3
+    ≡ record { key = tile_at 0 small 0 0; version = 1 } ∷
+    (record { key = tile_at 0 small 240 0; version = 3 } ∷
+    (record { key = tile_at 0 small 480 0; version = 2 } ∷ []))
 unfolding small
 screen_put = refl
 
-screen_new : with_version (record { key = tile_at 0 small 0 0; version = 1 } ∷ []) (tile_at 0 small 0 0) 3 ≡ record { key = tile_at 0 small 0 0; version = 3 } ∷ []
+screen_new : with_version (record { key = tile_at 0 small 0 0; version = 1 } ∷ [])
+    (tile_at 0 small 0 0) 3 ≡ record { key = tile_at 0 small 0 0; version = 3 } ∷ []
 unfolding small
 screen_new = refl
 
@@ -176,7 +197,9 @@ looker can_write = record {
   area = area 240 240;
   asked = [];
   screen = [];
-  window = record { wid = 1; key = tile_at 0 small 0 0 } ∷ (record { wid = 2; key = tile_at 0 small 240 0 } ∷ (record { wid = 3; key = tile_at 0 small 480 0 } ∷ []));
+  window = record { wid = 1; key = tile_at 0 small 0 0 } ∷
+      (record { wid = 2; key = tile_at 0 small 240 0 } ∷
+      (record { wid = 3; key = tile_at 0 small 480 0 } ∷ []));
   next_wid = 4;
 }
 
@@ -190,12 +213,26 @@ taken_out = refl
 
 -- what messages do to it in a document of one part without inputs
 does : Bool → ClientMessage → Effect
-does can_write message = message_effect (record { inputs = 0; parts = 1; sizes = λ part. patch }) (looker can_write) message
+does can_write message =
+    message_effect (record { inputs = 0; saves = []; parts = 1; sizes = λ part. patch })
+    (looker can_write) message
 
 tile_words : ℕ → ℕ → TileWords
-tile_words part x = record { part = part; width = 8; height = 8; tileposx = x; tileposy = 0; tilewidth = 240; tileheight = 240; nviewid = 0 }
+tile_words part x =
+    record {
+      part = part;
+      width = 8;
+      height = 8;
+      tileposx = x;
+      tileposy = 0;
+      tilewidth =
+          240;
+      tileheight = 240;
+      nviewid = 0;
+    }
 
-processed : does true (TileProcessed (99 ∷ (1 ∷ (1 ∷ [])))) ≡ becomes (acknowledged (99 ∷ (1 ∷ (1 ∷ []))) (looker true))
+processed : does true (TileProcessed (99 ∷ (1 ∷ (1 ∷ []))))
+    ≡ becomes (acknowledged (99 ∷ (1 ∷ (1 ∷ []))) (looker true))
 unfolding does looker
 processed = refl
 
@@ -203,7 +240,8 @@ read_alone : does false (Key Down 65 0) ≡ refuses (looker false) (codes "key")
 unfolding does looker
 read_alone = refl
 
-typed_in : does true (Key Down 65 0) ≡ enters (looker true) (record { view = record { 0 = 3 }; part = 0; what = Typed 65 0 })
+typed_in : does true (Key Down 65 0)
+    ≡ enters (looker true) (record { view = record { 0 = 3 }; part = 0; what = Typed 65 0 })
 unfolding does looker
 typed_in = refl
 
@@ -223,7 +261,8 @@ no_part : does true (Tile (tile_words 1 0)) ≡ refuses (looker true) (codes "ti
 unfolding does looker tile_words
 no_part = refl
 
-asked_for : does true (Tile (tile_words 0 240)) ≡ becomes (record (looker true) { asked = tile_at 0 small 240 0 ∷ [] })
+asked_for : does true (Tile (tile_words 0 240))
+    ≡ becomes (record (looker true) { asked = tile_at 0 small 240 0 ∷ [] })
 unfolding does looker tile_words small
 asked_for = refl
 
@@ -252,7 +291,8 @@ no_look : does true (Zoom 8 8 240 240 2) ≡ refuses (looker true) (codes "clien
 unfolding does looker
 no_look = refl
 
-other_area : does true (VisibleArea (area 3120 1200)) ≡ becomes (record (looker true) { area = area 3120 1200 })
+other_area : does true (VisibleArea (area 3120 1200))
+    ≡ becomes (record (looker true) { area = area 3120 1200 })
 unfolding does looker visible_keys rows_of row_of small patch area
 other_area = refl
 
@@ -260,13 +300,16 @@ other_area = refl
 sees_all : View
 sees_all = record (looker true) { area = area 3840 3840 }
 
-too_large_zoom : message_effect (record { inputs = 0; parts = 1; sizes = λ part. patch }) sees_all (Zoom 1 1 15 15 0) ≡ refuses sees_all (codes "clientzoom") TooLarge
+too_large_zoom : message_effect
+    (record { inputs = 0; saves = []; parts = 1; sizes = λ part. patch }) sees_all
+    (Zoom 1 1 15 15 0) ≡ refuses sees_all (codes "clientzoom") TooLarge
 unfolding sees_all looker tiny
 too_large_zoom =
-    ap (λ n. cond (is_too_large tiny n) (refuses sees_all (codes "clientzoom") TooLarge) (becomes (forgets (λ part. patch) (record sees_all { zoom = tiny })))) too_many
+    ap (λ n. cond (is_too_large tiny n) (refuses sees_all (codes "clientzoom") TooLarge)
+    (becomes (forgets (λ part. patch) (record sees_all { zoom = tiny })))) too_many
 
--- a click at 10, 10 damages the first square of a patch document: a tile of it is touched, in each zoom, and
--- the tile beside it isn't; a tile that was painted after the click isn't touched by it
+-- a click at 10, 10 damages the first square of a patch document: a tile of it is touched, in each
+-- zoom, and the tile beside it isn't; a tile that was painted after the click isn't touched by it
 click : List Input
 click = record { view = record { 0 = 0 }; part = 0; what = Pressed 10 10 1 1 0 } ∷ []
 
@@ -294,23 +337,25 @@ hurt_later : touched patch_rules [] click 0 (tile_at 0 small 0 0) 0 ≡ false
 unfolding click small
 hurt_later = refl
 
--- what a turn does next: an input that isn't applied goes first, then what is kept of a key is sent, a job is
--- cut where nothing is, and there is nothing to do where no view is due a key
+-- what a turn does next: an input that isn't applied goes first, then what is kept of a key is
+-- sent, a job is cut where nothing is, and there is nothing to do where no view is due a key
 asking : View
 asking = record (looker true) { asked = tile_at 0 small 240 0 ∷ []; area = no_area }
 
 one_view : List Input → View → Document ℕ
-one_view journal view = record (opening (codes "f") []) { journal = journal; views = view ∷ []; next_view = 4 }
+one_view journal view =
+    record (opening (codes "f") []) { journal = journal; views = view ∷ []; next_view = 4 }
 
 applies_first : pick patch_rules none_kept (one_view click asking) ≡ Apply
 unfolding one_view click
 applies_first = refl
 
-cuts_then : pick patch_rules none_kept (one_view [] asking) ≡ Cut 3 (tile_at 0 small 240 0)
+cuts_then : pick patch_rules none_kept (one_view [] asking) ≡ Cut 3 (tile_at 0 small 240 0 ∷ [])
 unfolding one_view asking looker small visible_keys rows_of row_of
 cuts_then = refl
 
-sends_kept : pick patch_rules (λ key. Some 0) (one_view [] asking) ≡ Send 3 (tile_at 0 small 240 0) 0
+sends_kept : pick patch_rules (λ key. Some 0) (one_view [] asking)
+    ≡ Send 3 (tile_at 0 small 240 0) 0
 unfolding one_view asking looker small visible_keys rows_of row_of
 sends_kept = refl
 

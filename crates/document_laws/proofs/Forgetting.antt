@@ -15,13 +15,19 @@ same_screen v w same key had has a b =
     omega arith
 
 -- a screen that has forgotten some keys
-gone : (f : Place → Bool) (screen : List Shown) (key : Place) → f key ≡ false → version_of (filter (λ shown. f shown.key) screen) key ≡ None
+gone : (f : Place → Bool) (screen : List Shown) (key : Place) → f key ≡ false
+    → version_of (filter (λ shown. f shown.key) screen) key ≡ None
 gone f [] key off = refl
 gone f (shown ∷ screen) key off =
-    let go : (b : Bool) → f shown.key ≡ b → version_of (cond b (shown ∷ filter (λ s. f s.key) screen) (filter (λ s. f s.key) screen)) key ≡ None = elim [
+    let go : (b : Bool) → f shown.key ≡ b
+    → version_of
+    (cond b (shown ∷ filter (λ s. f s.key) screen) (filter (λ s. f s.key) screen)) key ≡ None =
+    elim [
       | true ↦ λ on.
-          let away : same_place shown.key key ≡ false = elim (cases_Bool (same_place shown.key key)) [
-            | inl same ↦ absurd (let is : f shown.key ≡ f key = ap f (same_is shown.key key same) in cc)
+          let away : same_place shown.key key ≡ false =
+          elim (cases_Bool (same_place shown.key key)) [
+            | inl same ↦
+                absurd (let is : f shown.key ≡ f key = ap f (same_is shown.key key same) in cc)
             | inr apart ↦ apart
           ] in
           rw away (gone f screen key off)
@@ -29,10 +35,15 @@ gone f (shown ∷ screen) key off =
     ] in
     go (f shown.key) refl
 
-forgotten : (f : Place → Bool) (screen : List Shown) (key : Place) (has : ℕ) → version_of (filter (λ shown. f shown.key) screen) key ≡ Some has → version_of screen key ≡ Some has
+forgotten : (f : Place → Bool) (screen : List Shown) (key : Place) (has : ℕ)
+    → version_of (filter (λ shown. f shown.key) screen) key ≡ Some has
+    → version_of screen key ≡ Some has
 forgotten f [] key has e = e
 forgotten f (shown ∷ screen) key has e =
-    let go : (a b : Bool) → same_place shown.key key ≡ a → f shown.key ≡ b → version_of (cond b (shown ∷ filter (λ s. f s.key) screen) (filter (λ s. f s.key) screen)) key ≡ Some has → cond a (Some shown.version) (version_of screen key) ≡ Some has = elim [
+    let go : (a b : Bool) → same_place shown.key key ≡ a → f shown.key ≡ b
+    → version_of
+    (cond b (shown ∷ filter (λ s. f s.key) screen) (filter (λ s. f s.key) screen)) key
+    ≡ Some has → cond a (Some shown.version) (version_of screen key) ≡ Some has = elim [
       | true ↦ elim [
         | true ↦ λ same on e. rw same at e
         | false ↦ λ same off e.
@@ -48,9 +59,11 @@ forgotten f (shown ∷ screen) key has e =
     go (same_place shown.key key) (f shown.key) refl refl e
 
 -- forgetting is no step back
-pub filtered : (f : Place → Bool) (v w : View) → w.screen ≡ filter (λ shown. f shown.key) v.screen → IsNoStepBack v w
+pub filtered : (f : Place → Bool) (v w : View) → w.screen ≡ filter (λ shown. f shown.key) v.screen
+    → IsNoStepBack v w
 filtered f v w is key had has a b =
-    let same : version_of v.screen key ≡ Some has = forgotten f v.screen key has (ap (λ s. version_of s key) (sym is) ∙ b) in
+    let same : version_of v.screen key ≡ Some has =
+    forgotten f v.screen key has (ap (λ s. version_of s key) (sym is) ∙ b) in
     let e : Some had ≡ Some has = sym a ∙ same in
     let eq : had ≡ has = cc in
     omega arith

@@ -19,7 +19,8 @@ key_total =
     (then_total (on_total (λ (p : Place). p.width) nat_cmp_total)
     (then_total (on_total (λ (p : Place). p.height) nat_cmp_total)
     (then_total (on_total (λ (p : Place). p.tilewidth) nat_cmp_total)
-    (then_total (on_total (λ (p : Place). p.tileheight) nat_cmp_total) (on_total (λ (p : Place). p.nviewid) nat_cmp_total)))))))
+    (then_total (on_total (λ (p : Place). p.tileheight) nat_cmp_total)
+    (on_total (λ (p : Place). p.nviewid) nat_cmp_total)))))))
 
 -- the numbers of two places are the same
 record AreAlike (p q : Place) : Type 0 where
@@ -53,12 +54,14 @@ same_is p q e = alike_is p q (alike_by p q e)
 
 -- one that fails it is another
 pub not_same : (p q : Place) → same_place p q ≡ false → p ≢ q
-not_same p q e is = let same : same_place p q ≡ true = ap (same_place p) (sym is) ∙ same_self p in cc
+not_same p q e is = let same : same_place p q ≡ true = ap (same_place p) (sym is) ∙ same_self p in
+    cc
 
 pub same_sym : (p q : Place) → same_place p q ≡ same_place q p
 same_sym p q =
     elim (cases_Bool (same_place p q)) [
-      | inl same ↦ let is : p ≡ q = same_is p q same in let back : same_place q p ≡ true = ap (same_place q) is ∙ same_self q in cc
+      | inl same ↦ let is : p ≡ q = same_is p q same in let back : same_place q p ≡ true =
+          ap (same_place q) is ∙ same_self q in cc
       | inr apart ↦ elim (cases_Bool (same_place q p)) [
         | inl back ↦ absurd (not_same p q apart (sym (same_is q p back)))
         | inr off ↦ cc
@@ -98,7 +101,9 @@ equal_is p q e =
 pub before_apart : (p q : Place) → IsBefore p q → same_place p q ≡ false
 before_apart p q before =
     elim (cases_Bool (same_place p q)) [
-      | inl same ↦ absurd (let e : key_order p q ≡ Equal = ap (key_order p) (sym (same_is p q same)) ∙ tied_itself key_total p in cc)
+      | inl same ↦
+          absurd (let e : key_order p q ≡ Equal =
+          ap (key_order p) (sym (same_is p q same)) ∙ tied_itself key_total p in cc)
       | inr apart ↦ apart
     ]
 

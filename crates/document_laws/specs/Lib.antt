@@ -1,3 +1,4 @@
 pub mod AtOnce
+pub mod Saved
 pub mod Tiles
 pub mod Turns

@@ -14,7 +14,8 @@ use Rattle.document_machine.specs.Step.{Step}
 use Rattle.document_machine.specs.declared.outs.Outs.{Outs}
 
 -- a tile shows the document after as many inputs as its version says, at most so many
-abbrev pub IsShown : {C B : Type 0} → Rules C B → (base : List ℕ) → (journal : List Input) → (most : ℕ) → ViewId × Frame → Type 0
+abbrev pub IsShown : {C B : Type 0} → Rules C B → (base : List ℕ) → (journal : List Input)
+    → (most : ℕ) → ViewId × Frame → Type 0
 IsShown rules base journal most (view, Tile key version wid rgba) =
     (version ≤ most) × (rgba ≡ (shown rules (doc rules base journal version) key).rgba)
 IsShown rules base journal most _ = ⊤
@@ -22,7 +23,8 @@ IsShown rules base journal most _ = ⊤
 -- what a view was sent of a key is, later, no older, as long as its screen has the key
 abbrev pub IsNoStepBack : (old new : View) → Type 0
 IsNoStepBack old new =
-    (key : Place) (had has : ℕ) → version_of old.screen key ≡ Some had → version_of new.screen key ≡ Some has → had ≤ has
+    (key : Place) (had has : ℕ) → version_of old.screen key ≡ Some had
+    → version_of new.screen key ≡ Some has → had ≤ has
 
 -- the number of a tile that goes to the view, and none of another frame
 abbrev pub number_in : ℕ → ViewId × Frame → List ℕ
@@ -38,7 +40,8 @@ abbrev pub counted : (from count : ℕ) → List ℕ
 counted from zero = []
 counted from (suc count) = from ∷ counted (from + 1) count
 
--- the tiles that go to the view have its next numbers, one after the other, and its next one is behind them
+-- the tiles that go to the view have its next numbers, one after the other, and its next one is
+-- behind them
 pub record AreNumbered (id : ℕ) (old new : View) (frames : List (ViewId × Frame)) : Type 0 where
   pub count : ℕ
   pub numbers : numbers_to id frames ≡ counted old.next_wid count
@@ -54,28 +57,34 @@ version_in id key _ = []
 abbrev pub versions_to : ℕ → Place → List (ViewId × Frame) → List ℕ
 versions_to id key frames = flat_map (version_in id key) frames
 
--- a screen has this version of the key, or nothing of it, and its view neither sees the key nor asks for it
-abbrev pub IsOnScreen : {C B S : Type 0} → Rules C B → Document S → View → Place → (version : ℕ) → Type 0
+-- a screen has this version of the key, or nothing of it, and its view neither sees the key nor
+-- asks for it
+abbrev pub IsOnScreen : {C B S : Type 0} → Rules C B → Document S → View → Place → (version : ℕ)
+    → Type 0
 IsOnScreen rules d view key version =
     (version_of view.screen key ≡ Some version)
     ⊎ ((version_of view.screen key ≡ None) × (sees_or_asks rules d view key ≡ false))
 
--- tiles of a key that go to a view: the view is there before and after them; none of them is a step back on
--- the screen that it had, and each is what its screen then has
-pub record AreDelivered {C B S : Type 0} (rules : Rules C B) (old new : Document S) (id : ℕ) (key : Place) (versions : List ℕ) : Type 0 where
+-- tiles of a key that go to a view: the view is there before and after them; none of them is a step
+-- back on the screen that it had, and each is what its screen then has
+pub record AreDelivered {C B S : Type 0} (rules : Rules C B) (old new : Document S) (id : ℕ)
+    (key : Place) (versions : List ℕ) : Type 0 where
   pub before : View
   pub later : View
   pub was : find_view old.views id ≡ Some before
   pub is : find_view new.views id ≡ Some later
-  pub no_step_back : AllByRecursion (λ n. is_not_back (version_of before.screen key) n ≡ true) versions
+  pub no_step_back : AllByRecursion
+      (λ n. is_not_back (version_of before.screen key) n ≡ true) versions
   pub on_screen : AllByRecursion (IsOnScreen rules new later key) versions
 
 -- the screen of a view has the key
 abbrev pub HasKey : {S : Type 0} → ℕ → Place → Document S → Type 0
 HasKey id key d =
-    (view : View) × (version : ℕ) × (find_view d.views id ≡ Some view) × (version_of view.screen key ≡ Some version)
+    (view : View) × (version : ℕ) × (find_view d.views id ≡ Some view)
+    × (version_of view.screen key ≡ Some version)
 
 -- a step of the machine after which the screen of a view has the key
 abbrev pub StepsWith : {C B S : Type 0} → Rules C B → (C → Place → S) → ℕ → Place
     → Document S → Event S → Outs S → Document S → Type 0
-StepsWith rules cut id key old event outs new = Step rules cut old event outs new × HasKey id key new
+StepsWith rules cut id key old event outs new =
+    Step rules cut old event outs new × HasKey id key new

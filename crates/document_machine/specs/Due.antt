@@ -84,6 +84,14 @@ is_due rules d view key =
 abbrev pub has_room : View → Bool
 has_room view = nat_lt (length view.window) MOST_SENT
 
+-- some view is owed the key
+abbrev pub is_owed : {C B S : Type 0} → Rules C B → Document S → Place → Bool
+is_owed rules d key = list_any (λ view. is_due rules d view key) d.views
+
+-- some view with room is owed the key
+abbrev pub is_wanted : {C B S : Type 0} → Rules C B → Document S → Place → Bool
+is_wanted rules d key = list_any (λ view. has_room view && is_due rules d view key) d.views
+
 -- a job of the key is out
 abbrev pub is_out : {S : Type 0} → List (Job S) → Place → Bool
 is_out jobs key = list_any (λ job. is_among job.keys key) jobs

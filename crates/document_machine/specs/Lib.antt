@@ -3,10 +3,14 @@ pub mod State
 pub mod Outputs
 pub mod Due
 pub mod Message
+pub mod Saves
 pub mod Event
 pub mod Next
 pub mod Step
+pub mod Held
+pub mod Goes
 pub mod Run
 pub mod Quiet
+pub mod Done
 pub mod Rank
 pub mod Kept

@@ -1,10 +1,10 @@
 -- What a message of a view does.
-use Rattle.std.specs.Prelude.{ℕ, not, List, [], ◌∷◌, ◌++◌, length, filter, map, nat_eq, nat_le, nat_lt, Option, None, Some, Result, Ok, Err, codes, if◌then◌else◌}
+use Rattle.std.specs.Prelude.{ℕ, Bool, false, not, List, [], ◌∷◌, ◌++◌, length, filter, map, nat_eq, nat_le, nat_lt, Option, None, Some, Result, Ok, Err, codes, if◌then◌else◌}
 use Rattle.std.specs.List.{list_any}
 use Rattle.cool_base.specs.Points.{Extent}
 use Rattle.cool_message.specs.Asked.{keys_of}
 use Rattle.cool_frame.specs.declared.kind.ErrorKind.{ErrorKind}
-use Rattle.cool_frame.specs.declared.kind.ErrorKind.TheVariants.{BadMessage, AlreadyLoaded, ReadOnly, InputsFull, BadTile, TooLarge, AskedFull}
+use Rattle.cool_frame.specs.declared.kind.ErrorKind.TheVariants.{BadMessage, AlreadyLoaded, ReadOnly, InputsFull, SavesFull, BadTile, TooLarge, AskedFull}
 use Rattle.cool_frame.specs.declared.frame.Frame.{Frame}
 use Rattle.cool_frame.specs.declared.frame.Frame.TheVariants.{Server, Error}
 use Rattle.cool_message.specs.Command.{command_name}
@@ -17,6 +17,8 @@ use Rattle.cool_message.specs.declared.message.MouseKind.{MouseKind}
 use Rattle.cool_message.specs.declared.message.KeyKind.TheVariants.{Input as Down, Up}
 use Rattle.cool_message.specs.declared.message.MouseKind.TheVariants.{ButtonDown, ButtonUp, Move}
 use Rattle.kit_trait.specs.Rules.{Rules}
+use Rattle.save_core.specs.Saving.{Saving, is_full, token_kept, waits}
+use Rattle.save_core.specs.declared.values.Save.{Save as Waiting}
 use Rattle.kit_trait.specs.declared.values.Input.{Input}
 use Rattle.kit_trait.specs.declared.values.What.{What}
 use Rattle.kit_trait.specs.declared.values.What.TheVariants.{Key as Typed, Mouse as Pressed}
@@ -29,28 +31,35 @@ use Rattle.document_machine.specs.State.{View, Document, with_view}
 use Rattle.document_machine.specs.declared.limits.TheConstants.{MOST_ASKED, MOST_INPUTS}
 use Rattle.document_machine.specs.declared.outs.Outs.{Outs}
 
--- what a message meets in a document: how many inputs are accepted, how many parts there are, and the
--- size of each
+-- what a message meets in a document: how many inputs are accepted, the saves that are not answered, how
+-- many parts there are, and the size of each
 pub record Limits : Type 0 where
   pub inputs : ℕ
+  pub saves : List Waiting
   pub parts : ℕ
   pub sizes : ℕ → Extent
 
 -- the limits of a document
 abbrev pub limits_of : {C B S : Type 0} → Rules C B → Document S → Limits
 limits_of rules d =
-    record { inputs = length d.journal; parts = parts_of rules d.base; sizes = size_of rules d.base }
+    record {
+      inputs = length d.journal;
+      saves = d.saving.saves;
+      parts = parts_of rules d.base;
+      sizes = size_of rules d.base;
+    }
 
--- the one effect of a message: the frames that its view gets, the inputs that are accepted, and what the
--- view is after it
+-- the one effect of a message: the frames that its view gets, the inputs that are accepted, whether a save
+-- waits now, which tells whether it needs no put where nothing is new, and what the view is after it
 pub record Effect : Type 0 where
   pub frames : List Frame
   pub inputs : List Input
+  pub save : Option Bool
   pub view : View
 
 -- the view is this one now, and nothing else comes of the message
 abbrev pub becomes : View → Effect
-becomes view = record { frames = []; inputs = []; view = view }
+becomes view = record { frames = []; inputs = []; save = None; view = view }
 
 -- the view gets one frame, and nothing changes
 abbrev pub answers : View → Frame → Effect
@@ -70,6 +79,17 @@ input_effect limits view command what =
     if view.rights.can_write then
     (if nat_le MOST_INPUTS limits.inputs then refuses view command InputsFull
     else enters view (record { view = named view.id; part = view.part; what = what }))
+    else refuses view command ReadOnly
+
+-- a save waits
+abbrev pub awaits : View → (skip : Bool) → Effect
+awaits view skip = record (becomes view) { save = Some skip }
+
+-- a save is refused where the view may not write, and then where too many of its saves are not answered
+abbrev pub saving_effect : Limits → View → (command : List ℕ) → (skip : Bool) → Effect
+saving_effect limits view command skip =
+    if view.rights.can_write then
+    (if is_full (Some (named view.id)) limits.saves then refuses view command SavesFull else awaits view skip)
     else refuses view command ReadOnly
 
 -- a key that goes down is an input; one that is let go changes nothing
@@ -150,9 +170,8 @@ message_effect limits view (Zoom pixel_w pixel_h twip_w twip_h nviewid) =
     (zoom_of (record { pixel_w = pixel_w; pixel_h = pixel_h; twip_w = twip_w; twip_h = twip_h; nviewid = nviewid }))
 message_effect limits view (SetPart part) = going_effect limits view part
 message_effect limits view (TileProcessed wids) = becomes (acknowledged wids view)
--- a document is not saved yet: the message is refused like a text that is none
-message_effect limits view (Save keep skip) = refuses view (codes "save") BadMessage
-message_effect limits view UnoSave = refuses view (codes "uno") BadMessage
+message_effect limits view (Save keep skip) = saving_effect limits view (codes "save") skip
+message_effect limits view UnoSave = saving_effect limits view (codes "uno") false
 
 -- a text that is no message is refused, with the command that it seems to have
 abbrev pub reading_effect : Limits → View → List ℕ → Result ClientMessage MessageFault → Effect
@@ -171,9 +190,25 @@ effect rules d view text = effect_of (limits_of rules d) view text
 abbrev pub reply : {S : Type 0} → ℕ → Effect → Outs S
 reply id effect = frames_only (map (λ frame. (named id, frame)) effect.frames)
 
+-- what is known of the saves once these inputs were accepted: the token of the view that said them is kept
+abbrev pub with_token : List Input → (token : List ℕ) → Saving → Saving
+with_token [] token s = s
+with_token (input ∷ inputs) token s = token_kept token s
+
+-- the same once a view's save waits, where one does: its mark is how many inputs were accepted before it
+abbrev pub with_save : Option Bool → (view mark : ℕ) → (token : List ℕ) → Saving → Saving
+with_save None view mark token s = s
+with_save (Some skip) view mark token s = waits (Some (named view)) mark skip token s
+
+-- what is known of the saves after an effect of a view's message
+abbrev pub saving_after : (view mark : ℕ) → Effect → Saving → Saving
+saving_after view mark effect s =
+    with_save effect.save view mark effect.view.rights.token (with_token effect.inputs effect.view.rights.token s)
+
 -- the document after an effect of a view's message
 abbrev pub heard : {S : Type 0} → Document S → ℕ → Effect → Document S
 heard d id effect = record d {
   journal = d.journal ++ effect.inputs;
   views = with_view d.views id (λ _. effect.view);
+  saving = saving_after id (length d.journal) effect d.saving;
 }

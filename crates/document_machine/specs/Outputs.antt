@@ -1,4 +1,4 @@
--- What an event gives out: frames, each to one view, and jobs.
+-- What an event gives out: frames, each to one view, jobs and errands.
 use Rattle.std.specs.Prelude.{ℕ, List, [], ◌∷◌, ◌++◌}
 use Rattle.cool_base.specs.declared.ids.ViewId.{ViewId}
 use Rattle.cool_frame.specs.declared.frame.Frame.{Frame}
@@ -12,11 +12,11 @@ named id = record { 0 = id }
 
 -- nothing
 abbrev pub nothing : {S : Type 0} → Outs S
-nothing = record { frames = []; jobs = [] }
+nothing = record { frames = []; jobs = []; errands = [] }
 
 -- these frames alone
 abbrev pub frames_only : {S : Type 0} → List (ViewId × Frame) → Outs S
-frames_only frames = record { frames = frames; jobs = [] }
+frames_only frames = record { frames = frames; jobs = []; errands = [] }
 
 -- one frame to one view
 abbrev pub one_frame : {S : Type 0} → ℕ → Frame → Outs S
@@ -24,7 +24,12 @@ one_frame id frame = frames_only ((named id, frame) ∷ [])
 
 -- one after the other
 abbrev pub joined : {S : Type 0} → Outs S → Outs S → Outs S
-joined first later = record { frames = first.frames ++ later.frames; jobs = first.jobs ++ later.jobs }
+joined first later =
+    record {
+      frames = first.frames ++ later.frames;
+      jobs = first.jobs ++ later.jobs;
+      errands = first.errands ++ later.errands;
+    }
 
 -- what a turn gave out
 abbrev pub outs_of : {S : Type 0} → Turned S → Outs S

@@ -1,16 +1,19 @@
 -- When nothing is left to do, and what is right then.
-use Rattle.std.specs.Prelude.{◌≡◌, ℕ, Bool, not, ◌&&◌, nat_eq, [], length, Some}
+use Rattle.std.specs.Prelude.{◌≡◌, ℕ, Bool, not, ◌&&◌, nat_eq, [], length, None, Some, is_none}
 use Rattle.std.specs.List.{list_any, list_all, AllByRecursion}
 use Rattle.kit_trait.specs.Rules.{Rules, doc, shown}
 use Rattle.tile_key.specs.Places.{Place}
 use Rattle.document_machine.specs.Due.{is_due, keys, visible, version_of}
+use Rattle.document_machine.specs.Saves.{has_ready_save}
 use Rattle.document_machine.specs.State.{View, Document}
 use Rattle.document_machine.specs.Step.{Rests}
 
--- a document is quiet where a turn would be Idle, no job is out and every window is empty
+-- a document is quiet where a turn would be Idle, no job is out, no put is under way and every window is
+-- empty
 pub record IsQuiet {C B S : Type 0} (rules : Rules C B) (d : Document S) : Type 0 where
   pub rests : Rests rules d
   pub no_job : d.jobs ≡ []
+  pub no_put : d.saving.put ≡ None
   pub empty : AllByRecursion (λ view. view.window ≡ []) d.views
 
 -- a view's window is empty, no pair that it sees is due, and it asks for nothing
@@ -22,7 +25,8 @@ is_still rules d view =
 -- the same as a test
 abbrev pub is_quiet : {C B S : Type 0} → Rules C B → Document S → Bool
 is_quiet rules d =
-    nat_eq d.applied (length d.journal) && (nat_eq (length d.jobs) 0 && list_all (is_still rules d) d.views)
+    (not (has_ready_save d) && is_none d.saving.put)
+    && (nat_eq d.applied (length d.journal) && (nat_eq (length d.jobs) 0 && list_all (is_still rules d) d.views))
 
 -- a pair is right where the view's screen has a version of the key that looks like the document after all
 -- accepted inputs

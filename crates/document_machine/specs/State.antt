@@ -1,8 +1,9 @@
 -- What a document is between two events.
-use Rattle.std.specs.Prelude.{ℕ, List, [], ◌∷◌, Option, Some, None, nat_eq, if◌then◌else◌}
+use Rattle.std.specs.Prelude.{ℕ, Bool, List, [], ◌∷◌, Option, Some, None, is_some, nat_eq, if◌then◌else◌}
 use Rattle.cool_base.specs.Points.{Rectangle}
 use Rattle.document_machine.specs.declared.rights.Rights.{Rights}
 use Rattle.kit_trait.specs.declared.values.Input.{Input}
+use Rattle.save_core.specs.Saving.{Saving, opening as opening_saving}
 use Rattle.send_window.specs.Tiles.{Sent}
 use Rattle.tile_key.specs.Places.{Place, Scale}
 
@@ -35,7 +36,8 @@ pub record Job (S : Type 0) : Type 0 where
   pub scene : S
 
 -- one document: its file's id, the bytes that it was loaded from, the accepted inputs and how many of them are
--- applied, the views in the order of their ids, the id of the next view, the jobs out, the next ticket
+-- applied, the views in the order of their ids, the id of the next view, the jobs out, the next ticket, and
+-- what is known of its saves
 pub record Document (S : Type 0) : Type 0 where
   pub file : List ℕ
   pub base : List ℕ
@@ -45,6 +47,7 @@ pub record Document (S : Type 0) : Type 0 where
   pub next_view : ℕ
   pub jobs : List (Job S)
   pub next_ticket : ℕ
+  pub saving : Saving
 
 -- a document as it is loaded
 abbrev pub opening : {S : Type 0} → (file base : List ℕ) → Document S
@@ -57,6 +60,7 @@ opening file base = record {
   next_view = 0;
   jobs = [];
   next_ticket = 1;
+  saving = opening_saving;
 }
 
 -- the zoom of a view that joins: tiles of 256 by 256 pixels, each of 3,840 by 3,840 twips, with grid lines
@@ -85,6 +89,10 @@ opening_view id rights = record {
 abbrev pub find_view : List View → ℕ → Option View
 find_view [] id = None
 find_view (view ∷ views) id = if nat_eq view.id id then Some view else find_view views id
+
+-- a view with this id is there
+abbrev pub is_live : List View → ℕ → Bool
+is_live views id = is_some (find_view views id)
 
 -- the views, the one with this id changed
 abbrev pub with_view : List View → ℕ → (View → View) → List View

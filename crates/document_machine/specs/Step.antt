@@ -9,11 +9,12 @@ use Rattle.kit_trait.specs.declared.values.Damage.{Damage}
 use Rattle.kit_trait.specs.declared.values.Input.{Input}
 use Rattle.kit_trait.specs.declared.jobs.PaintJob.{PaintJob}
 use Rattle.tile_key.specs.Places.{Place, IsGroup, place_of_keys}
-use Rattle.document_machine.specs.Due.{parts_of, size_of, is_due, has_room, is_out, is_current, is_not_back, keys, version_of, sent, takes, tile_frame}
-use Rattle.document_machine.specs.Event.{Event, Joined, Left, Said, Turned, Painted}
+use Rattle.document_machine.specs.Due.{parts_of, size_of, is_due, is_owed, is_wanted, has_room, is_out, is_current, is_not_back, keys, version_of, sent, takes, tile_frame}
+use Rattle.document_machine.specs.Event.{Event, Joined, Left, Said, Turned, Painted, PutAnswered}
 use Rattle.document_machine.specs.Message.{effect, heard, reply}
-use Rattle.document_machine.specs.Next.{Work, Apply, Send, Cut, Rest, none_kept, pick}
+use Rattle.document_machine.specs.Next.{Work, Serve, Apply, Send, Cut, Rest}
 use Rattle.document_machine.specs.Outputs.{named, nothing, frames_only, one_frame, outs_of}
+use Rattle.document_machine.specs.Saves.{Serves, EndsPut, has_ready_save, saving_left}
 use Rattle.document_machine.specs.State.{View, Job, Document, opening_view, find_view, with_view, without_view, find_job, without_job}
 use Rattle.document_machine.specs.declared.limits.TheConstants.{MOST_JOBS, MOST_VIEWS}
 use Rattle.document_machine.specs.declared.outs.Outs.{Outs}
@@ -40,9 +41,12 @@ JoinsWhere false rules old rights outs new = (outs ≡ nothing) × (new ≡ old)
 abbrev pub Joins : {C B S : Type 0} → Rules C B → Document S → Rights → Outs S → Document S → Type 0
 Joins rules old rights outs new = JoinsWhere (nat_lt (length old.views) MOST_VIEWS) rules old rights outs new
 
--- a view leaves, with its window, its asked keys and its screen; without it nothing changes
+-- a view leaves, with its window, its asked keys and its screen, and a final save waits where one is needed;
+-- its saves go on. Without it nothing changes
 abbrev pub Leaves : {S : Type 0} → Document S → ℕ → Outs S → Document S → Type 0
-Leaves old id outs new = (outs ≡ nothing) × (new ≡ record old { views = without_view old.views id })
+Leaves old id outs new =
+    (outs ≡ nothing)
+    × (new ≡ record old { views = without_view old.views id; saving = saving_left old id })
 
 -- a view says a text: its one effect, with the frames of it
 pub record Says {C B S : Type 0} (rules : Rules C B) (old : Document S) (id : ℕ) (text : List ℕ) (outs : Outs S) (new : Document S) : Type 0 where
@@ -55,29 +59,23 @@ pub record Says {C B S : Type 0} (rules : Rules C B) (old : Document S) (id : �
 abbrev pub told : List View → List Damage → List (ViewId × Frame)
 told views damage = flat_map (λ view. map (λ d. (named view.id, Invalidate d.part d.rect)) damage) views
 
--- a turn applies the next input
+-- a turn applies the next input: no save is ready
 pub record Applies {C B S : Type 0} (rules : Rules C B) (old : Document S) (outs : Outs S) (new : Document S) : Type 0 where
   pub input : Input
+  pub no_save : has_ready_save old ≡ false
   pub behind : slice_get old.journal old.applied ≡ Some input
   pub new_is : new ≡ record old { applied = old.applied + 1 }
   pub outs_are : outs ≡ frames_only (told old.views (rules.hurt (doc rules old.base old.journal old.applied) input))
-
--- some view is owed the key
-abbrev pub is_owed : {C B S : Type 0} → Rules C B → Document S → Place → Bool
-is_owed rules d key = list_any (λ view. is_due rules d view key) d.views
-
--- some view with room is owed the key
-abbrev pub is_wanted : {C B S : Type 0} → Rules C B → Document S → Place → Bool
-is_wanted rules d key = list_any (λ view. has_room view && is_due rules d view key) d.views
 
 -- a job as it is given to a painter
 abbrev pub given : {S : Type 0} → Job S → PaintJob S
 given job = record { ticket = record { 0 = job.ticket }; number = job.number; group = job.keys; scene = job.scene }
 
--- a turn cuts a job: all inputs are applied, one more job may be out, none that is out is of these keys,
--- each key is owed, one of them to a view with room; the scene is that of the document as it is now
+-- a turn cuts a job: no save is ready, all inputs are applied, one more job may be out, none that is out is
+-- of these keys, each key is owed, one of them to a view with room; the scene is that of the document as it is now
 pub record Cuts {C B S : Type 0} (rules : Rules C B) (cut : C → Place → S) (old : Document S) (outs : Outs S) (new : Document S) : Type 0 where
   pub job : Job S
+  pub no_save : has_ready_save old ≡ false
   pub level : old.applied ≡ length old.journal
   pub few : length old.jobs < MOST_JOBS
   pub ticket_is : job.ticket ≡ old.next_ticket
@@ -88,15 +86,16 @@ pub record Cuts {C B S : Type 0} (rules : Rules C B) (cut : C → Place → S) (
   pub owed : AllByRecursion (λ key. is_owed rules old key ≡ true) job.keys
   pub wanted : list_any (is_wanted rules old) job.keys ≡ true
   pub scene_is : job.scene ≡ cut (doc rules old.base old.journal old.applied) job.area
-  pub outs_are : outs ≡ record { frames = []; jobs = given job ∷ [] }
+  pub outs_are : outs ≡ record { frames = []; jobs = given job ∷ []; errands = [] }
   pub new_is : new ≡ record old { jobs = old.jobs ++ job ∷ []; next_ticket = old.next_ticket + 1 }
 
--- a turn sends a tile that is there already: all inputs are applied, the pair is due, its view has room,
--- and the version is the present one and no step back
+-- a turn sends a tile that is there already: no save is ready, all inputs are applied, the pair is due, its
+-- view has room, and the version is the present one and no step back
 pub record Sends {C B S : Type 0} (rules : Rules C B) (old : Document S) (outs : Outs S) (new : Document S) : Type 0 where
   pub view : View
   pub key : Place
   pub version : ℕ
+  pub no_save : has_ready_save old ≡ false
   pub level : old.applied ≡ length old.journal
   pub live : find_view old.views view.id ≡ Some view
   pub room : has_room view ≡ true
@@ -114,26 +113,30 @@ IsServed rules d view =
     (λ key. (has_room view && is_due rules d view key) ≡ true → (is_out d.jobs key ≡ true) ⊎ (MOST_JOBS ≤ length d.jobs))
     (keys rules d view)
 
--- there is nothing that a turn could do
+-- there is nothing that a turn could do: no save is ready, all inputs are applied, and what each view with
+-- room is owed is under way
 pub record Rests {C B S : Type 0} (rules : Rules C B) (d : Document S) : Type 0 where
+  pub no_save : has_ready_save d ≡ false
   pub level : d.applied ≡ length d.journal
   pub served : AllByRecursion (IsServed rules d) d.views
 
--- a turn that does a work: it applies an input, it sends a tile, or it cuts a job
+-- a turn that does a work: it serves the ready saves, it applies an input, it sends a tile, or it cuts a job
 abbrev pub Works : {C B S : Type 0} → Rules C B → (C → Place → S) → Document S → Outs S → Document S → Type 0
-Works rules cut old outs new = Applies rules old outs new ⊎ (Sends rules old outs new ⊎ Cuts rules cut old outs new)
+Works rules cut old outs new =
+    Serves rules old outs new ⊎ (Applies rules old outs new ⊎ (Sends rules old outs new ⊎ Cuts rules cut old outs new))
 
 -- a turn is Worked where it did a work, and Idle where there was nothing to do
 abbrev pub TurnsTo : {C B S : Type 0} → Rules C B → (C → Place → S) → Document S → TurnAnswer S → Document S → Type 0
 TurnsTo rules cut old (Worked outs) new = Works rules cut old outs new
 TurnsTo rules cut old Idle new = Rests rules old × (new ≡ old)
 
--- a turn of which this is the one work: a job that it cuts is of the key alone
+-- a turn of which this is the one work: a job that it cuts is of these keys
 abbrev pub Does : {C B S : Type 0} → Rules C B → (C → Place → S) → Document S → Work → TurnAnswer S → Document S → Type 0
+Does rules cut old Serve (Worked outs) new = Serves rules old outs new
 Does rules cut old Apply (Worked outs) new = Applies rules old outs new
 Does rules cut old (Send id key version) (Worked outs) new =
     (sends : Sends rules old outs new) × (sends.view.id ≡ id) × (sends.key ≡ key) × (sends.version ≡ version)
-Does rules cut old (Cut id key) (Worked outs) new = (cuts : Cuts rules cut old outs new) × (cuts.job.keys ≡ key ∷ [])
+Does rules cut old (Cut id keys) (Worked outs) new = (cuts : Cuts rules cut old outs new) × (cuts.job.keys ≡ keys)
 Does rules cut old Rest Idle new = Rests rules old × (new ≡ old)
 Does rules cut old work turned new = ⊥
 
@@ -178,16 +181,4 @@ Step rules cut old (Said view text) outs new = Says rules old view text outs new
 Step {C} {B} {S} rules cut old Turned outs new =
     (turned : TurnAnswer S) × TurnsTo rules cut old turned new × (outs ≡ outs_of turned)
 Step rules cut old (Painted ticket scene) outs new = Paints rules old ticket scene outs new (find_job old.jobs ticket)
-
--- the step of a broker that can be spent: only a broker that isn't makes one, and it isn't spent after it
-abbrev pub Goes : {C B S : Type 0} → Rules C B → (C → Place → S) → Option (Document S) → Event S → Outs S → Option (Document S) → Type 0
-Goes rules cut (Some old) event outs (Some new) = Step rules cut old event outs new
-Goes rules cut (Some old) event outs None = ⊥
-Goes rules cut None event outs new = ⊥
-
--- a turn that did the one work that is picked, of a broker that can be spent and keeps no tiles: only a
--- broker that isn't makes one, and it isn't spent after it
-abbrev pub Did : {C B S : Type 0} → Rules C B → (C → Place → S) → Option (Document S) → TurnAnswer S → Option (Document S) → Type 0
-Did rules cut (Some old) turned (Some new) = Does rules cut old (pick rules none_kept old) turned new
-Did rules cut (Some old) turned None = ⊥
-Did rules cut None turned new = ⊥
+Step rules cut old (PutAnswered ticket result) outs new = EndsPut old ticket result outs new

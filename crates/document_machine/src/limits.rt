@@ -11,3 +11,6 @@ pub const MOST_INPUTS: usize = 524_288;
 
 /// The most jobs that are out.
 pub const MOST_JOBS: usize = 64;
+
+/// The most tiles that are kept, those that were used last.
+pub const MOST_KEPT: usize = 256;

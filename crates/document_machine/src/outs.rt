@@ -1,7 +1,8 @@
-//! What a broker answers: frames for its views and jobs for a painter.
+//! What a broker answers: frames for its views, jobs for a painter, and errands for a store.
 use cool_base::{ListOf, ViewId};
 use cool_frame::Frame;
 use kit_trait::PaintJob;
+use outside::Errand;
 
 /// What one call of a broker gives out, in order.
 #[derive(Drop)]
@@ -10,6 +11,8 @@ pub struct Outs<S> {
     pub frames: ListOf<(ViewId, Frame)>,
     /// Tiles to paint.
     pub jobs: ListOf<PaintJob<S>>,
+    /// Contents to store.
+    pub errands: ListOf<Errand>,
 }
 
 /// What one turn of a broker did.

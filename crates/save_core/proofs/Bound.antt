@@ -10,7 +10,7 @@ use Rattle.save_core.specs.Saving.{Saving, opening, last_stored, is_ready_save, 
 use Rattle.save_core.specs.Runs.{Event, Waited, Served, Answered, Kept, WaitedFinal, next, after_all, IsBoundTo, AreAcknowledged}
 
 -- the save is bound to no put
-abbrev IsFree : Save → Type 0
+abbrev pub IsFree : Save → Type 0
 IsFree save = save.bound ≡ false
 
 -- every bound save is bound to the put under way
@@ -70,7 +70,7 @@ idle applied last (save ∷ saves) a none =
     go save.bound (nat_le save.mark applied) (save.skip && nat_eq last applied) refl refl none
 
 -- a put begins only where none is under way
-served_bound : (applied : ℕ) (file content : List ℕ) (s : Saving) → s.put ≡ None → AreBound s → AreBound (served applied file content s)
+pub served_bound : (applied : ℕ) (file content : List ℕ) (s : Saving) → s.put ≡ None → AreBound s → AreBound (served applied file content s)
 served_bound applied file content s none bound =
     let free : AllByRecursion IsFree s.saves = subst (λ (p : Option Put). AllByRecursion (IsBoundTo p) s.saves) none bound in
     let last = last_stored s in
@@ -81,14 +81,14 @@ served_bound applied file content s none bound =
     ] in
     go (find (needs_put applied last) s.saves) refl
 
-answered_bound : (o : Option Put) (stored : Bool) (s : Saving) → AreBound s → AreBound (ended o stored s)
+pub answered_bound : (o : Option Put) (stored : Bool) (s : Saving) → AreBound s → AreBound (ended o stored s)
 answered_bound None stored s bound = bound
 answered_bound (Some put) stored s bound = freed s.saves
 
-waits_bound : (put : Option Put) (saves : List Save) (save : Save) → IsFree save → AllByRecursion (IsBoundTo put) saves → AllByRecursion (IsBoundTo put) (saves ++ save ∷ [])
+pub waits_bound : (put : Option Put) (saves : List Save) (save : Save) → IsFree save → AllByRecursion (IsBoundTo put) saves → AllByRecursion (IsBoundTo put) (saves ++ save ∷ [])
 waits_bound put saves save free bound = all_more (IsBoundTo put) saves save bound (free_is put save free)
 
-final_bound : (mark : ℕ) (o : Option (List ℕ)) (s : Saving) → AreBound s → AreBound (final_with mark o s)
+pub final_bound : (mark : ℕ) (o : Option (List ℕ)) (s : Saving) → AreBound s → AreBound (final_with mark o s)
 final_bound mark None s bound = bound
 final_bound mark (Some token) s bound =
     waits_bound s.put s.saves (record { view = None; mark = mark; skip = false; token = token; bound = false }) refl bound
@@ -114,7 +114,7 @@ run_bound [] s bound = bound
 run_bound (event ∷ events) s bound = run_bound events (next event s) (step_bound event s bound)
 
 -- the marks of the bound saves
-marks : (put : Put) (saves : List Save) → AllByRecursion (IsBoundTo (Some put)) saves → AllByRecursion (λ save. save.mark ≤ put.number) (filter (λ save. save.bound) saves)
+pub marks : (put : Put) (saves : List Save) → AllByRecursion (IsBoundTo (Some put)) saves → AllByRecursion (λ save. save.mark ≤ put.number) (filter (λ save. save.bound) saves)
 marks put [] a = tt
 marks put (save ∷ saves) a =
     let rest = marks put saves a.1 in
@@ -125,7 +125,7 @@ marks put (save ∷ saves) a =
     go save.bound refl
 
 -- an answer for a put is for that under way
-under_way : (ticket : ℕ) (receipt : Option Receipt) (o : Option Put) (put : Put) → answered_put ticket receipt o ≡ Some put → o ≡ Some put
+pub under_way : (ticket : ℕ) (receipt : Option Receipt) (o : Option Put) (put : Put) → answered_put ticket receipt o ≡ Some put → o ≡ Some put
 under_way ticket receipt None put is = absurd (cc)
 under_way ticket receipt (Some other) put is =
     let go : (b : Bool) → cond b (Some other) None ≡ Some put → Some other ≡ Some put = elim [

@@ -1,2 +1,2 @@
-mod Bound
+pub mod Bound
 mod Rooms

@@ -1,6 +1,6 @@
 -- What a document knows of its saves: what is stored, which saves wait, and the put under way.
 use Rattle.std.specs.Prelude.{ℕ, ◌+◌, ◌-◌, ◌<◌, ◌≡◌, Bool, true, false, not, ◌&&◌, ◌||◌, nat_eq, nat_le, List, [], ◌∷◌, ◌++◌, length, filter, map, find, slice_get, Option, None, Some, is_some, is_none, unwrap_or, if◌then◌else◌}
-use Rattle.std.specs.Option.{option_map, ForSome}
+use Rattle.std.specs.Option.{option_and_then, option_map, ForSome}
 use Rattle.std.specs.List.{list_any, filter_map}
 use Rattle.std.specs.Str.{bytes_eq}
 use Rattle.cool_base.specs.declared.ids.ViewId.{ViewId}
@@ -118,6 +118,14 @@ abbrev pub answered_put : ℕ → Option Receipt → Option Put → Option Put
 answered_put ticket receipt None = None
 answered_put ticket receipt (Some put) =
     if nat_eq put.ticket.0 ticket && is_for put.file put.content receipt then Some put else None
+
+-- the token with which the put under way went out: that of the first save that it is for
+abbrev pub put_token : Saving → Option (List ℕ)
+put_token s = option_map (λ save. save.token) (find (λ save. save.bound) s.saves)
+
+-- the same, where the answer is for the put under way
+abbrev pub answered_token : ℕ → Option Receipt → Saving → Option (List ℕ)
+answered_token ticket receipt s = option_and_then (λ put. put_token s) (answered_put ticket receipt s.put)
 
 -- the stored numbers, with this one where it was stored
 abbrev pub stored_with : Bool → ℕ → List ℕ → List ℕ

@@ -1,6 +1,7 @@
 //! Saves in the order asked for.
 ghost use Rattle.std.specs.Prelude.{◌≡◌, ◌≤◌, ◌&&◌, not, true, length, map, filter, find, nat_eq, nat_le, vec_capacity, IfOk, OnOk, OnErr};
 ghost use Rattle.std.specs.List.{list_any};
+ghost use Rattle.std.specs.Option.{option_copied, option_map};
 ghost use Rattle.save_core.specs.Saving.{is_of, is_full, is_ready_save, is_unmodified, needs_put, views_of, bound_to, left_over, token_for, stored_with, answer_of};
 
 use crate::values::{MOST_SAVES, Save, SaveAnswer};
@@ -108,6 +109,19 @@ pub(crate) fn token_for(
         }
     }
     Ok(None)
+}
+
+/// The token of the first save that a put is for.
+pub(crate) fn put_token(saves: &[Save]) -> Option<&Token>
+    ensures { option_copied result ≡ option_map (λ save. save.token) (find (λ save. save.bound) saves.now) }
+{
+    for save in saves {
+        let is_bound = save.bound;
+        if is_bound {
+            return Some(&save.token);
+        }
+    }
+    None
 }
 
 // Binds the save, where it is ready.

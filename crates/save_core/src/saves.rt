@@ -1,10 +1,10 @@
 //! `Saves`.
 ghost use Rattle.std.specs.Prelude.{◌≡◌, ◌↔◌, true, Err, IsTrue, IfOk, OnOk, OnErr, nat_eq, length, is_some, option_copied, option_map};
 ghost use Rattle.save_core.specs.declared.values.SaveFault.TheVariants.{SavesFull as TooMany};
-ghost use Rattle.save_core.specs.Saving.{opening, last_stored, is_full, waits, is_ready, served, errand_for, unmodified, answered_put, answered, answers, token_kept, final_waits, has_mark, is_for};
+ghost use Rattle.save_core.specs.Saving.{opening, last_stored, is_full, waits, is_ready, served, errand_for, unmodified, answered_put, answered, answered_token, answers, token_kept, final_waits, has_mark, is_for};
 
 use crate::lists::{
-    end, endings, has_mark, is_any_ready, is_full, serve, store, token_for, unmodified,
+    end, endings, has_mark, is_any_ready, is_full, put_token, serve, store, token_for, unmodified,
 };
 use crate::values::{Put, Save, SaveAnswer, SaveFault, Started};
 use bytes::Bytes;
@@ -214,6 +214,31 @@ impl Saves {
         ensures { result ≡ has_mark mark self.now }
     {
         has_mark(self.saves.as_slice(), mark)
+    }
+
+    /// Whether the view has `MOST_SAVES` saves that are not answered, so that no other waits.
+    pub fn is_full(&self, view: Option<ViewId>) -> bool
+        ensures { result ≡ is_full view self.now.saves }
+    {
+        is_full(self.saves.as_slice(), view)
+    }
+
+    /// The token kept for final saves, where one is.
+    pub fn last_token(&self) -> Option<&Token>
+        ensures { option_copied result ≡ self.now.last_token }
+    {
+        self.kept.as_ref()
+    }
+
+    /// The token with which the put under way went out, where the store's answer for the errand of this
+    /// ticket is for it: a receipt, or none where the store answered a fault.
+    pub fn answered_token(&self, ticket: Ticket, receipt: Option<&Receipt>) -> Option<&Token>
+        ensures { option_copied result ≡ answered_token ticket.0 (option_copied receipt.entry) self.now }
+    {
+        if answered_number(&self.put, ticket, receipt).is_none() {
+            return None;
+        }
+        put_token(self.saves.as_slice())
     }
 
     /// Whether every save is answered.

@@ -8,5 +8,6 @@ returns g c =
     λ d kept.
     Law.all_right_or_due g.K.Kit.rules d
     (λ base journal version n place wide high le clean.
-    Untouched.untouched_is_unchanged g.K.Kit.rules g.K.Kit.IsSound laws.sound_start laws.sound_step laws.covered base journal version place wide high n le clean)
+    Untouched.untouched_is_unchanged g.K.Kit.rules g.K.Kit.IsSound laws.sound_start laws.sound_step
+    laws.covered base journal version place wide high n le clean)
     kept

@@ -5,4 +5,5 @@ pub returns : goal.returns
 returns g c =
     let laws = g.met.K.Kit g.world.𝓛 g.world.𝓜 g.world.𝓡 ((λ s x. x), (λ x. x), (λ x. x), λ x. x) in
     λ base journal version n place wide high le clean.
-    Law.untouched_is_unchanged g.K.Kit.rules g.K.Kit.IsSound laws.sound_start laws.sound_step laws.covered base journal version place wide high n le clean
+    Law.untouched_is_unchanged g.K.Kit.rules g.K.Kit.IsSound laws.sound_start laws.sound_step
+    laws.covered base journal version place wide high n le clean

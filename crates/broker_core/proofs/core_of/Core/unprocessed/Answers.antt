@@ -11,7 +11,7 @@ returns g c = λ x found.
     let members = c.self.inside.views.members.items in
     let member : Member = c.index.result.now in
     let there : find_view (views_of members) c.args.id ≡ Some (view_of member) = place_finds members c.args.id c.in-Some.i member c.in-Some.ensures.place (sym c.index.ensures) in
-    let same_document : find_view (views_of members) c.args.id ≡ find_view c.args.self.now.views c.args.id = rw (← c.self.view_is) in
+    let same_document : find_view (views_of members) c.args.id ≡ find_view c.args.self.now.document.views c.args.id = rw (← c.self.view_is) in
     let same : Some (view_of member) ≡ Some x = sym there ∙ same_document ∙ found in
     let is : view_of member ≡ x = cc same in
     c.wids.ensures ∙ ap (λ (v : View). map (λ tile. tile.wid) v.window) is

@@ -11,7 +11,7 @@ returns-then-part-parts g c =
     let contents = g.K.Kit.contents c.args.kit.now in
     let sizes = sizes_in g.K.Kit.rules contents in
     IfOk-weaker c.refuse.result _ _
-    (λ outcome is count. refuses_hears sizes c.args.self.now _ _ _ outcome is (goes_nowhere (limits_in g.K.Kit.rules contents count) (view_of c.args.self.now) c.args.part c.parts.result c.parts.ensures c.if-part-parts.true) c.requires.seen)
+    (λ outcome is count saves. refuses_hears sizes c.args.self.now _ _ _ outcome is (goes_nowhere (limits_in g.K.Kit.rules contents count saves) (view_of c.args.self.now) c.args.part c.parts.result c.parts.ensures c.if-part-parts.true) c.requires.seen)
     c.refuse.ensures
 
 pub returns : goal.returns
@@ -19,7 +19,7 @@ returns g c =
     let contents = g.K.Kit.contents c.args.kit.now in
     let sizes = sizes_in g.K.Kit.rules contents in
     all_two c.outcome_of.result _ _ _ c.outcome_of.ensures.outcome c.outcome_of.ensures.memory
-    (λ outcome told memory count.
-    subst (λ effect. Hears sizes c.args.self.now effect outcome (record { id = c.args.self.now.id; view = c.set_part-change.new.self })) (goes_there (limits_in g.K.Kit.rules contents count) (view_of c.args.self.now) c.args.part c.parts.result c.parts.ensures c.if-part-parts.false)
+    (λ outcome told memory count saves.
+    subst (λ effect. Hears sizes c.args.self.now effect outcome (record { id = c.args.self.now.id; view = c.set_part-change.new.self })) (goes_there (limits_in g.K.Kit.rules contents count saves) (view_of c.args.self.now) c.args.part c.parts.result c.parts.ensures c.if-part-parts.false)
     (go_hears sizes c.args.self.now (record { id = c.args.self.now.id; view = c.set_part-change.new.self }) c.size-size.result c.set_part-change.result outcome c.args.part (codes "setclientpart") c.size-size.ensures refl
     c.set_part-change.ensures.ok c.set_part-change.ensures.too_large c.set_part-change.ensures.not_full c.set_part-change.ensures.err memory told c.requires.seen))

@@ -13,5 +13,5 @@ returns-in-Err g c =
     let view = view_of c.args.self.now in
     IfOk-weaker c.refuse.result _ _
     (λ outcome is. refuses_hears (sizes_in g.K.Kit.rules contents) c.args.self.now _ _ _ outcome is
-    (ap (λ command. refuses view command BadMessage) c.command_of.ensures ∙ ap (reading_effect (limits_in g.K.Kit.rules contents c.args.count) view c.args.text.now) (sym (c.in-Err.ensures.refused (search rules)))) c.requires.seen)
+    (ap (λ command. refuses view command BadMessage) c.command_of.ensures ∙ ap (reading_effect (limits_in g.K.Kit.rules contents c.args.count c.args.saves.now.saves) view c.args.text.now) (sym (c.in-Err.ensures.refused (search rules)))) c.requires.seen)
     c.refuse.ensures

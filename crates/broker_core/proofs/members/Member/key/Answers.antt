@@ -7,5 +7,5 @@ use Rattle.broker_core.proofs.members.Member.key.Goals as goal
 pub returns-in-Input : goal.returns-in-Input
 returns-in-Input c =
     IfOk-weaker c.input.result _ _
-    (λ outcome is parts sizes. is parts sizes ∙ ap (λ kind. key_effect (record { inputs = c.args.count; parts = parts; sizes = sizes }) (view_of c.args.self.now) kind c.args.what) (sym c.in-Input.is))
+    (λ outcome is saves parts sizes. is saves parts sizes ∙ ap (λ kind. key_effect (record { inputs = c.args.count; saves = saves; parts = parts; sizes = sizes }) (view_of c.args.self.now) kind c.args.what) (sym c.in-Input.is))
     c.input.ensures

@@ -7,5 +7,5 @@ use Rattle.broker_core.proofs.members.Member.mouse.Goals as goal
 pub returns-in-ButtonDown : goal.returns-in-ButtonDown
 returns-in-ButtonDown c =
     IfOk-weaker c.input.result _ _
-    (λ outcome is parts sizes. is parts sizes ∙ ap (λ kind. mouse_effect (record { inputs = c.args.count; parts = parts; sizes = sizes }) (view_of c.args.self.now) kind c.args.what) (sym c.in-ButtonDown.is))
+    (λ outcome is saves parts sizes. is saves parts sizes ∙ ap (λ kind. mouse_effect (record { inputs = c.args.count; saves = saves; parts = parts; sizes = sizes }) (view_of c.args.self.now) kind c.args.what) (sym c.in-ButtonDown.is))
     c.input.ensures
