@@ -1,4 +1,0 @@
-pub mod Settling
-pub mod Leaving
-pub mod Housing
-pub mod Joining
