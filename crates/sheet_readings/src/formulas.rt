@@ -39,7 +39,36 @@ impl Lookup for Sevens {
         first: (u32, u32),
         last: (u32, u32),
     ) -> Result<Vec<Value>, Memory> {
-        each_value(alloc, self, first, last)
+        each_value(alloc, &OneByOne { row: self.row }, first, last)
+    }
+}
+
+// The same cells, which are looked up one by one alone: as a range it has no memory.
+#[derive(Drop)]
+struct OneByOne {
+    row: u32,
+}
+
+impl Lookup for OneByOne {
+    ghost use Rattle.std.specs.Prelude.{◌==◌, if◌then◌else◌};
+
+    ghost value_at = { λ cells position. if position.0 == cells.row then Number (pos 7) else Empty };
+
+    fn value(&self, _alloc: Global, row: u32, _col: u32) -> Result<Value, Memory> {
+        if row == self.row {
+            Ok(Value::Number(7))
+        } else {
+            Ok(Value::Empty)
+        }
+    }
+
+    fn values(
+        &self,
+        _alloc: Global,
+        _first: (u32, u32),
+        _last: (u32, u32),
+    ) -> Result<Vec<Value>, Memory> {
+        Err(Memory)
     }
 }
 
