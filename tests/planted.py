@@ -94,7 +94,7 @@ def watch_script(name):
 def main(names):
     crates = sorted(os.listdir(os.path.join(TOP, "crates")))
     programs = [name for name in crates if os.path.exists(os.path.join(TOP, "crates", name, "stdout"))
-                and os.path.getsize(os.path.join(TOP, "crates", name, "stdin")) > 0]
+                and content(os.path.join(TOP, "crates", name, "stdin"))]
     scripts = sorted(name[:-len(".script")] for name in os.listdir(SCRIPTS) if name.endswith(".script"))
     passed, failed, missing = 0, 0, []
     for name, watch in [(name, watch_program) for name in programs] + [(name, watch_script) for name in scripts]:

@@ -1,9 +1,8 @@
 -- How errors end a link.
-use Rattle.std.specs.Prelude.{ℕ, ◌≡◌, ◌≢◌, ◌⊎◌}
+use Rattle.std.specs.Prelude.{◌≡◌, ◌≢◌, ◌⊎◌}
 use Rattle.std.specs.IoError.{error_kind}
 use Rattle.std.specs.declared.io.ErrorKind.TheVariants.{WouldBlock}
 use Rattle.tungstenite.specs.declared.error.Error.{Error}
-use Rattle.tungstenite.specs.declared.error.Error.TheVariants as Error
 use Rattle.web_link.specs.declared.heard.Ending.{Ending}
 use Rattle.web_link.specs.declared.heard.Ending.TheVariants.{Waits, NoMemory, Lost, Broken}
 

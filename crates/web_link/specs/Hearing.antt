@@ -1,8 +1,7 @@
 -- What comes over a link.
-use Rattle.std.specs.Prelude.{ℕ, ◌≡◌, Bool, true, List, Option, Result, Ok, Err}
+use Rattle.std.specs.Prelude.{ℕ, ◌≡◌, Bool, true, List, Option, Ok, Err}
 use Rattle.tungstenite.specs.declared.error.Error.{Error}
 use Rattle.tungstenite.specs.declared.message.Message.{Message}
-use Rattle.tungstenite.specs.declared.message.Message.TheVariants as Message
 use Rattle.tungstenite.specs.Socket.{Socket, Reads}
 use Rattle.web_link.specs.Endings.{EndsBy}
 use Rattle.web_link.specs.declared.heard.Ending.{Ending}

@@ -90,6 +90,7 @@ impl<S: Read + Write + Drop> WebLink<S> {
     ghost use Rattle.std.specs.Prelude.{◌≡◌, [], true, IfOk};
     ghost use Rattle.web_link.specs.Hearing.{HearsNext};
     ghost use Rattle.web_link.specs.Frames.{Sends, GivesNow, GivesFrame};
+    ghost use Rattle.web_link.specs.Pushing.{PushesNext, PushesOne, Pushes};
 
     /// The next message. A ping is answered; while a frame is on its way nothing is heard, so that a
     /// browser that doesn't read can't make pongs pile up. A browser that breaks a rule is told so, if
@@ -174,27 +175,43 @@ impl<S: Read + Write + Drop> WebLink<S> {
     }
 
     // The frame on its way goes on; where it has left, the first that waits is sent.
-    fn push_one(&mut self) -> Result<Pushed, Memory> {
+    #[tactic(auto, using(crate::proofs::Leaving::one_push))]
+    fn push_one(&mut self) -> Result<Pushed, Memory>
+        ensures { IfOk result (λ pushed. PushesOne S.contents self.old.socket self.old.queue
+            pushed self.new.socket self.new.queue) }
+    {
         if !self.queue.is_busy() {
             return Ok(Pushed::Idle);
         }
-        if let Err(error) = self.socket.flush() {
-            return match ending_of(&error) {
+        match self.socket.flush() {
+            Ok(()) => self.push_next(),
+            Err(error) => match ending_of(&error) {
                 Ending::Waits => Ok(Pushed::Blocked),
                 Ending::NoMemory => Err(Memory),
                 Ending::Lost => Ok(Pushed::Ended),
                 Ending::Broken(_) => Ok(Pushed::Ended),
-            };
+            },
         }
+    }
+
+    // The first frame that waits is sent.
+    fn push_next(&mut self) -> Result<Pushed, Memory>
+        ensures { IfOk result (λ pushed. PushesNext S.contents self.old.socket self.old.queue
+            pushed self.new.socket self.new.queue) }
+    {
         match self.queue.left() {
             Some(frame) => self.send(frame.get()),
             None => Ok(Pushed::Idle),
         }
     }
 
-    /// Sends what waits, as far as the stream takes it. False where the link has ended.
-    pub fn push(&mut self) -> Result<bool, Memory> {
-        for _ in 0..usize::MAX {
+    /// Sends what waits, in order, as far as the stream takes it. False where the link has ended.
+    #[tactic(auto, using(crate::proofs::Leaving::all_pushes))]
+    pub fn push(&mut self) -> Result<bool, Memory>
+        ensures { IfOk result (λ alive. Pushes S.contents alive self.new.socket self.new.queue
+            self.old.socket self.old.queue) }
+    {
+        loop {
             match self.push_one()? {
                 Pushed::More => {}
                 Pushed::Idle => return Ok(true),
@@ -202,6 +219,5 @@ impl<S: Read + Write + Drop> WebLink<S> {
                 Pushed::Ended => return Ok(false),
             }
         }
-        Ok(true)
     }
 }
