@@ -1,11 +1,13 @@
 -- A document as it is loaded.
-use Rattle.std.proofs.Common.{◌≡◌, ◌≤◌, ℕ, ◌<◌, true, List, [], refl, ap}
+use Rattle.std.proofs.Common.{◌≡◌, ◌≤◌, ℕ, ◌<◌, true, List, [], refl, sym, ap, subst}
 use Rattle.kit_trait.specs.Rules.{Rules}
+use Rattle.save_core.specs.Saving.{Saving, opening}
+use Rattle.tile_cache.specs.Cached.{Cached}
 use Rattle.tile_cache.specs.Calls.{empty}
 use Rattle.tile_key.specs.Places.{Place}
 use Rattle.document_machine.specs.Due.{parts_of}
 use Rattle.document_machine.specs.Held.{opening_held}
-use Rattle.broker_core.specs.Held.{Holds}
+use Rattle.broker_core.specs.Held.{Holds, held_of}
 use Rattle.document_laws.proofs.Moving.{opening_held_keeps}
 
 -- a document as it is loaded has all that a broker keeps
@@ -24,3 +26,12 @@ holds_opening rules cut IsSound contents file base accepted is sound some = reco
   kept_are = refl;
   cached = record { tiles = tt; outs = refl };
 }
+
+-- the same, with a cache that is new and with what is known of the saves of a loaded file
+pub holds_opened : {C B S : Type 0} (rules : Rules C B) (cut : C → Place → S) (IsSound : C → Type 0) (contents : C) (file base : List ℕ) (cache : Cached) (saving : Saving) → cache ≡ empty → saving ≡ opening
+    → rules.accepts base ≡ true → contents ≡ rules.start base → IsSound contents → 1 ≤ parts_of rules base
+    → Holds rules cut IsSound contents [] cache (held_of {S = S} file base [] 0 [] 0 [] cache saving)
+holds_opened {S = S} rules cut IsSound contents file base cache saving cache_is saving_is accepted is sound some =
+    subst (λ (t : Cached). Holds rules cut IsSound contents [] t (held_of {S = S} file base [] 0 [] 0 [] t saving)) (sym cache_is)
+    (subst (λ (s : Saving). Holds rules cut IsSound contents [] empty (held_of {S = S} file base [] 0 [] 0 [] empty s)) (sym saving_is)
+    (holds_opening rules cut IsSound contents file base accepted is sound some))
