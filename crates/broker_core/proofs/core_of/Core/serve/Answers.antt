@@ -22,7 +22,7 @@ invariant_of-core g c =
     let laws = g.met.K.Kit g.world.𝓛 g.world.𝓜 g.world.𝓡 ((λ s x. x), (λ x. x), (λ x. x), λ x. x) in
     let ready : has_ready_save d.document ≡ true = subst (λ (o : Held _). has_ready_save o.document ≡ true) (sym c.self.view_is) c.requires in
     let does : DoesNext g.K.Kit.rules g.K.Kit.cut d (Worked (outs_served i.views.members.items d.document c.in_ok-content.content)) (saved_once d c.start.new.self) =
-    serves_by g.K.Kit.rules g.K.Kit.cut g.K.Kit.IsSound (g.K.Kit.contents i.kit) i.views.members.items i.tiles d c.self.invariant c.in_ok-content.content c.start.new.self (outs_served i.views.members.items d.document c.in_ok-content.content) ready (c.in_ok-content.ensures ∙ c.in_ok-text.ensures.text) c.in_ok-started.ensures.serves refl in
+    serves_by g.K.Kit.rules g.K.Kit.cut g.K.Kit.IsSound (g.K.Kit.contents i.kit) i.views.members.items i.tiles d c.self.invariant c.in_ok-content.content c.start.new.self (outs_served i.views.members.items d.document c.in_ok-content.content) ready (c.in_ok-content.ensures.ok ∙ c.in_ok-text.ensures.text) c.in_ok-started.ensures.serves refl in
     holds_saved g.K.Kit.rules g.K.Kit.cut g.K.Kit.IsSound (g.K.Kit.contents i.kit) i.views.members.items i.tiles d c.self.invariant (λ base. laws.some_part (g.K.Kit.rules.start base) (laws.sound_start base)) (g.K.Kit.contents c.save_text.new.self) c.in_ok-text.ensures.kept c.start.new.self Turned _ (turn_moves g.K.Kit.rules g.K.Kit.cut d _ _ does)
 
 pub returns : goal.returns
@@ -31,6 +31,6 @@ returns g c =
     let d : Held _ = held_of i.source.file i.source.base i.inputs.accepted.items i.inputs.applied i.views.members.items i.views.next i.jobs.items i.tiles i.saves in
     let ready : has_ready_save d.document ≡ true = subst (λ (o : Held _). has_ready_save o.document ≡ true) (sym c.self.view_is) c.requires in
     subst (λ (o : Held _). DoesNext g.K.Kit.rules g.K.Kit.cut o (Worked (record { frames = c.in_ok-frames.frames; jobs = []; errands = c.in_ok-errands.errands })) (saved_once d c.start.new.self)) c.self.view_is
-    (serves_by g.K.Kit.rules g.K.Kit.cut g.K.Kit.IsSound (g.K.Kit.contents i.kit) i.views.members.items i.tiles d c.self.invariant c.in_ok-content.content c.start.new.self _ ready (c.in_ok-content.ensures ∙ c.in_ok-text.ensures.text) c.in_ok-started.ensures.serves
+    (serves_by g.K.Kit.rules g.K.Kit.cut g.K.Kit.IsSound (g.K.Kit.contents i.kit) i.views.members.items i.tiles d c.self.invariant c.in_ok-content.content c.start.new.self _ ready (c.in_ok-content.ensures.ok ∙ c.in_ok-text.ensures.text) c.in_ok-started.ensures.serves
     (outs_by i.views.members.items d.document c.in_ok-content.content c.in_ok-started.started.unmodified.items c.as_slice-unmodified.result.now c.in_ok-started.started.errand c.in_ok-frames.frames c.in_ok-errands.errands
     c.as_slice-unmodified.ensures.value c.in_ok-started.ensures.unmodified c.in_ok-started.ensures.errand c.in_ok-frames.ensures c.in_ok-errands.ensures))
