@@ -120,12 +120,16 @@ all_of : {X : Type 0} (P : X → Type 0) (xs : List X) → AllByRecursion P xs �
 all_of P [] all = All-nil P
 all_of P (x ∷ xs) all = All-cons P x xs all.0 (all_of P xs all.1)
 
--- what is kept once the job is out
-abbrev pub held_cut : {S : Type 0} → Held S → Job S → Cached → Held S
-held_cut held job cache = record {
-  document = record (held.document) { jobs = held.document.jobs ++ job ∷ []; next_ticket = cache.next };
+-- what is kept with these jobs out
+abbrev pub held_jobs : {S : Type 0} → Held S → List (Job S) → Cached → Held S
+held_jobs held jobs cache = record {
+  document = record (held.document) { jobs = jobs; next_ticket = cache.next };
   kept = kept_tiles cache.tiles;
 }
+
+-- what is kept once the job is out
+abbrev pub held_cut : {S : Type 0} → Held S → Job S → Cached → Held S
+held_cut held job cache = held_jobs held (held.document.jobs ++ job ∷ []) cache
 
 module _ {C B S : Type 0} (rules : Rules C B) (cut : C → Place → S) (IsSound : C → Type 0) (contents : C) (members : List Member) (cache : Cached) (held : Held S) (h : Holds rules cut IsSound contents members cache held)
     (id : ℕ) (key : Place) (no_save : has_ready_save held.document ≡ false) (level : nat_lt held.document.applied (length held.document.journal) ≡ false) (next : next_pair rules (current_version rules held) held.document ≡ Some (id, key))

@@ -25,19 +25,13 @@ use Rattle.broker_core.specs.Caching.{IsTileOf, kept_tile, kept_tiles, out_of, o
 use Rattle.broker_core.specs.Painting.{IsJobAt}
 use Rattle.broker_core.specs.Sending.{is_present, ready_tiles}
 use Rattle.broker_core.specs.declared.sending.Ready.{Ready}
+use Rattle.broker_core.proofs.Awaited.{ticket_finds}
 use Rattle.broker_core.proofs.Caches.{kept_same}
 use Rattle.broker_core.proofs.Paintings.{IsReady}
 
 -- the job at the place is found by its ticket
 pub job_finds : {S : Type 0} (jobs : List (Job S)) (ticket : ℕ) (scene : S) (i : ℕ) (job : Job S) → IsJobAt jobs ticket scene i → get_or jobs i job ≡ job → find_job jobs ticket ≡ Some job
-job_finds {S} jobs ticket scene i job at is = found jobs i at.within (subst (λ j. nat_eq j.ticket ticket ≡ true) is (at.here job)) is at.before
-  where
-    found : (list : List (Job S)) (k : ℕ) → k < length list → nat_eq job.ticket ticket ≡ true → get_or list k job ≡ job → AllByRecursion (λ (j : Job S). nat_eq j.ticket ticket ≡ false) (take k list) → find_job list ticket ≡ Some job
-    found [] k within same here before = absurd (omega arith)
-    found (j ∷ list) zero within same here before =
-        let t : nat_eq j.ticket ticket ≡ true = ap (λ (x : Job S). nat_eq x.ticket ticket) here ∙ same in
-        rw t (ap Some here)
-    found (j ∷ list) (suc k) within same here before = rw before.0 (found list k (omega arith) same here before.1)
+job_finds jobs ticket scene i job at is = ticket_finds jobs ticket i job at.within (subst (λ j. nat_eq j.ticket ticket ≡ true) is (at.here job)) is at.before
 
 -- the jobs without it
 pub job_leaves : {S : Type 0} (jobs : List (Job S)) (ticket : ℕ) (scene : S) (i : ℕ) (job : Job S) → IsJobAt jobs ticket scene i → get_or jobs i job ≡ job → without_job jobs ticket ≡ remove jobs i

@@ -22,5 +22,6 @@ pub mod Pairs
 pub mod Sendings
 pub mod Cuttings
 pub mod Paintings
+pub mod Awaited
 pub mod Keepings
 pub mod Takings

@@ -25,6 +25,12 @@ frames_more version tile xs ys i x first frames now lt ys_are x_is before more =
     more ∙ ap (λ fs. fs ++ g x) before ∙ flat_map_more g first (take i xs) x
     ∙ ap (λ (z : Member). first ++ flat_map g (take i xs ++ z ∷ [])) at ∙ ap (λ (zs : List Member). first ++ flat_map g zs) (sym (take_more xs i x lt))
 
+-- what is read within a list is there whatever stands for the rest
+pub read_again : {X : Type 0} (xs : List X) (i : ℕ) (d e : X) → i < length xs → get_or xs i d ≡ get_or xs i e
+read_again [] i d e lt = absurd (omega arith)
+read_again (x ∷ xs) zero d e lt = refl
+read_again (x ∷ xs) (suc i) d e lt = read_again xs i d e (omega arith)
+
 -- one more painted tile is there
 pub ready_more : (keys : List Place) (ends : List KeyEnd) (parts : List Pixels) (i : ℕ) (key : Place) (end : KeyEnd) (part : Pixels) → i < length keys → length ends ≡ length keys → length parts ≡ length keys → key ≡ get_or keys i key → end ≡ get_or ends i end → part ≡ get_or parts i part → ready_tiles (take i keys) (take i ends) (take i parts) ++ record { key = key; current = is_present end; rgba = part.rgba } ∷ [] ≡ ready_tiles (take (suc i) keys) (take (suc i) ends) (take (suc i) parts)
 ready_more [] ends parts i key end part lt es ps k e p = absurd (omega arith)

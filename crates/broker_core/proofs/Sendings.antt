@@ -1,6 +1,6 @@
 -- A present tile that is kept is sent to the view that is next.
-use Rattle.std.proofs.Common.{◌≡◌, ◌≢◌, ℕ, zero, suc, ◌<◌, ◌≤◌, Bool, true, false, not, cond, List, [], ◌∷◌, length, set, get_or, Option, Some, None, refl, sym, ap, subst, ◌∙◌, arith, nat_eq}
-use Rattle.std.specs.Prelude.{option_map, nat_lt, nat_le, IfOk}
+use Rattle.std.proofs.Common.{◌≡◌, ◌≢◌, ℕ, zero, suc, ◌<◌, ◌≤◌, Bool, true, false, not, cond, List, [], ◌∷◌, length, set, get_or, Option, Some, None, is_some, refl, sym, ap, subst, ◌∙◌, arith, nat_eq}
+use Rattle.std.specs.Prelude.{option_map, nat_lt, nat_le, IfOk, IsSome}
 use Rattle.std.specs.List.{AllByRecursion}
 use Rattle.std.specs.Map.{lookup, remove_entry}
 use Rattle.std.proofs.lemmas.Bool.Decides.{nat_tests}
@@ -35,7 +35,7 @@ use Rattle.broker_core.specs.Sending.{member_sent, sent_frame}
 use Rattle.broker_core.specs.declared.members.Member.{Member}
 use Rattle.broker_core.specs.declared.sending.Ready.{Ready}
 use Rattle.broker_core.proofs.Caches.{current_same, found_mark, kept_same}
-use Rattle.broker_core.proofs.Pairs.{IsNextView, pair_found}
+use Rattle.broker_core.proofs.Pairs.{IsNextView, pair_found, some_same}
 use Rattle.document_laws.proofs.Idle.{idle_by}
 use Rattle.document_laws.proofs.Moving.{moves_keep}
 use Rattle.broker_core.proofs.Lists.{all_set}
@@ -135,12 +135,35 @@ tile_found (Some had) number rgba e =
     ] in
     go had.is_met refl e
 
--- what is kept once a tile that is kept was sent to the member at the place
-abbrev pub held_sent : {S : Type 0} → Held S → List Member → (i version : ℕ) → Ready → Member → Cached → Held S
-held_sent held members i version ready member cache = record {
-  document = record (held.document) { views = views_of (set members i (member_sent version ready member)) };
+-- what is kept with these members
+abbrev pub held_with : {S : Type 0} → Held S → List Member → Cached → Held S
+held_with held members cache = record {
+  document = record (held.document) { views = views_of members; next_ticket = cache.next };
   kept = kept_tiles cache.tiles;
 }
+
+-- what is kept once a tile that is kept was sent to the member at the place
+abbrev pub held_sent : {S : Type 0} → Held S → List Member → (i version : ℕ) → Ready → Member → Cached → Held S
+held_sent held members i version ready member cache = held_with held (set members i (member_sent version ready member)) cache
+
+-- where the machine keeps a present tile the cache has one
+both_there : {X : Type 0} (f : Tile → X) (kept : Option ℕ) (tile : Option Tile) → is_some kept ≡ is_some tile → IsSome kept → option_map f tile ≡ None → ⊥
+both_there f None None same some none = cc
+both_there f None (Some t) same some none = cc
+both_there f (Some n) None same some none = cc
+both_there f (Some n) (Some t) same some none = cc
+
+pub never_lost : {X C B S : Type 0} (f : Tile → X) (rules : Rules C B) (cut : C → Place → S) (IsSound : C → Type 0) (contents : C) (members : List Member) (cache : Cached) (held : Held S) → Holds rules cut IsSound contents members cache held → (key : Place) → IsSome (current_version rules held key) → option_map f (current_tile cache key) ≡ None → ⊥
+never_lost f rules cut IsSound contents members cache held h key some none =
+    both_there f (current_version rules held key) (current_tile cache key) (some_same rules cut IsSound contents members cache held h key) some none
+
+-- the view of the pair that is next is there
+pub never_gone : {C B S : Type 0} (rules : Rules C B) (cut : C → Place → S) (IsSound : C → Type 0) (contents : C) (members : List Member) (cache : Cached) (held : Held S) → Holds rules cut IsSound contents members cache held → (id : ℕ) (key : Place) → next_pair rules (current_version rules held) held.document ≡ Some (id, key) → find_view (views_of members) id ≡ None → ⊥
+never_gone rules cut IsSound contents members cache held h id key next none =
+    let found = pair_found rules (current_version rules held) held.document id key h.kept.document.ids next in
+    let there : find_view (views_of members) id ≡ Some found.0 = ap (λ vs. find_view vs id) (sym h.views_are) ∙ found.1 in
+    let both : None ≡ Some found.0 = sym none ∙ there in
+    cc
 
 -- the tile that the cache has of a key as one that is there
 abbrev pub ready_of : Place → Tile → Ready
@@ -214,7 +237,8 @@ module _ {C B S : Type 0} (rules : Rules C B) (cut : C → Place → S) (IsSound
         current = both.1;
         not_back = not_back_by view.screen key tile.number screen;
         outs_are = ap (λ (rgba : List ℕ). frames_only ((named member.id, TileFrame key tile.number (record { 0 = member.view.next_wid }) rgba) ∷ [])) shows.shows;
-        new_is = ap (λ (vs : List View). record d { views = vs })
+        new_is = ap (λ n. record d { views = views_of (set members i (member_sent tile.number (ready_of key tile) member)); next_ticket = n }) (ap (λ (c : Cached). c.next) now_is ∙ sym h.ticket_is)
+            ∙ ap (λ (vs : List View). record d { views = vs })
             (place_changes members id i member (member_sent tile.number (ready_of key tile) member) (sent rules d tile.number key) place here change
             ∙ ap (λ (vs : List View). with_view vs id (sent rules d tile.number key)) (sym h.views_are)
             ∙ ap (λ n. with_view d.views n (sent rules d tile.number key)) (sym n.named));
@@ -271,7 +295,7 @@ module _ {C B S : Type 0} (rules : Rules C B) (cut : C → Place → S) (IsSound
         tracked = all_set (IsTracked rules d.base d.journal d.applied) members i (member_sent tile.number (ready_of key tile) member) h.tracked
             (tracked_sent rules d.base d.journal d.applied tile.number (ready_of key tile) member (sym untouched) tracked);
         forms = h.forms;
-        ticket_is = h.ticket_is ∙ ap (λ (c : Cached). c.next) (sym now_is);
+        ticket_is = refl;
         kept_are = refl;
         cached = record {
           tiles = subst (λ (c : Cached). AllByRecursion (IsTileOf rules d.base d.journal d.applied) c.tiles) (sym now_is)

@@ -1,4 +1,4 @@
-use Rattle.std.proofs.Common.{◌≡◌, ◌∙◌, ◌<◌, ◌+◌, ℕ, List, All, false, [], ◌∷◌, length, sym, ap, subst, Some, None}
+use Rattle.std.proofs.Common.{◌≡◌, ◌∙◌, ◌<◌, ◌+◌, ℕ, List, All, false, [], ◌∷◌, ◌++◌, length, sym, ap, subst, Some, None}
 use Rattle.std.specs.Prelude.{nat_lt}
 use Rattle.tile_cache.specs.Cached.{Cached}
 use Rattle.tile_cache.specs.Calls.{IsFree, begun}
@@ -10,8 +10,8 @@ use Rattle.document_machine.specs.Saves.{has_ready_save}
 use Rattle.document_machine.specs.State.{Job}
 use Rattle.document_machine.specs.declared.outs.Turned.TheVariants.{Worked}
 use Rattle.broker_core.specs.Choosing as choosing
-use Rattle.broker_core.specs.Held.{held_of}
-use Rattle.broker_core.proofs.Cuttings.{begins, cuts_next, group, held_cut, holds_cut, part_is}
+use Rattle.broker_core.specs.Held.{Holds, held_of}
+use Rattle.broker_core.proofs.Cuttings.{begins, cuts_next, group, held_cut, held_jobs, holds_cut, part_is}
 use Rattle.broker_core.proofs.Pairs.{group_same}
 use Rattle.broker_core.proofs.core_of.Core.cut.Goals as goal
 
@@ -43,7 +43,7 @@ begin-requires g c =
     c.group_at-group.ensures ∙ ap (λ members. choosing.group_at i.tiles members c.args.key) c.as_slice.ensures.value
     ∙ sym (group_same g.K.Kit.rules g.K.Kit.cut g.K.Kit.IsSound (g.K.Kit.contents i.kit) i.views.members.items i.tiles d c.self.invariant c.args.key) in
     let area_is : c.area-area.result ≡ place_of_keys keys = c.area-area.ensures ∙ ap place_of_keys keys_are in
-    subst (λ ks. All (IsFree i.tiles) ks) (sym keys_are) (begins g.K.Kit.rules g.K.Kit.cut g.K.Kit.IsSound (g.K.Kit.contents i.kit) i.views.members.items i.tiles d c.self.invariant c.args.id c.args.key no_save level next none)
+    record { free = subst (λ ks. All (IsFree i.tiles) ks) (sym keys_are) (begins g.K.Kit.rules g.K.Kit.cut g.K.Kit.IsSound (g.K.Kit.contents i.kit) i.views.members.items i.tiles d c.self.invariant c.args.id c.args.key no_save level next none) }
 
 pub invariant_of-core : goal.invariant_of-core
 invariant_of-core g c =
@@ -64,8 +64,10 @@ invariant_of-core g c =
     let job_is : job ≡ record { ticket = i.tiles.next; number = d.document.applied; keys = keys; area = place_of_keys keys; scene = g.K.Kit.cut (g.K.Kit.contents i.kit) (place_of_keys keys) } =
     λ p. record { ticket = c.in_ok-ticket.ensures.ticket p; number = d.document.applied; keys = keys_are p; area = area_is p; scene = scene_is p } in
     let laws = g.met.K.Kit g.world.𝓛 g.world.𝓜 g.world.𝓡 ((λ s x. x), (λ x. x), (λ x. x), λ x. x) in
-    holds_cut g.K.Kit.rules g.K.Kit.cut g.K.Kit.IsSound (g.K.Kit.contents i.kit) i.views.members.items i.tiles d c.self.invariant c.args.id c.args.key no_save level next none job c.begin.new.self c.in_ok-outs.outs now_is job_is c.in_ok-outs.ensures
-    (λ base. laws.some_part (g.K.Kit.rules.start base) (laws.sound_start base)) (g.K.Kit.contents c.scene.new.self) c.in_ok-scene.ensures.kept c.width-width.ensures.form
+    let pushed : c.push.new.self.items ≡ d.document.jobs ++ job ∷ [] = c.in_ok-push.ensures.items in
+    subst (λ (js : List (Job _)). Holds g.K.Kit.rules g.K.Kit.cut g.K.Kit.IsSound (g.K.Kit.contents c.scene.new.self) i.views.members.items c.begin.new.self (held_jobs d js c.begin.new.self)) (sym pushed)
+    (holds_cut g.K.Kit.rules g.K.Kit.cut g.K.Kit.IsSound (g.K.Kit.contents i.kit) i.views.members.items i.tiles d c.self.invariant c.args.id c.args.key no_save level next none job c.begin.new.self c.in_ok-outs.outs now_is job_is c.in_ok-outs.ensures
+    (λ base. laws.some_part (g.K.Kit.rules.start base) (laws.sound_start base)) (g.K.Kit.contents c.scene.new.self) c.in_ok-scene.ensures.kept c.width-width.ensures.form)
 
 pub returns : goal.returns
 returns g c =
@@ -85,5 +87,7 @@ returns g c =
     let job : Job _ = record { ticket = c.in_ok-ticket.ticket.0; number = d.document.applied; keys = c.group_at-group.result; area = c.area-area.result; scene = c.in_ok-scene.scene } in
     let job_is : job ≡ record { ticket = i.tiles.next; number = d.document.applied; keys = keys; area = place_of_keys keys; scene = g.K.Kit.cut (g.K.Kit.contents i.kit) (place_of_keys keys) } =
     λ p. record { ticket = c.in_ok-ticket.ensures.ticket p; number = d.document.applied; keys = keys_are p; area = area_is p; scene = scene_is p } in
-    subst (λ (o : Held _). DoesNext g.K.Kit.rules g.K.Kit.cut o (Worked c.in_ok-outs.outs) (held_cut d job c.begin.new.self)) c.self.view_is
-    (cuts_next g.K.Kit.rules g.K.Kit.cut g.K.Kit.IsSound (g.K.Kit.contents i.kit) i.views.members.items i.tiles d c.self.invariant c.args.id c.args.key no_save level next none job c.begin.new.self c.in_ok-outs.outs now_is job_is c.in_ok-outs.ensures)
+    let pushed : c.push.new.self.items ≡ d.document.jobs ++ job ∷ [] = c.in_ok-push.ensures.items in
+    subst (λ (js : List (Job _)). DoesNext g.K.Kit.rules g.K.Kit.cut c.args.self (Worked c.in_ok-outs.outs) (held_jobs d js c.begin.new.self)) (sym pushed)
+    (subst (λ (o : Held _). DoesNext g.K.Kit.rules g.K.Kit.cut o (Worked c.in_ok-outs.outs) (held_cut d job c.begin.new.self)) c.self.view_is
+    (cuts_next g.K.Kit.rules g.K.Kit.cut g.K.Kit.IsSound (g.K.Kit.contents i.kit) i.views.members.items i.tiles d c.self.invariant c.args.id c.args.key no_save level next none job c.begin.new.self c.in_ok-outs.outs now_is job_is c.in_ok-outs.ensures))

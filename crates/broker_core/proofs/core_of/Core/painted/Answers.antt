@@ -1,4 +1,4 @@
-use Rattle.std.proofs.Common.{◌≡◌, ◌∙◌, List, [], sym, ap, subst}
+use Rattle.std.proofs.Common.{◌≡◌, ◌∙◌, List, [], sym, ap, subst, rules}
 use Rattle.document_machine.specs.Event.{Painted}
 use Rattle.document_machine.specs.Goes.{Moves}
 use Rattle.document_machine.specs.Held.{Held}
@@ -12,8 +12,10 @@ use Rattle.broker_core.proofs.core_of.Core.painted.Goals as goal
 
 pub take-requires : goal.take-requires
 take-requires g c =
+    let at : IsJobAt c.args.self.document.jobs c.args.done.now.ticket.0 c.args.done.now.scene c.in-Some.i =
     subst (λ (o : Held _). IsJobAt o.document.jobs c.args.done.now.ticket.0 c.args.done.now.scene c.in-Some.i) c.self.view_is
-    (subst (λ (js : List (Job _)). IsJobAt js c.args.done.now.ticket.0 c.args.done.now.scene c.in-Some.i) c.as_slice.ensures.value c.in-Some.ensures.place)
+    (subst (λ (js : List (Job _)). IsJobAt js c.args.done.now.ticket.0 c.args.done.now.scene c.in-Some.i) c.as_slice.ensures.value c.in-Some.ensures.place) in
+    (search rules, (search rules, at))
 
 pub returns-in-None : goal.returns-in-None
 returns-in-None g c =
