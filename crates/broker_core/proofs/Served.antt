@@ -6,6 +6,7 @@ use Rattle.cool_base.specs.declared.ids.ViewId.{ViewId}
 use Rattle.cool_frame.specs.declared.frame.Frame.{Frame}
 use Rattle.cool_frame.specs.declared.frame.Frame.TheVariants.{SaveDone}
 use Rattle.kit_trait.specs.Rules.{Rules}
+use Rattle.kit_trait.specs.declared.jobs.PaintJob.{PaintJob}
 use Rattle.outside.specs.declared.errands.Errand.{Errand}
 use Rattle.outside.specs.declared.errands.Receipt.{Receipt}
 use Rattle.outside.specs.declared.faults.StoreFault.{StoreFault}
@@ -89,13 +90,15 @@ module _ {C B S : Type 0} (rules : Rules C B) (cut : C → Place → S) (IsSound
       ((told, new_is), refl)
 
 -- what goes out where the ready saves are served, by its parts
-pub outs_by : {S : Type 0} (members : List Member) (d : Document S) (text : List ℕ) (ids slice : List ViewId) (errand : Option Errand) (frames : List (ViewId × Frame)) (errands : List Errand)
-    → slice ≡ ids → ids ≡ unmodified d.applied d.saving → errand ≡ errand_for d.applied d.file text d.saving → frames ≡ unmodified_frames (views_of members) d.applied slice → errands ≡ option_to_list errand
-    → record { frames = frames; jobs = []; errands = errands } ≡ outs_served {S = S} members d text
-outs_by members d text ids slice errand frames errands slice_is ids_are errand_is frames_are errands_are =
+pub outs_by : {S : Type 0} (members : List Member) (d : Document S) (text : List ℕ) (ids slice : List ViewId) (errand : Option Errand)
+    → (frames : List (ViewId × Frame)) (jobs : List (PaintJob S)) (errands : List Errand)
+    → slice ≡ ids → ids ≡ unmodified d.applied d.saving → errand ≡ errand_for d.applied d.file text d.saving
+    → frames ≡ unmodified_frames (views_of members) d.applied slice → jobs ≡ [] → errands ≡ option_to_list errand
+    → record { frames = frames; jobs = jobs; errands = errands } ≡ outs_served {S = S} members d text
+outs_by members d text ids slice errand frames jobs errands slice_is ids_are errand_is frames_are jobs_are errands_are =
     let told : frames ≡ unmodified_frames (views_of members) d.applied (unmodified d.applied d.saving) = frames_are ∙ ap (unmodified_frames (views_of members) d.applied) (slice_is ∙ ids_are) in
     let given : errands ≡ option_to_list (errand_for d.applied d.file text d.saving) = errands_are ∙ ap (λ (o : Option Errand). option_to_list o) errand_is in
-    λ i. record { frames = told i; jobs = []; errands = given i }
+    λ i. record { frames = told i; jobs = jobs_are i; errands = given i }
 
 -- a turn that did its work is a move
 pub turn_moves : {C B S : Type 0} (rules : Rules C B) (cut : C → Place → S) (old new : Held S) (outs : Outs S) → DoesNext rules cut old (Worked outs) new → Moves rules cut old Turned outs new

@@ -1,4 +1,4 @@
-use Rattle.std.proofs.Common.{◌≡◌, ◌∙◌, [], true, refl, sym, subst}
+use Rattle.std.proofs.Common.{◌≡◌, ◌∙◌, true, refl, sym, subst}
 use Rattle.document_machine.specs.Held.{Held}
 use Rattle.broker_core.specs.Held.{held_of}
 use Rattle.document_machine.specs.Event.{Turned}
@@ -30,7 +30,7 @@ returns g c =
     let i = c.self.inside in
     let d : Held _ = held_of i.source.file i.source.base i.inputs.accepted.items i.inputs.applied i.views.members.items i.views.next i.jobs.items i.tiles i.saves in
     let ready : has_ready_save d.document ≡ true = subst (λ (o : Held _). has_ready_save o.document ≡ true) (sym c.self.view_is) c.requires in
-    subst (λ (o : Held _). DoesNext g.K.Kit.rules g.K.Kit.cut o (Worked (record { frames = c.in_ok-frames.frames; jobs = []; errands = c.in_ok-errands.errands })) (saved_once d c.start.new.self)) c.self.view_is
+    subst (λ (o : Held _). DoesNext g.K.Kit.rules g.K.Kit.cut o (Worked (record { frames = c.in_ok-frames.frames; jobs = c.new.result; errands = c.in_ok-errands.errands })) (saved_once d c.start.new.self)) c.self.view_is
     (serves_by g.K.Kit.rules g.K.Kit.cut g.K.Kit.IsSound (g.K.Kit.contents i.kit) i.views.members.items i.tiles d c.self.invariant c.in_ok-content.content c.start.new.self _ ready (c.in_ok-content.ensures.ok ∙ c.in_ok-text.ensures.text) c.in_ok-started.ensures.serves
-    (outs_by i.views.members.items d.document c.in_ok-content.content c.in_ok-started.started.unmodified.items c.as_slice-unmodified.result.now c.in_ok-started.started.errand c.in_ok-frames.frames c.in_ok-errands.errands
-    c.as_slice-unmodified.ensures.value c.in_ok-started.ensures.unmodified c.in_ok-started.ensures.errand c.in_ok-frames.ensures c.in_ok-errands.ensures))
+    (outs_by i.views.members.items d.document c.in_ok-content.content c.in_ok-started.started.unmodified.items c.as_slice-unmodified.result.now c.in_ok-started.started.errand c.in_ok-frames.frames c.new.result c.in_ok-errands.errands
+    c.as_slice-unmodified.ensures.value c.in_ok-started.ensures.unmodified c.in_ok-started.ensures.errand c.in_ok-frames.ensures c.new.ensures c.in_ok-errands.ensures))
