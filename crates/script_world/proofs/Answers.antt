@@ -74,6 +74,10 @@ module _ {C B S : Type 0} (rules : Rules C B) (cut : C → Place → S) (seats :
         then_from.4,
       )
 
+  -- the same records
+  pub grown : (old new : Option (Held S)) (events : List (Event S)) (all out : List ℕ) → out ≡ all → TakesAll rules cut seats old events all new → TakesAll rules cut seats old events out new
+  grown old new events all out is takes = subst (λ (o : List ℕ). TakesAll rules cut seats old events o new) (sym is) takes
+
   -- what the events that are left lead to is what all of them lead to, with the records so far in front
   abbrev pub LeadsTo : Option (Held S) → List (Event S) → Option (Held S) → List (Event S) → List ℕ → Type 0
   LeadsTo old events now left bytes = (out : List ℕ) (new : Option (Held S)) → TakesAll rules cut seats now left out new → TakesAll rules cut seats old events (bytes ++ out) new

@@ -32,7 +32,8 @@ fn paints<K: Kit>(
 {
     let done = paint(alloc, job)?;
     let outs = broker.painted(&done)?;
-    records(alloc, seats, outs.frames.get())
+    let bytes = records(alloc, seats, outs.frames.get())?;
+    Ok(bytes)
 }
 
 /// The jobs are painted and come back, in order: the records of the frames that they give.
@@ -72,7 +73,8 @@ fn stores<K: Kit>(
     } = errand;
     let answer = Ok(Receipt { file, content });
     let outs = broker.put_done(ticket, &answer)?;
-    records(alloc, seats, outs.frames.get())
+    let bytes = records(alloc, seats, outs.frames.get())?;
+    Ok(bytes)
 }
 
 /// The store takes each content, in order, and answers by its receipt: the records of the frames that they give.
