@@ -1,12 +1,10 @@
 #!/usr/bin/env python3
 """An independent model of `coolwsd replay patch` and `coolwsd replay sheet`: what docs/script.md,
-docs/protocol.md, docs/patch-document.md and docs/sheet.md say, written anew in Python without a look at the
-program. It reads a script from standard input, writes its transcript, and ends with its status:
+docs/protocol.md, docs/document-machine.md, docs/patch-document.md and docs/sheet.md say, written anew in
+Python without a look at the program. It reads a script from standard input, writes its transcript, and ends
+with its status:
 
     tests/model/replay.py patch < tests/scripts/NAME.script > NAME.transcript
-
-With --groups the document keeps painted tiles and paints up to eight neighbours at once; without it each turn
-paints one tile, for every view that is due it.
 """
 import re
 import sys
@@ -17,6 +15,7 @@ from sheet_engine import MAX_FILE, Book, is_raw
 WHITE, BLACK, GREY = b"\xff\xff\xff\xff", b"\x00\x00\x00\xff", b"\xc0\xc0\xc0\xff"
 MAX_LINE, MAX_MESSAGE, MAX_VIEWS, MAX_WINDOW = 70_000, 65_536, 64, 64
 MAX_ASKED, MAX_VISIBLE, MAX_PIXELS, MAX_GROUP = 1024, 4096, 16_777_216, 8
+MAX_KEPT, MAX_SAVES = 256, 64
 
 
 # Messages: (command, {word: value}) or None for a text that is none
@@ -269,11 +268,13 @@ def visible(part, zoom, area, size):
 
 
 class Document:
-    def __init__(self, kit, give, groups):
-        self.kit, self.give, self.groups = kit, give, groups
+    def __init__(self, kit, give):
+        self.kit, self.give = kit, give
         self.views, self.next_view = [], 0
         self.journal, self.applied = [], 0
-        self.cache = {}  # key -> (version, picture), only current tiles
+        self.kept = {}  # key -> [version, picture, whether damage met it since], the one used last at the end
+        self.saves = []  # (view or None, how many inputs came before it, whether it needs no put where nothing is new)
+        self.stored = 0  # how many inputs the content has that was stored last
 
     def join(self, link, can_write):
         """Whether the link became a view."""
@@ -294,9 +295,7 @@ class Document:
         words = message_words(text)
         command = words[0] if words and re.fullmatch("[a-z]{1,32}", words[0]) else "unknown"
         read = words and read_message(words)
-        kind = "badmessage"
-        if read and read[0] not in ("save", "uno"):  # the document doesn't know saves yet
-            kind = self.effect(view, *read)
+        kind = self.effect(view, *read) if read else "badmessage"
         if kind:
             self.say(view, f"error: cmd={command} kind={kind}")
 
@@ -326,6 +325,8 @@ class Document:
             return self.look(view, zoom=(*sizes, 1 if words["nviewid"] == 1 else 0))
         if command == "setclientpart":
             return self.look(view, part=words["part"]) if words["part"] < self.kit.parts else "badtile"
+        if command in ("save", "uno"):
+            return self.save(view, command == "save" and words["dontSaveIfUnmodified"] == "1")
         if command == "tileprocessed":
             view.window = [it for it in view.window if it not in words["wids"]]
         return None
@@ -335,6 +336,21 @@ class Document:
             return "readonly"
         self.journal.append((view.number, view.part, what))
         return None
+
+    def save(self, view, skip):
+        if not view.can_write:
+            return "readonly"
+        if sum(it[0] is view for it in self.saves) >= MAX_SAVES:
+            return "savesfull"
+        self.saves.append((view, len(self.journal), skip))
+        return None
+
+    def leave(self, view):
+        """The view leaves; with the last one a final save waits, if inputs would be lost."""
+        self.views.remove(view)
+        count = len(self.journal)
+        if not self.views and self.stored != count and all(it[1] != count for it in self.saves):
+            self.saves.append((None, count, False))
 
     def ask(self, view, words, places):
         keys = [key_of(words["part"], words["width"], words["height"], x, y, words["tilewidth"], words["tileheight"],
@@ -358,6 +374,9 @@ class Document:
 
     def turn(self):
         """Whether there was something to do."""
+        if ready := [it for it in self.saves if it[1] <= self.applied]:
+            self.store(ready)
+            return True
         if self.applied < len(self.journal):
             damage = self.kit.input(*self.journal[self.applied])
             self.applied += 1
@@ -377,24 +396,47 @@ class Document:
         for view in self.views:
             for key, entry in view.screen.items():
                 entry[1] = entry[1] or key[0] == part and meets(rect_of(key), rect)
-        self.cache = {key: it for key, it in self.cache.items() if key[0] != part or not meets(rect_of(key), rect)}
+        for key, entry in self.kept.items():
+            entry[2] = entry[2] or key[0] == part and meets(rect_of(key), rect)
+
+    def store(self, ready):
+        """Answers the saves for which nothing is new, and stores the document for the others."""
+        self.saves = [it for it in self.saves if it not in ready]
+        unmodified = [it for it in ready if it[2] and self.stored == self.applied]
+        for put in (False, True):
+            for save in ready:
+                if (save not in unmodified) == put and save[0] in self.views:
+                    self.say(save[0], f'unocommandresult: {{"commandName":".uno:Save","success":true,'
+                                      f'"inputs":{self.applied},"put":{"true" if put else "false"}}}')
+        if len(unmodified) < len(ready):
+            self.stored = self.applied
+
+    def is_kept(self, key):
+        return key in self.kept and not self.kept[key][2]
+
+    def keep(self, key, version, pixels):
+        self.kept.pop(key, None)
+        self.kept[key] = [version, pixels, False]
 
     def serve(self, view, first):
-        if self.groups and first in self.cache:
-            return self.send(view, first, *self.cache[first])
+        if self.is_kept(first):
+            version, pixels, _ = self.kept[first]
+            self.keep(first, version, pixels)
+            return self.send(view, first, version, pixels)
         keys = [first]
-        while self.groups and len(keys) < MAX_GROUP:
+        while len(keys) < MAX_GROUP:
             right = (*first[:2], keys[-1][2] + first[5], *first[3:])
-            if right in self.cache or not any(it.is_due(right) for it in self.views):
+            if self.is_kept(right) or not any(it.is_due(right) for it in self.views):
                 break
             keys.append(right)
         for key in keys:
-            tile = self.applied, picture(self.kit, key)
-            if self.groups:
-                self.cache[key] = tile
+            pixels = picture(self.kit, key)
+            self.keep(key, self.applied, pixels)
             for other in self.views:
                 if other.is_due(key) and other.has_room():
-                    self.send(other, key, *tile)
+                    self.send(other, key, self.applied, pixels)
+        while len(self.kept) > MAX_KEPT:
+            del self.kept[next(iter(self.kept))]
         return None
 
     def send(self, view, key, version, pixels):
@@ -416,8 +458,8 @@ class Refused(Exception):
 
 
 class World:
-    def __init__(self, kit, out, groups=False):
-        self.kit, self.out, self.groups = kit, out, groups
+    def __init__(self, kit, out):
+        self.kit, self.out = kit, out
         self.document, self.file = None, None
         self.links = {}  # link -> "live" or "dropped"
         self.at = {}  # link -> its view, or None for the lobby
@@ -441,7 +483,7 @@ class World:
             self.load(link, content)
         elif what == "left":
             if view:
-                self.document.views.remove(view)
+                self.document.leave(view)
             del self.at[link]
         elif view:
             self.document.message(view, content)
@@ -450,7 +492,7 @@ class World:
 
     def load(self, link, can_write):
         if self.document is None:
-            self.document = Document(self.kit(), self.give, self.groups)
+            self.document = Document(self.kit(), self.give)
         if self.document.join(link, can_write):
             self.at[link] = self.document.views[-1]
         else:
@@ -543,9 +585,9 @@ def typed(text):
         raise Refused from None
 
 
-def replay(kit, script, out, groups=False):
+def replay(kit, script, out):
     """Writes the script's transcript, and gives its status."""
-    world = World({"patch": Patch, "sheet": Sheet}[kit], out, groups)
+    world = World({"patch": Patch, "sheet": Sheet}[kit], out)
     lines = script.split(b"\n")
     if lines[-1] == b"":
         lines.pop()
@@ -562,10 +604,9 @@ def replay(kit, script, out, groups=False):
 
 
 def main():
-    words = [it for it in sys.argv[1:] if it != "--groups"]
-    if words not in (["patch"], ["sheet"]):
-        sys.exit("replay.py [--groups] patch|sheet < SCRIPT")
-    sys.exit(replay(words[0], sys.stdin.buffer.read(), sys.stdout.buffer.write, "--groups" in sys.argv))
+    if sys.argv[1:] not in (["patch"], ["sheet"]):
+        sys.exit("replay.py patch|sheet < SCRIPT")
+    sys.exit(replay(sys.argv[1], sys.stdin.buffer.read(), sys.stdout.buffer.write))
 
 
 if __name__ == "__main__":

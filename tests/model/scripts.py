@@ -5,7 +5,7 @@ of tests/model/replay.py answers to it in NAME.transcript and NAME.status, and t
     tests/model/scripts.py THEME-NUMBER..   such as views-1 sheet-12; any number makes a new script
     tests/model/scripts.py --again          answers anew all scripts that stand in tests/scripts
 
-The themes are the methods of Drawn below. --groups is that of replay.py.
+The themes are the methods of Drawn below.
 """
 import os
 import random
@@ -119,6 +119,38 @@ class Drawn:
             else:
                 self.add(self.pick("settle", f"turn 0 {self.draw.randint(1, 9)}", "", "#"))
         self.end()
+
+    def saves(self):
+        """Views that write and save, also where nothing is new, where they may not, and once they are gone."""
+        self.is_sheet = self.chance(0.3)
+        self.add("# Saves of one document.")
+        self.open("rw")
+        for _ in range(self.draw.randint(1, 2)):
+            self.open()
+        if self.chance(0.5):
+            self.area(self.live[0], self.zoom(self.live[0]), 2, 1)
+        for _ in range(self.draw.randint(14, 24)):
+            kind = self.draw.randrange(10)
+            if not self.live or kind == 0:
+                self.open()
+            elif kind < 4:
+                self.act(self.draw.choice(self.live))
+            elif kind < 8:
+                self.save(self.draw.choice(self.live))
+            elif kind == 8:
+                self.drop(self.draw.choice(self.live))
+            else:
+                self.add(self.pick("settle", f"turn 0 {self.draw.randint(1, 12)}"))
+        for link in list(self.live):
+            self.drop(link)
+        self.add(self.pick("settle", "turn 0 9"))
+        self.save(self.open("rw"), "save dontSaveIfUnmodified=1")
+        self.end()
+
+    def save(self, link, text=None):
+        self.say(link, text or self.pick("save", "save", "uno .uno:Save", "save dontSaveIfUnmodified=1",
+                                         "save dontTerminateEdit=1 dontSaveIfUnmodified=0",
+                                         "save dontSaveIfUnmodified=2", "uno .uno:Undo"))
 
     def window(self):
         """A view that sees more than a window has room for, and acknowledges by and by."""
@@ -362,10 +394,10 @@ class Drawn:
         self.add("settle", "end")
 
 
-def write(name, script, words, groups):
+def write(name, script, words):
     """Writes a script with the model's answers."""
     said = []
-    status = replay.replay(words.split()[1], script, said.append, groups)
+    status = replay.replay(words.split()[1], script, said.append)
     place = os.path.join(SCRIPTS, name)
     for ending, content in ((".script", script), (".transcript", b"".join(said)), (".words", f"{words}\n".encode()),
                             (".status", b"%d\n" % status)):
@@ -375,8 +407,7 @@ def write(name, script, words, groups):
 
 
 def main():
-    groups = "--groups" in sys.argv
-    names = [it for it in sys.argv[1:] if it != "--groups"]
+    names = sys.argv[1:]
     os.makedirs(SCRIPTS, exist_ok=True)
     if names == ["--again"]:
         for file in sorted(os.listdir(SCRIPTS)):
@@ -385,12 +416,12 @@ def main():
                 words = os.path.join(SCRIPTS, f"{name}.words")
                 kind = open(words).read().strip() if os.path.exists(words) else "replay patch"
                 if kind in ("replay patch", "replay sheet"):
-                    write(name, open(os.path.join(SCRIPTS, file), "rb").read(), kind, groups)
+                    write(name, open(os.path.join(SCRIPTS, file), "rb").read(), kind)
         return
     for name in names:
         drawn = Drawn(name)
         getattr(drawn, name.rpartition("-")[0].replace("-", "_"))()
-        write(name, ("\n".join(drawn.lines) + "\n").encode(), "replay sheet" if drawn.is_sheet else "replay patch", groups)
+        write(name, ("\n".join(drawn.lines) + "\n").encode(), "replay sheet" if drawn.is_sheet else "replay patch")
 
 
 if __name__ == "__main__":

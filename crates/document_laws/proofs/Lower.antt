@@ -1,14 +1,17 @@
 -- Less is left to do after each work of a turn, after a painted result, and after a store's answer.
-use Rattle.std.proofs.Common.{◌≡◌, ℕ, ◌+◌, ◌-◌, ◌*◌, ◌<◌, ◌≤◌, Bool, true, false, not, cond, nat_eq, List, [], ◌∷◌, ◌++◌, length, map, filter, Option, None, Some, Result, refl, ap, sym, subst, ◌∙◌, arith, inl, inr, length-append}
-use Rattle.std.specs.Prelude.{is_some, nat_lt}
+use Rattle.std.proofs.Common.{◌≡◌, ℕ, ◌+◌, ◌-◌, ◌*◌, ◌<◌, ◌≤◌, Bool, true, false, not, cond, nat_eq, List, [], ◌∷◌, ◌++◌, length, map, filter, Option, None, Some, Result, Ok, refl, ap, sym, subst, ◌∙◌, arith, inl, inr, length-append}
+use Rattle.std.specs.Prelude.{◌&&◌, is_none, is_some, nat_lt, option_to_list}
 use Rattle.std.specs.List.{list_any, count_by, sum_by, AllByRecursion}
+use Rattle.std.specs.Str.{bytes_eq}
+use Rattle.std.proofs.lemmas.Cmp.{nat_list_eq_equiv}
 use Rattle.std.proofs.lemmas.Bool.{cases_Bool, eqb-true, le-ltb, ltb-false, not-true}
 use Rattle.std.proofs.lemmas.List.Sums.{sum_by-cons, sum_by_push, count_by-le-length}
 use Rattle.kit_trait.specs.Rules.{Rules}
 use Rattle.kit_trait.specs.declared.jobs.PaintJob.{PaintJob}
+use Rattle.outside.specs.declared.errands.Errand.{Errand}
 use Rattle.outside.specs.declared.errands.Receipt.{Receipt}
 use Rattle.outside.specs.declared.faults.StoreFault.{StoreFault}
-use Rattle.save_core.specs.Saving.{answered_put, ended}
+use Rattle.save_core.specs.Saving.{Saving, answered_put, begun, ended, errand_for, is_ready_save, last_stored, left_over, put_of}
 use Rattle.save_core.specs.declared.values.Put.{Put}
 use Rattle.save_core.specs.declared.values.Save.{Save}
 use Rattle.tile_key.specs.Places.{Place}
@@ -18,12 +21,12 @@ use Rattle.document_machine.specs.Event.{Painted, PutAnswered}
 use Rattle.document_machine.specs.Kept.{IsKept, IsJobKept}
 use Rattle.document_machine.specs.Rank.{above_jobs, due_pairs, jobs_to_come, jobs_wanted, left_to_do, old_jobs, pairs, pairs_with_room, saves_to_come, tiles_to_come, unacknowledged, unbound_saves}
 use Rattle.document_machine.specs.Run.{Segment}
-use Rattle.document_machine.specs.Saves.{Serves, receipt_of}
+use Rattle.document_machine.specs.Saves.{Serves, receipt_of, text_at}
 use Rattle.document_machine.specs.State.{View, Job, Document, find_view, with_view, find_job, without_job}
 use Rattle.document_machine.specs.Step.{Applies, Cuts, Sends, Works, Step, Paints, views_offered, given}
 use Rattle.document_machine.specs.declared.limits.TheConstants.{MOST_JOBS}
 use Rattle.document_machine.specs.declared.outs.Outs.{Outs}
-use Rattle.document_laws.specs.AtOnce.{answered, all_answered}
+use Rattle.document_laws.specs.AtOnce.{answered, all_answered, own_receipt, stored}
 use Rattle.document_laws.proofs.Fewer.{IsReady, due_of, left_of, all_ready, due_le_pairs, keys_le, sent_less}
 use Rattle.document_laws.proofs.Kept.{found_job, works_keep}
 use Rattle.document_laws.proofs.Offers.{all_offers_lt, due_fewer, pairs_fewer, unwanted_same, windows_le}
@@ -111,6 +114,26 @@ put_there : (ticket : ℕ) (receipt : Option Receipt) (o : Option Put) (put : Pu
     → answered_put ticket receipt o ≡ Some put → is_some o ≡ true
 put_there ticket receipt None put e = absurd (cc)
 put_there ticket receipt (Some other) put e = refl
+
+bytes_eq_self : (xs : List ℕ) → bytes_eq xs xs ≡ true
+bytes_eq_self xs = nat_list_eq_equiv.refl xs
+
+-- the receipt of an errand is an answer for its put
+own_put : (errand : Errand)
+    → answered_put errand.ticket.0 (Some (own_receipt errand)) (Some (put_of errand))
+    ≡ Some (put_of errand)
+own_put errand =
+    rw (
+      nat_eq_self errand.ticket.0,
+      bytes_eq_self errand.file,
+      bytes_eq_self errand.content,
+    )
+    refl
+
+-- where a save is ready no put is under way
+no_put : (o : Option Put) (some : Bool) → (is_none o && some) ≡ true → o ≡ None
+no_put None some ready = refl
+no_put (Some put) some ready = absurd (cc)
 
 -- numbers that the laws below add up
 added_lt : (x a b : ℕ) → a + 1 ≤ b → x + a < x + b
@@ -482,6 +505,21 @@ module _ {C B S : Type 0} (rules : Rules C B) where
       (sym (painted_is cut old new ticket job outs found step))
       (painted_left old ticket job kept found)
 
+  -- a painted result leaves the put under way as it is
+  painted_put : (cut : C → Place → S) (old new : Document S) (ticket : ℕ) (scene : S)
+      (outs : Outs S) → Step rules cut old (Painted ticket scene) outs new
+      → new.saving.put ≡ old.saving.put
+  painted_put cut old new ticket scene outs step =
+      let go : (o : Option (Job S)) → Paints rules old ticket scene outs new o
+      → new.saving.put ≡ old.saving.put = elim [
+        | None ↦ λ paint. ap (λ e. e.saving.put) paint.1
+        | Some job ↦ λ paint. elim paint [
+          | inl other ↦ ap (λ e. e.saving.put) other.2
+          | inr taken ↦ ap (λ e. e.saving.put) taken.2
+        ]
+      ] in
+      go (find_job old.jobs ticket) step
+
   -- the answer of the store to the put under way
   pub put_answered_lowers : (cut : C → Place → S) (old new : Document S) (ticket : ℕ)
       (result : Result Receipt StoreFault) (put : Put) (outs : Outs S)
@@ -533,38 +571,92 @@ module _ {C B S : Type 0} (rules : Rules C B) where
         lt_trans first second,
       )
 
-  -- a turn that works, with each job that it gave out painted directly behind it
+  -- the store's answer to an errand whose put is under way, by its receipt
+  answered_errand : (cut : C → Place → S) (mid new : Document S) (errand : Errand) (outs : Outs S)
+      → mid.saving.put ≡ Some (put_of errand) → Step rules cut mid (stored errand) outs new
+      → (new.jobs ≡ mid.jobs) × (new.saving.put ≡ None)
+      × (left_to_do rules new < left_to_do rules mid)
+  answered_errand cut mid new errand outs under step =
+      let receipt : Option Receipt = Some (own_receipt errand) in
+      let taken : answered_put errand.ticket.0 receipt mid.saving.put ≡ Some (put_of errand) =
+      ap (λ o. answered_put errand.ticket.0 receipt o) under ∙ own_put errand in (
+        ap (λ d. d.jobs) step.1,
+        ap (λ d. d.saving.put) step.1 ∙ ap (λ o. (ended o true mid.saving).put) taken,
+        put_answered_lowers cut mid new errand.ticket.0 (Ok (own_receipt errand)) (put_of errand)
+        outs taken step,
+      )
+
+  -- what a turn that works leads to, once all that it gave out is answered
+  abbrev IsLess : (old new : Document S) → Type 0
+  IsLess old new =
+      (new.jobs ≡ old.jobs) × (new.saving.put ≡ old.saving.put)
+      × (left_to_do rules new < left_to_do rules old)
+
+  -- the ready saves served, with the put that begins answered directly behind it
+  served_at_once : (cut : C → Place → S) (old mid new : Document S) (outs later : Outs S)
+      → Serves rules old outs mid → Segment rules cut mid (all_answered outs) later new
+      → IsLess old new
+  served_at_once cut old mid new outs later serves run =
+      let first = served_lowers old mid outs serves in
+      let none : old.saving.put ≡ None = no_put old.saving.put
+      (list_any (is_ready_save old.applied) old.saving.saves) serves.ready in
+      let jobs : mid.jobs ≡ old.jobs = ap (λ e. e.jobs) serves.new_is in
+      let errand : Option Errand =
+      errand_for old.applied old.file (text_at rules old old.applied) old.saving in
+      let rest : Saving =
+      record old.saving { saves = left_over old.applied (last_stored old.saving) old.saving.saves } in
+      let is : mid.saving ≡ begun errand rest = ap (λ e. e.saving) serves.new_is in
+      let all : all_answered outs ≡ map stored (option_to_list errand) =
+      ap all_answered serves.outs_are in
+      let here : Segment rules cut mid (map stored (option_to_list errand)) later new =
+      subst (λ es. Segment rules cut mid es later new) all run in
+      let go : (o : Option Errand) → mid.saving ≡ begun o rest
+      → Segment rules cut mid (map stored (option_to_list o)) later new → IsLess old new = elim [
+        | None ↦ λ same end.
+            subst (IsLess old) (sym end.1) (jobs, ap (λ s. s.put) same, first)
+        | Some one ↦ λ same end.
+            let under : mid.saving.put ≡ Some (put_of one) = ap (λ s. s.put) same in
+            let more = answered_errand cut mid end.0 one end.1 under end.3 in
+            subst (IsLess old) (sym end.4.1)
+            (more.0 ∙ jobs, more.1 ∙ sym none, lt_trans first more.2)
+      ] in
+      go errand is here
+
+  -- a turn that works, with all that it gave out answered directly behind it
   pub at_once_lowers : (cut : C → Place → S) (old mid new : Document S) (outs later : Outs S)
       → Works rules cut old outs mid → IsKept rules cut old
       → Segment rules cut mid (all_answered outs) later new
-      → (new.jobs ≡ old.jobs) × (left_to_do rules new < left_to_do rules old)
+      → (new.jobs ≡ old.jobs) × (new.saving.put ≡ old.saving.put)
+      × (left_to_do rules new < left_to_do rules old)
   at_once_lowers cut old mid new outs later works kept run =
-      let Lower : Document S → Type 0 =
-      λ e. (e.jobs ≡ old.jobs) × (left_to_do rules e < left_to_do rules old) in
-      let stays : outs.jobs ≡ [] → Lower mid → Lower new = λ e low.
-      let run0 = subst
-      (λ (js : List (PaintJob S)). Segment rules cut mid (map answered js) later new) e run in
-      subst Lower (sym run0.1) low in
+      let stays : all_answered outs ≡ [] → IsLess old mid → IsLess old new = λ e less.
+      let end = subst (λ es. Segment rules cut mid es later new) e run in
+      subst (IsLess old) (sym end.1) less in
       elim works [
-        | inl serves ↦
-            stays (ap (λ o. o.jobs) serves.outs_are)
-            (ap (λ e. e.jobs) serves.new_is, served_lowers old mid outs serves)
+        | inl serves ↦ served_at_once cut old mid new outs later serves run
         | inr more ↦ elim more [
           | inl applies ↦
-              stays (ap (λ o. o.jobs) applies.outs_are)
-              (applied_lowers old mid outs applies kept.jobs_few)
+              let less = applied_lowers old mid outs applies kept.jobs_few in
+              stays (ap all_answered applies.outs_are)
+              (less.0, ap (λ e. e.saving.put) applies.new_is, less.1)
           | inr other ↦ elim other [
             | inl sends ↦
-                stays (ap (λ o. o.jobs) sends.outs_are)
-                (ap (λ e. e.jobs) sends.new_is, sent_lowers old mid outs sends kept)
+                stays (ap all_answered sends.outs_are) (
+                  ap (λ e. e.jobs) sends.new_is,
+                  ap (λ e. e.saving.put) sends.new_is,
+                  sent_lowers old mid outs sends kept,
+                )
             | inr cuts ↦
                 let jobs_are : outs.jobs ≡ given cuts.job ∷ [] = ap (λ o. o.jobs) cuts.outs_are in
-                let run1 = subst
-                (λ (js : List (PaintJob S)). Segment rules cut mid (map answered js) later new)
-                jobs_are run in
-                subst Lower (sym run1.4.1)
-                (cut_and_painted_lowers cut old mid run1.0 outs run1.1
-                (given cuts.job) cuts kept jobs_are run1.3)
+                let all : all_answered outs ≡ answered (given cuts.job) ∷ [] =
+                ap all_answered cuts.outs_are in
+                let one = subst (λ es. Segment rules cut mid es later new) all run in
+                let less = cut_and_painted_lowers cut old mid one.0 outs one.1
+                (given cuts.job) cuts kept jobs_are one.3 in
+                let puts : one.0.saving.put ≡ mid.saving.put =
+                painted_put cut mid one.0 cuts.job.ticket cuts.job.scene one.1 one.3 in
+                subst (IsLess old) (sym one.4.1)
+                (less.0, puts ∙ ap (λ e. e.saving.put) cuts.new_is, less.1)
           ]
         ]
       ]

@@ -189,14 +189,15 @@ pub fn cut_and_painted_lowers<K: Kit>()
         → (new.jobs ≡ old.jobs) × (left_to_do K.rules new < left_to_do K.rules old) }
 {}
 
-/// A turn that does a work, with each job that it gives out painted directly behind it, in order,
-/// leaves less to do, and the jobs that were out. So turns whose jobs are painted at once come to
-/// an end.
+/// A turn that does a work, with each job that it gives out painted directly behind it and its put
+/// answered by a receipt of its content, leaves less to do, the jobs that were out, and no other put
+/// under way. So turns whose jobs are painted and whose puts are answered at once come to an end.
 pub fn at_once_lowers<K: Kit>()
     ensures { (old mid new : Document K.Scene) (outs later : Given K.Scene)
         → Works K.rules K.cut old outs mid → IsKept K.rules K.cut old
         → Segment K.rules K.cut mid (all_answered outs) later new
-        → (new.jobs ≡ old.jobs) × (left_to_do K.rules new < left_to_do K.rules old) }
+        → (new.jobs ≡ old.jobs) × (new.saving.put ≡ old.saving.put)
+        × (left_to_do K.rules new < left_to_do K.rules old) }
 {}
 
 /// Acknowledging the numbers of a window that isn't empty makes it empty and leaves less to do.

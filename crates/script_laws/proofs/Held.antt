@@ -7,10 +7,11 @@ use Rattle.cool_base.specs.declared.ids.ViewId.{ViewId}
 use Rattle.cool_frame.specs.declared.frame.Frame.{Frame}
 use Rattle.document_machine.specs.Event.{Event}
 use Rattle.document_machine.specs.Outputs.{nothing, joined}
-use Rattle.document_machine.specs.Run.{Segment}
-use Rattle.document_machine.specs.State.{Document, opening}
+use Rattle.document_machine.specs.Goes.{Moves}
+use Rattle.document_machine.specs.Held.{Held, opening_held}
+use Rattle.document_machine.specs.Run.{Run}
 use Rattle.document_machine.specs.declared.outs.Outs.{Outs}
-use Rattle.document_machine.proofs.Runs.{segments}
+use Rattle.document_machine.proofs.Runs.{runs}
 use Rattle.kit_trait.specs.Rules.{Rules}
 use Rattle.tile_key.specs.Places.{Place}
 use Rattle.script_world.specs.House.{House}
@@ -35,7 +36,7 @@ written_more out here pieces more a b = ap (λ (x : List ℕ). x ++ here) a ∙ 
 
 module _ {C B S : Type 0} (rules : Rules C B) (cut : C → Place → S) where
   -- the transcript so far, to a document with these seats
-  abbrev pub IsHeld : List ℕ → Seats → Option (Document S) → Type 0
+  abbrev pub IsHeld : List ℕ → Seats → Option (Held S) → Type 0
   IsHeld out seats document = IsPlayed rules cut out seats document
 
   abbrev pub Holds : List ℕ → House S → Type 0
@@ -45,11 +46,11 @@ module _ {C B S : Type 0} (rules : Rules C B) (cut : C → Place → S) where
   nothing_yet = record { pieces = []; links = []; written = refl; each = tt; seated = tt; begun = refl; run = refl }
 
   -- nothing is written
-  pub silent : (out : List ℕ) (seats : Seats) (document : Option (Document S)) → IsHeld out seats document → IsHeld (out ++ []) seats document
+  pub silent : (out : List ℕ) (seats : Seats) (document : Option (Held S)) → IsHeld out seats document → IsHeld (out ++ []) seats document
   silent out seats document held = subst (λ (o : List ℕ). IsHeld o seats document) (sym (append-nil out)) held
 
   -- other seats
-  pub reseated : (out : List ℕ) (seats now : Seats) (document : Option (Document S)) (held : IsHeld out seats document) → AreSeated held.links now.views → IsHeld out now document
+  pub reseated : (out : List ℕ) (seats now : Seats) (document : Option (Held S)) (held : IsHeld out seats document) → AreSeated held.links now.views → IsHeld out now document
   reseated out seats now document held seated = record {
     pieces = held.pieces;
     links = held.links;
@@ -61,7 +62,7 @@ module _ {C B S : Type 0} (rules : Rules C B) (cut : C → Place → S) where
   }
 
   -- an answer in the lobby
-  pub told : (out : List ℕ) (seats : Seats) (document : Option (Document S)) (link : ℕ) (answer : Frame) → IsAnswer answer → IsHeld out seats document → IsHeld (out ++ tells link answer) seats document
+  pub told : (out : List ℕ) (seats : Seats) (document : Option (Held S)) (link : ℕ) (answer : Frame) → IsAnswer answer → IsHeld out seats document → IsHeld (out ++ tells link answer) seats document
   told out seats document link answer is held =
       let given : flat_map given_of (held.pieces ++ Lobby link answer ∷ []) ≡ flat_map given_of held.pieces = flat_map-append given_of held.pieces (Lobby link answer ∷ []) ∙ append-nil (flat_map given_of held.pieces) in
       record {
@@ -75,7 +76,7 @@ module _ {C B S : Type 0} (rules : Rules C B) (cut : C → Place → S) where
       }
 
   -- the document is loaded
-  pub loaded : (out : List ℕ) (seats : Seats) (file : List ℕ) → rules.accepts [] ≡ true → IsHeld out seats None → IsHeld out seats (Some (opening file []))
+  pub loaded : (out : List ℕ) (seats : Seats) (file : List ℕ) → rules.accepts [] ≡ true → IsHeld out seats None → IsHeld out seats (Some (opening_held file []))
   loaded out seats file accepted held = record {
     pieces = held.pieces;
     links = held.links;
@@ -87,19 +88,19 @@ module _ {C B S : Type 0} (rules : Rules C B) (cut : C → Place → S) where
   }
 
   -- a run goes on
-  run_on : (frames more : List (ViewId × Frame)) (d e : Document S) (events : List (Event S)) (outs : Outs S) → IsRun rules cut frames d → Segment rules cut d events outs e → more ≡ outs.frames → IsRun rules cut (frames ++ more) e
+  run_on : (frames more : List (ViewId × Frame)) (d e : Held S) (events : List (Event S)) (outs : Outs S) → IsRun rules cut frames d → Run (Moves rules cut) d events outs e → more ≡ outs.frames → IsRun rules cut (frames ++ more) e
   run_on frames more d e events outs run goes is = record {
     file = run.file;
     events = run.events ++ events;
     outs = joined run.outs outs;
     accepted = run.accepted;
-    follows = segments rules cut (opening run.file []) run.events events run.outs outs d e run.follows goes;
+    follows = runs (Moves rules cut) (opening_held run.file []) run.events events run.outs outs d e run.follows goes;
     frames_are = ap (λ (x : List (ViewId × Frame)). x ++ more) run.frames_are ∙ ap (λ (x : List (ViewId × Frame)). run.outs.frames ++ x) is;
   }
 
   -- The document goes on, and its frames are written. The links of the views that joined are behind the others.
-  pub gave : (out : List ℕ) (seats now : Seats) (d e : Document S) (events : List (Event S)) (outs : Outs S) (more : List ℕ) (held : IsHeld out seats (Some d))
-      → Segment rules cut d events outs e → AllTo (HasLink now.views) outs.frames → AreSeated (held.links ++ more) now.views → length (held.links ++ more) ≡ e.next_view
+  pub gave : (out : List ℕ) (seats now : Seats) (d e : Held S) (events : List (Event S)) (outs : Outs S) (more : List ℕ) (held : IsHeld out seats (Some d))
+      → Run (Moves rules cut) d events outs e → AllTo (HasLink now.views) outs.frames → AreSeated (held.links ++ more) now.views → length (held.links ++ more) ≡ e.document.next_view
       → IsHeld (out ++ records now outs.frames) now (Some e)
   gave out seats now d e events outs more held goes to seated begun =
       let here : AsPieces (held.links ++ more) (records now outs.frames) outs.frames = as_pieces (held.links ++ more) now outs.frames seated to in
@@ -116,8 +117,8 @@ module _ {C B S : Type 0} (rules : Rules C B) (cut : C → Place → S) where
       }
 
   -- the same where no view joins
-  pub gave_on : (out : List ℕ) (seats : Seats) (d e : Document S) (events : List (Event S)) (outs : Outs S) → IsHeld out seats (Some d)
-      → Segment rules cut d events outs e → AllTo (HasLink seats.views) outs.frames → e.next_view ≡ d.next_view
+  pub gave_on : (out : List ℕ) (seats : Seats) (d e : Held S) (events : List (Event S)) (outs : Outs S) → IsHeld out seats (Some d)
+      → Run (Moves rules cut) d events outs e → AllTo (HasLink seats.views) outs.frames → e.document.next_view ≡ d.document.next_view
       → IsHeld (out ++ records seats outs.frames) seats (Some e)
   gave_on out seats d e events outs held goes to same =
       let links : held.links ++ [] ≡ held.links = append-nil held.links in

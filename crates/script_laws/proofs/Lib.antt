@@ -8,3 +8,4 @@ mod Sent
 mod Shown
 mod Replays
 pub mod Rising
+pub mod Saves

@@ -1,6 +1,6 @@
 -- The transcript through moves, lines and whole scripts.
 use Rattle.std.proofs.Common.{◌≡◌, ◌∙◌, ℕ, true, List, [], ◌∷◌, ◌++◌, Option, refl, sym, ap, subst, append_assoc}
-use Rattle.document_machine.specs.State.{Document}
+use Rattle.document_machine.specs.Held.{Held}
 use Rattle.kit_trait.specs.Rules.{Rules}
 use Rattle.tile_key.specs.Places.{Place}
 use Rattle.script_lines.specs.Grammar.{Role, Acts, Ends, Refused, role}
@@ -91,7 +91,7 @@ module _ {C B S : Type 0} (rules : Rules C B) (cut : C → Place → S) (keeps :
 
   -- what is made so far
   abbrev pub Played : List ℕ → Type 0
-  Played out = (seats : Seats) × (document : Option (Document S)) × IsPlayed rules cut out seats document
+  Played out = (seats : Seats) × (document : Option (Held S)) × IsPlayed rules cut out seats document
 
   played_at : (before : List ℕ) (s : Seen S) → IsSound before s → Played before
   played_at before s sound = (s.house.seats, s.house.document, sound.held)

@@ -1,6 +1,6 @@
 -- What a replay writes.
 use Rattle.std.proofs.Common.{◌≡◌, ◌∙◌, ℕ, List, [], ◌++◌, Option, sym, subst, inl, inr, append-nil}
-use Rattle.document_machine.specs.State.{Document}
+use Rattle.document_machine.specs.Held.{Held}
 use Rattle.kit_trait.specs.Rules.{Rules}
 use Rattle.tile_key.specs.Places.{Place}
 use Rattle.script_lines.specs.Records.{IsFront}
@@ -21,9 +21,9 @@ all_of : (xs : List ℕ) → IsFront xs xs
 all_of xs = record { behind = []; is = sym (append-nil xs) }
 
 module _ {C B S : Type 0} (rules : Rules C B) (cut : C → Place → S) (keeps : Keeps rules cut)
-    (right : (out : List ℕ) (seats : Seats) (document : Option (Document S)) → IsPlayed rules cut out seats document → IsTranscript rules cut out seats document) where
+    (right : (out : List ℕ) (seats : Seats) (document : Option (Held S)) → IsPlayed rules cut out seats document → IsTranscript rules cut out seats document) where
   abbrev Played : List ℕ → Type 0
-  Played bytes = (seats : Seats) × (document : Option (Document S)) × IsPlayed rules cut bytes seats document
+  Played bytes = (seats : Seats) × (document : Option (Held S)) × IsPlayed rules cut bytes seats document
 
   -- the transcript goes on, and a front of that was written
   on_by : (written tail more : List ℕ) → Played (written ++ more) → IsFront tail more → IsTail rules cut written tail

@@ -8,6 +8,7 @@ use Rattle.document_laws.proofs.Screens.{frames_rise}
 use Rattle.document_laws.proofs.Kept.{opening_keeps, runs_keep}
 use Rattle.document_machine.specs.Due.{parts_of}
 use Rattle.document_machine.specs.Event.{Event}
+use Rattle.document_machine.specs.Held.{Held}
 use Rattle.document_machine.specs.Outputs.{nothing, joined}
 use Rattle.document_machine.specs.Run.{Run, Segment}
 use Rattle.document_machine.specs.State.{Document, opening}
@@ -17,6 +18,7 @@ use Rattle.kit_trait.specs.Rules.{Rules}
 use Rattle.tile_key.specs.Places.{Place}
 use Rattle.script_laws.specs.Played.{IsRun}
 use Rattle.script_laws.specs.Rising.{Rises}
+use Rattle.script_laws.proofs.Shown.{steps_to}
 
 module _ {C B S : Type 0} (rules : Rules C B) (cut : C → Place → S) where
   -- what leads up to the middle of a run, and what follows
@@ -53,12 +55,13 @@ module _ {C B S : Type 0} (rules : Rules C B) (cut : C → Place → S) where
   frames_of : (first later outs : Outs S) → outs ≡ joined first later → outs.frames ≡ first.frames ++ later.frames
   frames_of first later outs is = ap (λ (o : Outs S). o.frames) is
 
-  pub run_rises : ((base : List ℕ) → 0 < parts_of rules base) → (frames : List (ViewId × Frame)) (d : Document S) (run : IsRun rules cut frames d) (id : ℕ) (key : Place)
+  pub run_rises : ((base : List ℕ) → 0 < parts_of rules base) → (frames : List (ViewId × Frame)) (held : Held S) (run : IsRun rules cut frames held) (id : ℕ) (key : Place)
       (before : List (Event S)) (first : Event S) (between : List (Event S)) (last : Event S) (after : List (Event S))
-      → run.events ≡ before ++ first ∷ (between ++ last ∷ after) → Rises rules cut run.file frames d id key before first between last after
-  run_rises some frames d run id key before first between last after is =
+      → run.events ≡ before ++ first ∷ (between ++ last ∷ after) → Rises rules cut run.file frames held.document id key before first between last after
+  run_rises some frames held run id key before first between last after is =
+      let d : Document S = held.document in
       let follows : Segment rules cut (opening run.file []) (before ++ first ∷ (between ++ last ∷ after)) run.outs d =
-      subst (λ (es : List (Event S)). Segment rules cut (opening run.file []) es run.outs d) is run.follows in
+      subst (λ (es : List (Event S)). Segment rules cut (opening run.file []) es run.outs d) is (steps_to rules cut frames held run) in
       let a = cut_at before (first ∷ (between ++ last ∷ after)) (opening run.file []) d run.outs follows in
       let at = a.ends in
       let b = cut_at between (last ∷ after) at.0 d at.2 at.4 in
@@ -85,5 +88,5 @@ module _ {C B S : Type 0} (rules : Rules C B) (cut : C → Place → S) where
         two = two.3;
         ends = two.4;
         frames_are = run.frames_are ∙ a.frames_are ∙ ap (λ (fs : List (ViewId × Frame)). a.here.frames ++ fs) all;
-        rises = λ has held. frames_rise rules cut some id key a.mid at.0 b.mid two.0 first last between at.1 b.here two.1 whole (at.3, has) held two.3;
+        rises = λ has with_key. frames_rise rules cut some id key a.mid at.0 b.mid two.0 first last between at.1 b.here two.1 whole (at.3, has) with_key two.3;
       }

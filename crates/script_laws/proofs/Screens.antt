@@ -7,7 +7,7 @@ use Rattle.std.proofs.lemmas.Bool.Decides.{nat_tests}
 use Rattle.cool_base.specs.declared.ids.ViewId.{ViewId}
 use Rattle.cool_frame.specs.declared.frame.Frame.{Frame}
 use Rattle.cool_frame.specs.declared.frame.Frame.TheVariants.{Server, Status as StatusFrame, Invalidate, SaveDone, Error, Tile}
-use Rattle.cool_frame.specs.declared.kind.ErrorKind.TheVariants.{InputsFull, ReadOnly, AskedFull, BadTile, TooLarge}
+use Rattle.cool_frame.specs.declared.kind.ErrorKind.TheVariants.{InputsFull, ReadOnly, AskedFull, BadTile, SavesFull, TooLarge}
 use Rattle.cool_message.specs.Asked.{keys_of}
 use Rattle.cool_message.specs.Reading.{reading}
 use Rattle.cool_message.specs.declared.fault.MessageFault.{MessageFault}
@@ -22,13 +22,15 @@ use Rattle.document_laws.proofs.Heard.{IsPlain, effect_good, heard_is, keeps}
 use Rattle.document_laws.proofs.KeptViews.{map_ids}
 use Rattle.document_laws.proofs.KeyOrder.{same_is}
 use Rattle.document_laws.proofs.Rising.{find_map, find_push, find_without, offered_id}
+use Rattle.document_laws.proofs.SaveFrames.{ending_all, unmodified_all}
 use Rattle.document_laws.proofs.Sending.{with_same, screen_other}
 use Rattle.document_laws.proofs.Views.{found_other, found_view, found_with}
 use Rattle.document_machine.specs.Due.{takes, tile_frame, sent, version_of, without_version, screen_after, seen_keys, wants, visible, is_current, asked_after}
-use Rattle.document_machine.specs.Event.{Event, Joined, Left, Said, Turned, Painted}
+use Rattle.document_machine.specs.Event.{Event, Joined, Left, Said, Turned, Painted, PutAnswered}
 use Rattle.document_machine.specs.Keys.{Pairwise, is_among}
-use Rattle.document_machine.specs.Message.{Limits, Effect, limits_of, becomes, answers, enters, asked_with_all, input_effect, key_effect, mouse_effect, asking_effect, forgets, seeing_effect, zooming_effect, going_effect, message_effect, reading_effect, effect, heard}
+use Rattle.document_machine.specs.Message.{Limits, Effect, limits_of, becomes, answers, awaits, enters, saving_effect, asked_with_all, input_effect, key_effect, mouse_effect, asking_effect, forgets, seeing_effect, zooming_effect, going_effect, message_effect, reading_effect, effect, heard}
 use Rattle.document_machine.specs.Outputs.{named, outs_of}
+use Rattle.document_machine.specs.Saves.{ending_frame, ending_frames, receipt_of, unmodified_frames}
 use Rattle.document_machine.specs.State.{Shown, View, Job, Document, opening_view, find_view, with_view, without_view, find_job}
 use Rattle.document_machine.specs.Step.{JoinsWhere, Works, TurnsTo, Paints, Step, status, told, offered, views_offered, tile_for, tiles_for}
 use Rattle.document_machine.specs.declared.limits.TheConstants.{MOST_ASKED, MOST_INPUTS, MOST_VIEWS}
@@ -40,6 +42,10 @@ use Rattle.kit_trait.specs.Rules.{Rules, doc, shown}
 use Rattle.kit_trait.specs.declared.values.Damage.{Damage}
 use Rattle.kit_trait.specs.declared.values.Input.{Input}
 use Rattle.kit_trait.specs.declared.values.What.{What}
+use Rattle.outside.specs.declared.errands.Receipt.{Receipt}
+use Rattle.outside.specs.declared.faults.StoreFault.{StoreFault}
+use Rattle.save_core.specs.Saving.{answers as answers_to, is_full, unmodified}
+use Rattle.save_core.specs.declared.values.SaveAnswer.{SaveAnswer}
 use Rattle.tile_key.specs.Places.{Place, Scale, same_place, zoom_of}
 use Rattle.tile_key.specs.Visible.{is_too_large}
 use Rattle.script_laws.specs.LastTiles.{tile_in, later_one, last_tile}
@@ -97,12 +103,27 @@ all_told : (id : ℕ) (key : Place) (views : List View) (damage : List Damage) �
 all_told id key [] damage = refl
 all_told id key (view ∷ views) damage = none_of id key (map (λ d. (named view.id, Invalidate d.part d.rect)) damage) (told views damage) (one_told id key view damage) (all_told id key views damage)
 
+none_all : (id : ℕ) (key : Place) (frames : List (ViewId × Frame)) → AllByRecursion (λ given. tile_in id key given ≡ None) frames → last_tile id key frames ≡ None
+none_all id key [] all = refl
+none_all id key (given ∷ frames) all = none_of id key (given ∷ []) frames all.0 (none_all id key frames all.1)
+
+all_unmodified : (id : ℕ) (key : Place) (views : List View) (number : ℕ) (ids : List ViewId) → last_tile id key (unmodified_frames views number ids) ≡ None
+all_unmodified id key views number ids = none_all id key (unmodified_frames views number ids) (unmodified_all (λ given. tile_in id key given ≡ None) views number ids (λ to. refl))
+
+no_ending : (id : ℕ) (key : Place) (to : ViewId) (number : ℕ) (result : Result Receipt StoreFault) → tile_in id key (to, ending_frame result number) ≡ None
+no_ending id key to number (Ok receipt) = refl
+no_ending id key to number (Err fault) = refl
+
+all_ended : (id : ℕ) (key : Place) (views : List View) (result : Result Receipt StoreFault) (given : List SaveAnswer) → last_tile id key (ending_frames views result given) ≡ None
+all_ended id key views result given =
+    none_all id key (ending_frames views result given) (ending_all (λ shown. tile_in id key shown ≡ None) views result given (λ to number. no_ending id key to number result))
+
 plain_one : (id : ℕ) (key : Place) (to : ViewId) (frame : Frame) → IsPlain frame → tile_in id key (to, frame) ≡ None
 plain_one id key to (Tile shown version wid rgba) plain = absurd plain
 plain_one id key to Server plain = refl
 plain_one id key to (StatusFrame kit parts size view readonly) plain = refl
 plain_one id key to (Invalidate part rect) plain = refl
-plain_one id key to (SaveDone inputs put) plain = refl
+plain_one id key to (SaveDone inputs put) plain = absurd plain
 plain_one id key to (Error command kind code) plain = refl
 
 replied : (id to : ℕ) (frames : List Frame) → AllByRecursion IsPlain frames → NoTile id (map (λ frame. (named to, frame)) frames)
@@ -243,9 +264,6 @@ module _ (limits : Limits) (view : View) where
   abbrev IsStaying : Effect → Type 0
   IsStaying e = Stays view.screen e.view.screen
 
-  same_view : (frames : List Frame) (inputs : List Input) → IsStaying (record { frames = frames; inputs = inputs; view = view })
-  same_view frames inputs = same_stays view.screen
-
   input_stays : (command : List ℕ) (what : What) → IsStaying (input_effect limits view command what)
   input_stays command what =
       let input : Input = record { view = record { 0 = view.id }; part = view.part; what = what } in
@@ -263,6 +281,14 @@ module _ (limits : Limits) (view : View) where
   mouse_stays ButtonDown what = input_stays _ what
   mouse_stays ButtonUp what = same_stays view.screen
   mouse_stays Move what = same_stays view.screen
+
+  saving_stays : (command : List ℕ) (skip : Bool) → IsStaying (saving_effect limits view command skip)
+  saving_stays command skip =
+      let full : (b : Bool) → IsStaying (cond b (answers view (Error command SavesFull None)) (awaits view skip)) = elim [ true ↦ same_stays view.screen | false ↦ same_stays view.screen ] in
+      elim view.rights.can_write as (λ b. IsStaying (cond b (cond (is_full (Some (named view.id)) limits.saves) (answers view (Error command SavesFull None)) (awaits view skip)) (answers view (Error command ReadOnly None)))) [
+        | true ↦ full (is_full (Some (named view.id)) limits.saves)
+        | false ↦ same_stays view.screen
+      ]
 
   asking_stays : (command : List ℕ) (keys : Option (List Place)) → IsStaying (asking_effect view command keys)
   asking_stays command None = same_stays view.screen
@@ -304,8 +330,8 @@ module _ (limits : Limits) (view : View) where
   message_stays (Zoom pixel_w pixel_h twip_w twip_h nviewid) = zooming_stays (zoom_of (record { pixel_w = pixel_w; pixel_h = pixel_h; twip_w = twip_w; twip_h = twip_h; nviewid = nviewid }))
   message_stays (SetPart part) = going_stays part
   message_stays (TileProcessed wids) = same_stays view.screen
-  message_stays (Save keep skip) = same_stays view.screen
-  message_stays UnoSave = same_stays view.screen
+  message_stays (Save keep skip) = saving_stays _ skip
+  message_stays UnoSave = saving_stays _ false
 
   reading_stays : (text : List ℕ) (read : Result ClientMessage MessageFault) → IsStaying (reading_effect limits view text read)
   reading_stays text (Err why) = same_stays view.screen
@@ -377,12 +403,16 @@ module _ {C B S : Type 0} (rules : Rules C B) (cut : C → Place → S) where
   works_tell : (old new : Document S) (outs : Outs S) → Works rules cut old outs new → AllTell old.views outs new
   works_tell old new outs works =
       elim works [
-        | inl applies ↦ no_tile old.views old.views (told old.views (rules.hurt (doc rules old.base old.journal old.applied) applies.input)) outs new (ap (λ o. o.frames) applies.outs_are) (ap (λ e. e.views) applies.new_is)
-            (λ id key. all_told id key old.views (rules.hurt (doc rules old.base old.journal old.applied) applies.input)) (unchanged old.views)
-        | inr other ↦ elim other [
-          | inl sends ↦ gives old.views (with_view old.views sends.view.id (sent rules old sends.version sends.key)) (tile_frame rules old sends.version sends.key sends.view ∷ []) outs new (ap (λ o. o.frames) sends.outs_are) (ap (λ e. e.views) sends.new_is)
-              (send_tells old sends.view sends.key sends.version sends.live)
-          | inr cuts ↦ no_tile old.views old.views [] outs new (ap (λ o. o.frames) cuts.outs_are) (ap (λ e. e.views) cuts.new_is) (λ id key. refl) (unchanged old.views)
+        | inl serves ↦ no_tile old.views old.views (unmodified_frames old.views old.applied (unmodified old.applied old.saving)) outs new (ap (λ o. o.frames) serves.outs_are) (ap (λ e. e.views) serves.new_is)
+            (λ id key. all_unmodified id key old.views old.applied (unmodified old.applied old.saving)) (unchanged old.views)
+        | inr more ↦ elim more [
+          | inl applies ↦ no_tile old.views old.views (told old.views (rules.hurt (doc rules old.base old.journal old.applied) applies.input)) outs new (ap (λ o. o.frames) applies.outs_are) (ap (λ e. e.views) applies.new_is)
+              (λ id key. all_told id key old.views (rules.hurt (doc rules old.base old.journal old.applied) applies.input)) (unchanged old.views)
+          | inr other ↦ elim other [
+            | inl sends ↦ gives old.views (with_view old.views sends.view.id (sent rules old sends.version sends.key)) (tile_frame rules old sends.version sends.key sends.view ∷ []) outs new (ap (λ o. o.frames) sends.outs_are) (ap (λ e. e.views) sends.new_is)
+                (send_tells old sends.view sends.key sends.version sends.live)
+            | inr cuts ↦ no_tile old.views old.views [] outs new (ap (λ o. o.frames) cuts.outs_are) (ap (λ e. e.views) cuts.new_is) (λ id key. refl) (unchanged old.views)
+          ]
         ]
       ]
 
@@ -417,3 +447,6 @@ module _ {C B S : Type 0} (rules : Rules C B) (cut : C → Place → S) where
       (λ id. replied id to e.frames good.frames) (heard_stays old to step.view e step.live good.id (reading_stays (limits_of rules old) step.view text (reading text)))
   steps_tell old new Turned outs kept step = turn_tells old new outs step.0 step.1 step.2
   steps_tell old new (Painted ticket scene) outs kept step = paints_tell old new ticket scene outs (find_job old.jobs ticket) kept step
+  steps_tell old new (PutAnswered ticket result) outs kept step =
+      no_tile old.views old.views (ending_frames old.views result (answers_to ticket (receipt_of result) old.saving)) outs new (ap (λ o. o.frames) step.0) (ap (λ e. e.views) step.1)
+      (λ id key. all_ended id key old.views result (answers_to ticket (receipt_of result) old.saving)) (unchanged old.views)

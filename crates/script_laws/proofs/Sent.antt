@@ -15,7 +15,7 @@ use Rattle.document_laws.proofs.KeyOrder.{same_is}
 use Rattle.document_laws.proofs.Rising.{find_without, offered_id}
 use Rattle.document_laws.proofs.Views.{found_view}
 use Rattle.document_machine.specs.Due.{version_of, sent, keys}
-use Rattle.document_machine.specs.Event.{Event, Joined, Left, Said, Turned, Painted}
+use Rattle.document_machine.specs.Event.{Event, Joined, Left, Said, Turned, Painted, PutAnswered}
 use Rattle.document_machine.specs.Keys.{Pairwise}
 use Rattle.document_machine.specs.Message.{Effect, effect, heard}
 use Rattle.document_machine.specs.Quiet.{IsRight, AllRight}
@@ -89,10 +89,13 @@ module _ {C B S : Type 0} (rules : Rules C B) (cut : C → Place → S) where
   works_new : (old new : Document S) (outs : Outs S) → Works rules cut old outs new → Newcomers old new
   works_new old new outs works =
       elim works [
-        | inl applies ↦ none_new old new old.views (ap (λ e. e.views) applies.new_is) (λ id none. none)
-        | inr other ↦ elim other [
-          | inl sends ↦ none_new old new (with_view old.views sends.view.id (sent rules old sends.version sends.key)) (ap (λ e. e.views) sends.new_is) (λ id none. no_with old.views sends.view.id (sent rules old sends.version sends.key) (λ v. refl) id none)
-          | inr cuts ↦ none_new old new old.views (ap (λ e. e.views) cuts.new_is) (λ id none. none)
+        | inl serves ↦ none_new old new old.views (ap (λ e. e.views) serves.new_is) (λ id none. none)
+        | inr more ↦ elim more [
+          | inl applies ↦ none_new old new old.views (ap (λ e. e.views) applies.new_is) (λ id none. none)
+          | inr other ↦ elim other [
+            | inl sends ↦ none_new old new (with_view old.views sends.view.id (sent rules old sends.version sends.key)) (ap (λ e. e.views) sends.new_is) (λ id none. no_with old.views sends.view.id (sent rules old sends.version sends.key) (λ v. refl) id none)
+            | inr cuts ↦ none_new old new old.views (ap (λ e. e.views) cuts.new_is) (λ id none. none)
+          ]
         ]
       ]
 
@@ -131,6 +134,7 @@ module _ {C B S : Type 0} (rules : Rules C B) (cut : C → Place → S) where
       none_new old new (heard old to (effect rules old step.view text)).views (ap (λ e. e.views) step.new_is) (λ id none. heard_new old to step.view (effect rules old step.view text) step.live good.id id none) id none
   steps_new old new Turned outs kept step id none = turn_new old new step.0 step.1 id none
   steps_new old new (Painted ticket scene) outs kept step id none = paints_new old new ticket scene outs (find_job old.jobs ticket) step id none
+  steps_new old new (PutAnswered ticket result) outs kept step id none = none_new old new old.views (ap (λ e. e.views) step.1) (λ id none. none) id none
 
   -- each version on a screen is that of the last tile of its key among the frames
   abbrev pub AreTold : List (ViewId × Frame) → Document S → Type 0

@@ -8,12 +8,13 @@ use Rattle.cool_message.specs.Reading.{reading}
 use Rattle.cool_message.specs.declared.fault.MessageFault.{MessageFault}
 use Rattle.cool_message.specs.declared.message.ClientMessage.{ClientMessage}
 use Rattle.cool_message.specs.declared.message.ClientMessage.TheVariants.{CoolClient, Load}
-use Rattle.document_machine.specs.Kept.{IsKept}
 use Rattle.document_laws.proofs.Tiles.{run_shows}
 use Rattle.document_laws.proofs.Kept.{opening_keeps, runs_keep, steps_keep}
+use Rattle.document_machine.specs.Held.{Held, opening_held}
 use Rattle.document_machine.specs.Due.{parts_of}
 use Rattle.document_machine.specs.Kept.{IsKept}
 use Rattle.document_machine.specs.Quiet.{IsQuiet, AllRight}
+use Rattle.document_machine.specs.Run.{Segment}
 use Rattle.document_machine.specs.State.{Document, opening}
 use Rattle.kit_trait.specs.Rules.{Rules}
 use Rattle.tile_key.specs.Places.{Place}
@@ -22,10 +23,12 @@ use Rattle.script_lines.specs.Positions.{Position}
 use Rattle.script_run.specs.Transcript.{Runs}
 use Rattle.script_world.specs.Seats.{Seats, lobby_answer}
 use Rattle.script_world.specs.World.{Seen, Settled, IsAtRest}
+use Rattle.script_world.proofs.Housed.{steps_of}
 use Rattle.cool_script.specs.Script.{Standing, first, DoesBy, Acting}
 use Rattle.script_laws.specs.LastTiles.{ArePainted}
 use Rattle.script_laws.specs.Played.{Piece, Lobby, Given, given_of, IsAnswer, IsSent, IsRun, IsRunTo, IsPlayed, IsNoTile, ShowsPrefix, Shows}
 use Rattle.script_laws.specs.Replayed.{IsQuietNow, IsTranscript}
+use Rattle.script_laws.specs.Saves.{AreEarned, IsEarned}
 use Rattle.script_laws.proofs.Lines.{last_of}
 use Rattle.script_laws.proofs.Sent.{run_painted}
 
@@ -43,22 +46,27 @@ no_tile answer (inr (inr full)) = subst IsNoTile (sym full) tt
 
 module _ {C B S : Type 0} (rules : Rules C B) (cut : C → Place → S) where
   -- from frames to records
-  all_show : (links : List ℕ) (document : Option (Document S)) (pieces : List Piece) → AllByRecursion (IsSent links) pieces → AllByRecursion (ShowsPrefix rules document) (flat_map given_of pieces) → AllByRecursion (Shows rules document) pieces
+  all_show : (links : List ℕ) (document : Option (Held S)) (pieces : List Piece) → AllByRecursion (IsSent links) pieces → AllByRecursion (ShowsPrefix rules document) (flat_map given_of pieces) → AllByRecursion (Shows rules document) pieces
   all_show links document [] sent shown = tt
   all_show links document (Lobby link answer ∷ pieces) sent shown = (no_tile answer sent.0, all_show links document pieces sent.1 shown)
   all_show links document (Given link view frame ∷ pieces) sent shown = (shown.0, all_show links document pieces sent.1 shown.1)
 
+  -- the steps of a run
+  pub steps_to : (frames : List (ViewId × Frame)) (held : Held S) (run : IsRun rules cut frames held) → Segment rules cut (opening run.file []) run.events run.outs held.document
+  steps_to frames held run = steps_of rules cut run.events (opening_held run.file []) held run.outs run.follows
+
   -- the document of a run is as a broker keeps it
-  pub run_kept : ((base : List ℕ) → 0 < parts_of rules base) → (frames : List (ViewId × Frame)) (d : Document S) → IsRun rules cut frames d → IsKept rules cut d
-  run_kept some frames d run = runs_keep rules cut some run.events (opening run.file []) d run.outs run.follows (opening_keeps rules cut run.file [] run.accepted)
+  pub run_kept : ((base : List ℕ) → 0 < parts_of rules base) → (frames : List (ViewId × Frame)) (held : Held S) → IsRun rules cut frames held → IsKept rules cut held.document
+  run_kept some frames held run =
+      runs_keep rules cut some run.events (opening run.file []) held.document run.outs (steps_to frames held run) (opening_keeps rules cut run.file [] run.accepted)
 
-  frames_show : ((base : List ℕ) → 0 < parts_of rules base) → (frames : List (ViewId × Frame)) (document : Option (Document S)) → IsRunTo rules cut frames document → AllByRecursion (ShowsPrefix rules document) frames
+  frames_show : ((base : List ℕ) → 0 < parts_of rules base) → (frames : List (ViewId × Frame)) (document : Option (Held S)) → IsRunTo rules cut frames document → AllByRecursion (ShowsPrefix rules document) frames
   frames_show some frames None run = subst (AllByRecursion (ShowsPrefix {S = S} rules None)) (sym run) tt
-  frames_show some frames (Some d) run =
-      subst (AllByRecursion (ShowsPrefix rules (Some d))) (sym run.frames_are)
-      (run_shows rules cut some run.events (opening run.file []) d run.outs (opening_keeps rules cut run.file [] run.accepted) run.follows)
+  frames_show some frames (Some held) run =
+      subst (AllByRecursion (ShowsPrefix rules (Some held))) (sym run.frames_are)
+      (run_shows rules cut some run.events (opening run.file []) held.document run.outs (opening_keeps rules cut run.file [] run.accepted) (steps_to frames held run))
 
-  pub transcript_shows : ((base : List ℕ) → 0 < parts_of rules base) → (out : List ℕ) (seats : Seats) (document : Option (Document S)) (played : IsPlayed rules cut out seats document) → AllByRecursion (Shows rules document) played.pieces
+  pub transcript_shows : ((base : List ℕ) → 0 < parts_of rules base) → (out : List ℕ) (seats : Seats) (document : Option (Held S)) (played : IsPlayed rules cut out seats document) → AllByRecursion (Shows rules document) played.pieces
   transcript_shows some out seats document played = all_show played.links document played.pieces played.each (frames_show some (flat_map given_of played.pieces) document played.run)
 
   -- the line `settle` acts anywhere, and settles the world
@@ -77,31 +85,43 @@ module _ {C B S : Type 0} (rules : Rules C B) (cut : C → Place → S) where
       (settled.none_waits, settled.rests)
 
   -- in a quiet document the last tiles are the document from scratch
-  pub painted : (some : (base : List ℕ) → 0 < parts_of rules base) (out : List ℕ) (seats : Seats) (d : Document S) (played : IsPlayed rules cut out seats (Some d)) → AllRight rules d → ArePainted rules (Some d) (flat_map given_of played.pieces)
-  painted some out seats d played right =
-      let run : IsRun rules cut (flat_map given_of played.pieces) d = played.run in
+  pub painted : (some : (base : List ℕ) → 0 < parts_of rules base) (out : List ℕ) (seats : Seats) (held : Held S) (played : IsPlayed rules cut out seats (Some held)) → AllRight rules held.document → ArePainted rules (Some held) (flat_map given_of played.pieces)
+  painted some out seats held played right =
+      let frames : List (ViewId × Frame) = flat_map given_of played.pieces in
+      let run : IsRun rules cut frames held = played.run in
       let begins : IsKept rules cut (opening {S = S} run.file []) = opening_keeps rules cut run.file [] run.accepted in
-      subst (ArePainted rules (Some d)) (sym run.frames_are)
-      (run_painted rules cut (steps_keep rules cut some) run.events run.file d run.outs begins run.follows (run_kept some (flat_map given_of played.pieces) d run)
-      (run_shows rules cut some run.events (opening run.file []) d run.outs begins run.follows) right)
+      let steps = steps_to frames held run in
+      subst (ArePainted rules (Some held)) (sym run.frames_are)
+      (run_painted rules cut (steps_keep rules cut some) run.events run.file held.document run.outs begins steps (run_kept some frames held run)
+      (run_shows rules cut some run.events (opening run.file []) held.document run.outs begins steps) right)
 
-  painted_at : (some : (base : List ℕ) → 0 < parts_of rules base) (out : List ℕ) (seats : Seats) (document : Option (Document S)) → IsAtRest rules document → (played : IsPlayed rules cut out seats document) → ArePainted rules document (flat_map given_of played.pieces)
+  painted_at : (some : (base : List ℕ) → 0 < parts_of rules base) (out : List ℕ) (seats : Seats) (document : Option (Held S)) → IsAtRest rules document → (played : IsPlayed rules cut out seats document) → ArePainted rules document (flat_map given_of played.pieces)
   painted_at some out seats None rests played = tt
-  painted_at some out seats (Some d) rests played = painted some out seats d played rests.1
+  painted_at some out seats (Some held) rests played = painted some out seats held played rests.1
 
   pub settled_painted : (some : (base : List ℕ) → 0 < parts_of rules base) (lines : List (List ℕ)) (out : List ℕ) (t : Standing S) → Runs (Acting rules cut) first (lines ++ codes "settle" ∷ []) out t
       → (played : IsPlayed rules cut out t.world.house.seats t.world.house.document) → ArePainted rules t.world.house.document (flat_map given_of played.pieces)
   settled_painted some lines out t runs played = painted_at some out t.world.house.seats t.world.house.document (settled_rests lines out t runs).1 played
 
   -- a transcript is right
-  painted_now : (some : (base : List ℕ) → 0 < parts_of rules base) (quiet : (d : Document S) → IsKept rules cut d → IsQuiet rules d → AllRight rules d) (out : List ℕ) (seats : Seats) (document : Option (Document S)) (played : IsPlayed rules cut out seats document)
+  painted_now : (some : (base : List ℕ) → 0 < parts_of rules base) (quiet : (d : Document S) → IsKept rules cut d → IsQuiet rules d → AllRight rules d) (out : List ℕ) (seats : Seats) (document : Option (Held S)) (played : IsPlayed rules cut out seats document)
       → IsQuietNow rules document → ArePainted rules document (flat_map given_of played.pieces)
   painted_now some quiet out seats None played still = tt
-  painted_now some quiet out seats (Some d) played still = painted some out seats d played (quiet d (run_kept some (flat_map given_of played.pieces) d played.run) still)
+  painted_now some quiet out seats (Some held) played still = painted some out seats held played (quiet held.document (run_kept some (flat_map given_of played.pieces) held played.run) still)
 
-  pub transcript_right : (some : (base : List ℕ) → 0 < parts_of rules base) (quiet : (d : Document S) → IsKept rules cut d → IsQuiet rules d → AllRight rules d) (out : List ℕ) (seats : Seats) (document : Option (Document S)) → IsPlayed rules cut out seats document → IsTranscript rules cut out seats document
-  transcript_right some quiet out seats document played = record {
+  -- each save that it tells done is earned
+  abbrev pub Earns : Type 0
+  Earns = (out : List ℕ) (seats : Seats) (held : Held S) (played : IsPlayed rules cut out seats (Some held)) → AllByRecursion (IsEarned rules cut played.run.file played.run.events) (flat_map given_of played.pieces)
+
+  all_earned : Earns → (out : List ℕ) (seats : Seats) (document : Option (Held S)) (played : IsPlayed rules cut out seats document) → AreEarned rules cut (flat_map given_of played.pieces) document played.run
+  all_earned earns out seats None played = tt
+  all_earned earns out seats (Some held) played = earns out seats held played
+
+  pub transcript_right : (some : (base : List ℕ) → 0 < parts_of rules base) (quiet : (d : Document S) → IsKept rules cut d → IsQuiet rules d → AllRight rules d) → Earns
+      → (out : List ℕ) (seats : Seats) (document : Option (Held S)) → IsPlayed rules cut out seats document → IsTranscript rules cut out seats document
+  transcript_right some quiet earns out seats document played = record {
     played = played;
     tiles = transcript_shows some out seats document played;
+    saves = all_earned earns out seats document played;
     painted = painted_now some quiet out seats document played;
   }

@@ -5,11 +5,13 @@ use Rattle.std.specs.BTreeMap.{is_at}
 use Rattle.std.specs.Ordering.{nat_cmp}
 use Rattle.cool_base.specs.declared.ids.ViewId.{ViewId}
 use Rattle.cool_frame.specs.declared.frame.Frame.{Frame}
-use Rattle.document_laws.specs.AtOnce.{answered, all_answered}
+use Rattle.document_laws.specs.AtOnce.{answered, all_answered, stored}
 use Rattle.document_machine.specs.Event.{Event, Joined, Left, Said, Turned}
+use Rattle.document_machine.specs.Goes.{Moves}
+use Rattle.document_machine.specs.Held.{Held, opening_held}
 use Rattle.document_machine.specs.Outputs.{nothing, joined}
-use Rattle.document_machine.specs.Run.{Segment}
-use Rattle.document_machine.specs.State.{Document, Job, opening, find_job}
+use Rattle.document_machine.specs.Run.{Run, Segment}
+use Rattle.document_machine.specs.State.{Document, Job, find_job}
 use Rattle.document_machine.specs.Step.{Step, Works, Paints, JoinsWhere as MachineJoins}
 use Rattle.document_machine.specs.declared.limits.TheConstants.{MOST_VIEWS}
 use Rattle.document_machine.specs.declared.outs.Outs.{Outs}
@@ -19,11 +21,12 @@ use Rattle.document_machine.proofs.Runs.{nothing_last}
 use Rattle.kit_trait.specs.Rules.{Rules}
 use Rattle.kit_trait.specs.declared.jobs.PaintJob.{PaintJob}
 use Rattle.tile_key.specs.Places.{Place}
+use Rattle.outside.specs.declared.errands.Errand.{Errand}
 use Rattle.script_world.specs.House.{House, rights, JoinsWhere, BeginsWhere, LoadsOne, LoadsWhere, seated, lobby_tells, SaysAs, LeavesAs, TakesOne, TakesFirst, WorksAtOnce, TurnsDocument, PollTurn, ids_of, IsSeated, IsHousedBy, IsHoused}
 use Rattle.script_world.specs.Seats.{Seats, view_of, is_waiting, enters, sits, without, tells, records, lobby_frame, bad_file, views_full}
 use Rattle.script_world.specs.declared.event.Waiting.{Waiting}
 use Rattle.script_world.specs.declared.event.Waiting.TheVariants.{Opened, Loads, Says, Gone}
-use Rattle.script_world.proofs.Housed.{Keeps, found_document, housed_at, first_housed, works_of}
+use Rattle.script_world.proofs.Housed.{Keeps, found_document, housed_at, first_housed, steps_of, works_of}
 use Rattle.script_world.proofs.Ids.{HasLink, ids-works, sits_new}
 use Rattle.script_laws.specs.Played.{AreSeated}
 use Rattle.script_laws.proofs.Views.{all_join, To, AllTo, says_to, works_to, answers_to}
@@ -38,10 +41,13 @@ module _ {C B S : Type 0} (rules : Rules C B) (cut : C → Place → S) where
   next-works : (old new : Document S) (outs : Outs S) → Works rules cut old outs new → new.next_view ≡ old.next_view
   next-works old new outs works =
       elim works [
-        | inl applies ↦ ap Next applies.new_is
-        | inr other ↦ elim other [
-          | inl sends ↦ ap Next sends.new_is
-          | inr cuts ↦ ap Next cuts.new_is
+        | inl serves ↦ ap Next serves.new_is
+        | inr more ↦ elim more [
+          | inl applies ↦ ap Next applies.new_is
+          | inr other ↦ elim other [
+            | inl sends ↦ ap Next sends.new_is
+            | inr cuts ↦ ap Next cuts.new_is
+          ]
         ]
       ]
 
@@ -53,13 +59,18 @@ module _ {C B S : Type 0} (rules : Rules C B) (cut : C → Place → S) where
         | inr taken ↦ ap Next taken.2
       ]
 
-  next-answers : (jobs : List (PaintJob S)) (old new : Document S) (outs : Outs S) → Segment rules cut old (map answered jobs) outs new → new.next_view ≡ old.next_view
-  next-answers [] old new outs run = ap Next run.1
-  next-answers (job ∷ jobs) old new outs run = next-answers jobs run.0 new run.2 run.4 ∙ next-paints old run.0 job.ticket.0 job.scene run.1 (find_job old.jobs job.ticket.0) run.3
+  next-stored : (errands : List Errand) (old new : Document S) (outs : Outs S) → Segment rules cut old (map stored errands) outs new → new.next_view ≡ old.next_view
+  next-stored [] old new outs run = ap Next run.1
+  next-stored (errand ∷ errands) old new outs run = next-stored errands run.0 new run.2 run.4 ∙ ap Next run.3.1
 
-  -- one step is a run
-  one_step : (old new : Document S) (event : Event S) (outs : Outs S) → Step rules cut old event outs new → Segment rules cut old (event ∷ []) outs new
-  one_step old new event outs step = (new, outs, nothing, step, (refl, refl), sym (nothing_last outs))
+  next-answers : (jobs : List (PaintJob S)) (errands : List Errand) (old new : Document S) (outs : Outs S) → Segment rules cut old (map answered jobs ++ map stored errands) outs new → new.next_view ≡ old.next_view
+  next-answers [] errands old new outs run = next-stored errands old new outs run
+  next-answers (job ∷ jobs) errands old new outs run =
+      next-answers jobs errands run.0 new run.2 run.4 ∙ next-paints old run.0 job.ticket.0 job.scene run.1 (find_job old.jobs job.ticket.0) run.3
+
+  -- one move is a run
+  one_move : (old new : Held S) (event : Event S) (outs : Outs S) → Moves rules cut old event outs new → Run (Moves rules cut) old (event ∷ []) outs new
+  one_move old new event outs moves = (new, outs, nothing, moves, (refl, refl), sym (nothing_last outs))
 
   abbrev Kept : List ℕ → House S → Type 0
   Kept out house = Holds rules cut out house
@@ -70,11 +81,13 @@ module _ {C B S : Type 0} (rules : Rules C B) (cut : C → Place → S) where
       subst (λ (x : List ℕ). Kept (before ++ x) new) (sym is) (subst (Kept (before ++ bytes)) (sym same) held)
 
   -- a view joins
-  join_goes : (before : List ℕ) (seats : Seats) (link : ℕ) (given : Rights) (d e : Document S) (outs : Outs S) (b : Bool)
-      → nat_lt (length d.views) MOST_VIEWS ≡ b → b ≡ true → view_of seats link ≡ None → Step rules cut d (Joined given) outs e
-      → IsHeld rules cut before seats (Some d) → IsHeld rules cut (before ++ records (sits seats link d.next_view) outs.frames) (sits seats link d.next_view) (Some e)
-  join_goes before seats link given d e outs b room is none step held =
-      let joins : MachineJoins true rules d given outs e = subst (λ (x : Bool). MachineJoins x rules d given outs e) (room ∙ is) step in
+  join_goes : (before : List ℕ) (seats : Seats) (link : ℕ) (given : Rights) (old new : Held S) (outs : Outs S) (b : Bool)
+      → nat_lt (length old.document.views) MOST_VIEWS ≡ b → b ≡ true → view_of seats link ≡ None → Moves rules cut old (Joined given) outs new
+      → IsHeld rules cut before seats (Some old) → IsHeld rules cut (before ++ records (sits seats link old.document.next_view) outs.frames) (sits seats link old.document.next_view) (Some new)
+  join_goes before seats link given old new outs b room is none moves held =
+      let d : Document S = old.document in
+      let e : Document S = new.document in
+      let joins : MachineJoins true rules d given outs e = subst (λ (x : Bool). MachineJoins x rules d given outs e) (room ∙ is) moves.0 in
       let now : Seats = sits seats link d.next_view in
       let links : List ℕ = held.links in
       let begun : length links ≡ d.next_view = held.begun in
@@ -83,13 +96,13 @@ module _ {C B S : Type 0} (rules : Rules C B) (cut : C → Place → S) where
       sits_seated (links ++ link ∷ []) seats.views link d.next_view none (more_seated links (link ∷ []) seats.views held.seated)
       (subst (λ (n : ℕ). slice_get (links ++ link ∷ []) n ≡ Some link) begun (slice_next links link)) in
       let count : length (links ++ link ∷ []) ≡ e.next_view = length-append links (link ∷ []) ∙ ap (λ (n : ℕ). n + 1) begun ∙ sym (ap Next joins.1) in
-      gave rules cut before seats now d e (Joined given ∷ []) outs (link ∷ []) held (one_step d e (Joined given) outs step) to seated count
+      gave rules cut before seats now old new (Joined given ∷ []) outs (link ∷ []) held (one_move old new (Joined given) outs moves) to seated count
 
   -- a load
-  joins_held : (before : List ℕ) (seats : Seats) (link : ℕ) (given : Rights) (d : Document S) (out : List ℕ) (new : House S) (b : Bool)
-      → nat_lt (length d.views) MOST_VIEWS ≡ b → view_of seats link ≡ None → IsHeld rules cut before seats (Some d) → JoinsWhere b rules cut seats link given d out new → Kept (before ++ out) new
+  joins_held : (before : List ℕ) (seats : Seats) (link : ℕ) (given : Rights) (d : Held S) (out : List ℕ) (new : House S) (b : Bool)
+      → nat_lt (length d.document.views) MOST_VIEWS ≡ b → view_of seats link ≡ None → IsHeld rules cut before seats (Some d) → JoinsWhere b rules cut seats link given d out new → Kept (before ++ out) new
   joins_held before seats link given d out new true room none held joins =
-      let now : Seats = sits seats link d.next_view in
+      let now : Seats = sits seats link d.document.next_view in
       wrote before out (records now joins.1.frames) (record { seats = now; document = Some joins.0 }) new joins.4 joins.3
       (join_goes before seats link given d joins.0 joins.1 true room refl none joins.2 held)
   joins_held before seats link given d out new false room none held joins =
@@ -99,15 +112,15 @@ module _ {C B S : Type 0} (rules : Rules C B) (cut : C → Place → S) where
   begins_held : (before : List ℕ) (seats : Seats) (link : ℕ) (file : List ℕ) (given : Rights) (out : List ℕ) (new : House S) (b : Bool)
       → rules.accepts [] ≡ b → view_of seats link ≡ None → IsHeld rules cut before seats None → BeginsWhere b rules cut seats link file given out new → Kept (before ++ out) new
   begins_held before seats link file given out new true accepted none held begins =
-      joins_held before seats link given (opening file []) out new true refl none (loaded rules cut before seats file accepted held) begins
+      joins_held before seats link given (opening_held file []) out new true refl none (loaded rules cut before seats file accepted held) begins
   begins_held before seats link file given out new false accepted none held begins =
       wrote before out (tells link bad_file) (record { seats = seats; document = None }) new begins.0 begins.1
       (told rules cut before seats None link bad_file (inr (inl refl)) held)
 
-  loads_held : (before : List ℕ) (seats : Seats) (document : Option (Document S)) (link : ℕ) (file : List ℕ) (given : Rights) (out : List ℕ) (new : House S)
+  loads_held : (before : List ℕ) (seats : Seats) (document : Option (Held S)) (link : ℕ) (file : List ℕ) (given : Rights) (out : List ℕ) (new : House S)
       → view_of seats link ≡ None → IsHeld rules cut before seats document → LoadsOne rules cut seats document link file given out new → Kept (before ++ out) new
   loads_held before seats None link file given out new none held loads = begins_held before seats link file given out new (rules.accepts []) refl none held loads
-  loads_held before seats (Some d) link file given out new none held loads = joins_held before seats link given d out new (nat_lt (length d.views) MOST_VIEWS) refl none held loads
+  loads_held before seats (Some d) link file given out new none held loads = joins_held before seats link given d out new (nat_lt (length d.document.views) MOST_VIEWS) refl none held loads
 
   load_held : (before : List ℕ) (old : House S) (link : ℕ) (file : List ℕ) (given : Rights) (out : List ℕ) (new : House S) (b : Bool)
       → is_waiting old.seats link ≡ b → Kept before old → LoadsWhere b rules cut old link file given out new → Kept (before ++ out) new
@@ -120,21 +133,21 @@ module _ {C B S : Type 0} (rules : Rules C B) (cut : C → Place → S) where
       wrote before out (tells link (lobby_frame text)) old old is refl (told rules cut before old.seats old.document link (lobby_frame text) (inl (text, refl)) held)
   lobby_held before old link text out false is held = wrote before out [] old old is refl (silent rules cut before old.seats old.document held)
 
-  says_held : (before : List ℕ) (old : House S) (link : ℕ) (text : List ℕ) (found : Option (Document S × ℕ)) (out : List ℕ) (new : House S)
+  says_held : (before : List ℕ) (old : House S) (link : ℕ) (text : List ℕ) (found : Option (Held S × ℕ)) (out : List ℕ) (new : House S)
       → seated old link ≡ found → IsHoused rules cut old → Kept before old → SaysAs rules cut old link text found out new → Kept (before ++ out) new
   says_held before old link text None out new is housed held says =
       subst (Kept (before ++ out)) (sym says.1) (lobby_held before old link text out (is_waiting old.seats link) says.0 held)
   says_held before old link text (Some seat) out new is housed held says =
       let there : old.document ≡ Some seat.0 = (found_document old.document (view_of old.seats link) seat is).0 in
       let home : IsSeated rules cut old.seats seat.0 = housed_at rules cut old.seats old.document seat.0 there housed in
-      let step : Step rules cut seat.0 (Said seat.1 text) says.1 says.0 = says.2 in
-      let same : says.0.next_view ≡ seat.0.next_view = ap Next step.new_is in
-      let to : AllTo (HasLink old.seats.views) says.1.frames = says_to rules cut (HasLink old.seats.views) seat.0 says.0 seat.1 text says.1 step home.linked in
+      let step : Step rules cut seat.0.document (Said seat.1 text) says.1 says.0.document = says.2.0 in
+      let same : says.0.document.next_view ≡ seat.0.document.next_view = ap Next step.new_is in
+      let to : AllTo (HasLink old.seats.views) says.1.frames = says_to rules cut (HasLink old.seats.views) seat.0.document says.0.document seat.1 text says.1 step home.linked in
       wrote before out (records old.seats says.1.frames) (record old { document = Some says.0 }) new says.4 says.3
-      (gave_on rules cut before old.seats seat.0 says.0 (Said seat.1 text ∷ []) says.1 (subst (IsHeld rules cut before old.seats) there held) (one_step seat.0 says.0 (Said seat.1 text) says.1 step) to same)
+      (gave_on rules cut before old.seats seat.0 says.0 (Said seat.1 text ∷ []) says.1 (subst (IsHeld rules cut before old.seats) there held) (one_move seat.0 says.0 (Said seat.1 text) says.1 says.2) to same)
 
   -- a link is gone
-  leaves_held : (before : List ℕ) (old : House S) (link : ℕ) (found : Option (Document S × ℕ)) (out : List ℕ) (new : House S)
+  leaves_held : (before : List ℕ) (old : House S) (link : ℕ) (found : Option (Held S × ℕ)) (out : List ℕ) (new : House S)
       → seated old link ≡ found → Kept before old → LeavesAs rules cut old link found out new → Kept (before ++ out) new
   leaves_held before old link None out new is held leaves =
       wrote before out [] (record old { seats = without old.seats link }) new leaves.0 leaves.1
@@ -142,8 +155,8 @@ module _ {C B S : Type 0} (rules : Rules C B) (cut : C → Place → S) where
   leaves_held before old link (Some seat) out new is held leaves =
       let there : old.document ≡ Some seat.0 = (found_document old.document (view_of old.seats link) seat is).0 in
       let at : IsHeld rules cut before old.seats (Some seat.0) = subst (IsHeld rules cut before old.seats) there held in
-      let step : Step rules cut seat.0 (Left seat.1) nothing leaves.0 = leaves.1 in
-      let gone : IsHeld rules cut (before ++ []) old.seats (Some leaves.0) = gave_on rules cut before old.seats seat.0 leaves.0 (Left seat.1 ∷ []) nothing at (one_step seat.0 leaves.0 (Left seat.1) nothing step) tt (ap Next step.1) in
+      let step : Step rules cut seat.0.document (Left seat.1) nothing leaves.0.document = leaves.1.0 in
+      let gone : IsHeld rules cut (before ++ []) old.seats (Some leaves.0) = gave_on rules cut before old.seats seat.0 leaves.0 (Left seat.1 ∷ []) nothing at (one_move seat.0 leaves.0 (Left seat.1) nothing leaves.1) tt (ap Next step.1) in
       wrote before out [] (record { seats = without old.seats link; document = Some leaves.0 }) new leaves.2 leaves.3
       (reseated rules cut (before ++ []) old.seats (without old.seats link) (Some leaves.0) gone (gone_seated gone.links (is_at (nat_cmp link)) old.seats.views gone.seated))
 
@@ -160,31 +173,36 @@ module _ {C B S : Type 0} (rules : Rules C B) (cut : C → Place → S) where
   first_held before [] old out rest new housed held takes = wrote before out [] old new takes.1 takes.2 (silent rules cut before old.seats old.document held)
   first_held before (event ∷ events) old out rest new housed held takes = takes_held before event old out new housed held takes.1
 
-  -- a turn that did a work, its jobs answered
-  works_held : (before : List ℕ) (seats : Seats) (d e : Document S) (frames : List (ViewId × Frame)) → IsSeated rules cut seats d → IsHeld rules cut before seats (Some d) → WorksAtOnce rules cut d frames e → IsHeld rules cut (before ++ records seats frames) seats (Some e)
-  works_held before seats d e frames home held works =
+  -- a turn that did a work, with all that it gave out answered
+  works_held : (before : List ℕ) (seats : Seats) (old new : Held S) (frames : List (ViewId × Frame)) → IsSeated rules cut seats old → IsHeld rules cut before seats (Some old) → WorksAtOnce rules cut old frames new
+      → IsHeld rules cut (before ++ records seats frames) seats (Some new)
+  works_held before seats old new frames home held works =
+      let d : Document S = old.document in
+      let mid : Document S = works.mid.document in
+      let e : Document S = new.document in
       let outs : Outs S = joined works.first works.later in
-      let done : Works rules cut d works.first works.mid = works_of rules cut d e frames works in
-      let run : Segment rules cut d (Turned ∷ all_answered works.first) outs e = (works.mid, works.first, works.later, (Worked works.first, done, refl), works.answered, refl) in
-      let ids : ids_of works.mid.views ≡ ids_of d.views = ids-works rules cut d works.mid works.first done in
-      let here : AllTo (HasLink seats.views) works.first.frames = works_to rules cut (HasLink seats.views) d works.mid works.first done home.linked in
+      let done : Works rules cut d works.first mid = works_of rules cut old new frames works in
+      let run : Run (Moves rules cut) old (Turned ∷ all_answered works.first) outs new = (works.mid, works.first, works.later, (Worked works.first, works.does, refl), works.answered, refl) in
+      let steps : Segment rules cut mid (all_answered works.first) works.later e = steps_of rules cut (all_answered works.first) works.mid new works.later works.answered in
+      let ids : ids_of mid.views ≡ ids_of d.views = ids-works rules cut d mid works.first done in
+      let here : AllTo (HasLink seats.views) works.first.frames = works_to rules cut (HasLink seats.views) d mid works.first done home.linked in
       let rest : AllTo (HasLink seats.views) works.later.frames =
-      answers_to rules cut (HasLink seats.views) works.first.jobs works.mid e works.later works.answered (subst (AllByRecursion (HasLink seats.views)) (sym ids) home.linked) in
+      answers_to rules cut (HasLink seats.views) works.first.jobs works.first.errands mid e works.later steps (subst (AllByRecursion (HasLink seats.views)) (sym ids) home.linked) in
       let to : AllTo (HasLink seats.views) outs.frames = all_join (To (HasLink seats.views)) works.first.frames works.later.frames here rest in
-      let same : e.next_view ≡ d.next_view = next-answers works.first.jobs works.mid e works.later works.answered ∙ next-works d works.mid works.first done in
-      subst (λ (x : List (ViewId × Frame)). IsHeld rules cut (before ++ records seats x) seats (Some e)) (sym works.frames_are)
-      (gave_on rules cut before seats d e (Turned ∷ all_answered works.first) outs held run to same)
+      let same : e.next_view ≡ d.next_view = next-answers works.first.jobs works.first.errands mid e works.later steps ∙ next-works d mid works.first done in
+      subst (λ (x : List (ViewId × Frame)). IsHeld rules cut (before ++ records seats x) seats (Some new)) (sym works.frames_are)
+      (gave_on rules cut before seats old new (Turned ∷ all_answered works.first) outs held run to same)
 
   -- a turn of the document
-  pub turns_held : (before : List ℕ) (seats : Seats) (old : Option (Document S)) (out : List ℕ) (worked : Bool) (new : Option (Document S)) → IsHousedBy rules cut seats old → IsHeld rules cut before seats old → TurnsDocument rules cut seats old out worked new → IsHeld rules cut (before ++ out) seats new
+  pub turns_held : (before : List ℕ) (seats : Seats) (old : Option (Held S)) (out : List ℕ) (worked : Bool) (new : Option (Held S)) → IsHousedBy rules cut seats old → IsHeld rules cut before seats old → TurnsDocument rules cut seats old out worked new → IsHeld rules cut (before ++ out) seats new
   turns_held before seats None out worked new housed held turns =
-      wrote before out [] (record { seats = seats; document = None }) (record { seats = seats; document = new }) turns.0 (ap (λ (d : Option (Document S)). record { seats = seats; document = d }) turns.2)
+      wrote before out [] (record { seats = seats; document = None }) (record { seats = seats; document = new }) turns.0 (ap (λ (d : Option (Held S)). record { seats = seats; document = d }) turns.2)
       (silent rules cut before seats None held)
   turns_held before seats (Some d) out true new housed held turns =
-      wrote before out (records seats turns.1) (record { seats = seats; document = Some turns.0 }) (record { seats = seats; document = new }) turns.3 (ap (λ (x : Option (Document S)). record { seats = seats; document = x }) turns.4)
+      wrote before out (records seats turns.1) (record { seats = seats; document = Some turns.0 }) (record { seats = seats; document = new }) turns.3 (ap (λ (x : Option (Held S)). record { seats = seats; document = x }) turns.4)
       (works_held before seats d turns.0 turns.1 housed held turns.2)
   turns_held before seats (Some d) out false new housed held turns =
-      wrote before out [] (record { seats = seats; document = Some d }) (record { seats = seats; document = new }) turns.0 (ap (λ (x : Option (Document S)). record { seats = seats; document = x }) turns.2)
+      wrote before out [] (record { seats = seats; document = Some d }) (record { seats = seats; document = new }) turns.0 (ap (λ (x : Option (Held S)). record { seats = seats; document = x }) turns.2)
       (silent rules cut before seats (Some d) held)
 
   -- a poll turn

@@ -5,6 +5,7 @@ use Rattle.cool_base.specs.declared.ids.ViewId.{ViewId}
 use Rattle.cool_frame.specs.declared.frame.Frame.{Frame}
 use Rattle.cool_frame.specs.declared.frame.Frame.TheVariants.{Tile}
 use Rattle.document_machine.specs.Due.{keys}
+use Rattle.document_machine.specs.Held.{Held}
 use Rattle.document_machine.specs.State.{View, Document}
 use Rattle.kit_trait.specs.Rules.{Rules, doc, shown}
 use Rattle.tile_key.specs.Places.{Place, same_place}
@@ -32,6 +33,7 @@ IsPainted rules d frames view key = (version : ℕ) × (rgba : List ℕ)
     × (rgba ≡ (shown rules (doc rules d.base d.journal (length d.journal)) key).rgba)
 
 -- the same of each key that a view of the document sees or asked for, if there is a document
-abbrev pub ArePainted : {C B S : Type 0} → Rules C B → Option (Document S) → List (ViewId × Frame) → Type 0
+abbrev pub ArePainted : {C B S : Type 0} → Rules C B → Option (Held S) → List (ViewId × Frame) → Type 0
 ArePainted rules None frames = ⊤
-ArePainted rules (Some d) frames = AllByRecursion (λ view. AllByRecursion (IsPainted rules d frames view) (keys rules d view)) d.views
+ArePainted rules (Some held) frames = AllByRecursion
+    (λ view. AllByRecursion (IsPainted rules held.document frames view) (keys rules held.document view)) held.document.views

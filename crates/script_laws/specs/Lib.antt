@@ -1,4 +1,5 @@
 pub mod Played
 pub mod LastTiles
+pub mod Saves
 pub mod Replayed
 pub mod Rising

@@ -1,5 +1,5 @@
 -- A transcript in the words of the document machine: which of its records the document gave, and that these are the
--- frames of one run.
+-- frames of one run of moves.
 use Rattle.std.specs.Prelude.{ℕ, ◌≡◌, ⊤, List, [], ◌∷◌, length, slice_get, Option, None, Some, ◌⊎◌, true}
 use Rattle.std.specs.List.{flat_map, AllByRecursion}
 use Rattle.cool_base.specs.declared.ids.ViewId.{ViewId}
@@ -7,8 +7,9 @@ use Rattle.cool_frame.specs.declared.frame.Frame.{Frame}
 use Rattle.cool_frame.specs.declared.frame.Frame.TheVariants.{Tile}
 use Rattle.document_laws.specs.Tiles.{IsShown}
 use Rattle.document_machine.specs.Event.{Event}
-use Rattle.document_machine.specs.Run.{Segment}
-use Rattle.document_machine.specs.State.{Document, opening}
+use Rattle.document_machine.specs.Goes.{Moves}
+use Rattle.document_machine.specs.Held.{Held, opening_held}
+use Rattle.document_machine.specs.Run.{Run}
 use Rattle.document_machine.specs.declared.outs.Outs.{Outs}
 use Rattle.kit_trait.specs.Rules.{Rules}
 use Rattle.tile_key.specs.Places.{Place}
@@ -45,30 +46,30 @@ IsSent links (Given link view frame) = slice_get links view.0 ≡ Some link
 abbrev pub AreSeated : (links : List ℕ) → (seats : List (ℕ × ℕ)) → Type 0
 AreSeated links seats = AllByRecursion (λ seat. slice_get links seat.1 ≡ Some seat.0) seats
 
--- The frames are all that one run of the document machine gave out, in order: from a document that was loaded from no
--- bytes to this one.
-pub record IsRun {C B S : Type 0} (rules : Rules C B) (cut : C → Place → S) (frames : List (ViewId × Frame)) (d : Document S) : Type 0 where
+-- The frames are all that one run of moves of the document machine gave out, in order: from a document that was loaded
+-- from no bytes, of which no tile is kept, to this one with the tiles kept of it.
+pub record IsRun {C B S : Type 0} (rules : Rules C B) (cut : C → Place → S) (frames : List (ViewId × Frame)) (held : Held S) : Type 0 where
   pub file : List ℕ
   pub events : List (Event S)
   pub outs : Outs S
   pub accepted : rules.accepts [] ≡ true
-  pub follows : Segment rules cut (opening file []) events outs d
+  pub follows : Run (Moves rules cut) (opening_held file []) events outs held
   pub frames_are : frames ≡ outs.frames
 
 -- where there is no document, there are no frames of one
-abbrev pub IsRunTo : {C B S : Type 0} → Rules C B → (C → Place → S) → List (ViewId × Frame) → Option (Document S) → Type 0
+abbrev pub IsRunTo : {C B S : Type 0} → Rules C B → (C → Place → S) → List (ViewId × Frame) → Option (Held S) → Type 0
 IsRunTo rules cut frames None = frames ≡ []
-IsRunTo rules cut frames (Some d) = IsRun rules cut frames d
+IsRunTo rules cut frames (Some held) = IsRun rules cut frames held
 
 -- how many views ever joined
-abbrev pub views_begun : {S : Type 0} → Option (Document S) → ℕ
+abbrev pub views_begun : {S : Type 0} → Option (Held S) → ℕ
 views_begun None = 0
-views_begun (Some d) = d.next_view
+views_begun (Some held) = held.document.next_view
 
 -- The bytes are the transcript of a world from its beginning on, to these seats and this document. They are records:
 -- answers in the lobby, and the frames that the document gave, each written to the link of its view. Those are, in order
--- and without any other, the frames of one run of the document machine to the document as it is now.
-pub record IsPlayed {C B S : Type 0} (rules : Rules C B) (cut : C → Place → S) (out : List ℕ) (seats : Seats) (document : Option (Document S)) : Type 0 where
+-- and without any other, the frames of one run of moves of the document machine to the document as it is now.
+pub record IsPlayed {C B S : Type 0} (rules : Rules C B) (cut : C → Place → S) (out : List ℕ) (seats : Seats) (document : Option (Held S)) : Type 0 where
   pub pieces : List Piece
   pub links : List ℕ
   pub written : out ≡ flat_map bytes_of pieces
@@ -84,11 +85,12 @@ IsNoTile _ = ⊤
 
 -- a frame of the document shows a prefix: if it is a tile, its pixels are those of the document after as many of the
 -- accepted inputs as its version says
-abbrev pub ShowsPrefix : {C B S : Type 0} → Rules C B → Option (Document S) → ViewId × Frame → Type 0
+abbrev pub ShowsPrefix : {C B S : Type 0} → Rules C B → Option (Held S) → ViewId × Frame → Type 0
 ShowsPrefix rules None given = ⊥
-ShowsPrefix rules (Some d) given = IsShown rules d.base d.journal (length d.journal) given
+ShowsPrefix rules (Some held) given =
+    IsShown rules held.document.base held.document.journal (length held.document.journal) given
 
 -- the same of a record; an answer in the lobby is no tile
-abbrev pub Shows : {C B S : Type 0} → Rules C B → Option (Document S) → Piece → Type 0
+abbrev pub Shows : {C B S : Type 0} → Rules C B → Option (Held S) → Piece → Type 0
 Shows rules document (Lobby link answer) = IsNoTile answer
 Shows rules document (Given link view frame) = ShowsPrefix rules document (view, frame)

@@ -8,7 +8,7 @@ use Rattle.std.specs.Ordering.{nat_cmp, is_eq, match_ordering}
 use Rattle.std.specs.declared.cmp.Ordering.{Ordering}
 use Rattle.std.specs.declared.cmp.Ordering.TheVariants.{Less, Equal, Greater}
 use Rattle.document_laws.proofs.Heard.{heard_is, keeps}
-use Rattle.document_laws.specs.AtOnce.{answered}
+use Rattle.document_laws.specs.AtOnce.{answered, stored}
 use Rattle.document_machine.specs.Due.{sent, takes}
 use Rattle.document_machine.specs.Keys.{Pairwise}
 use Rattle.document_machine.specs.Message.{Effect, heard}
@@ -18,6 +18,7 @@ use Rattle.document_machine.specs.Step.{Works, Paints, offered, views_offered}
 use Rattle.document_machine.specs.declared.outs.Outs.{Outs}
 use Rattle.kit_trait.specs.Rules.{Rules}
 use Rattle.kit_trait.specs.declared.jobs.PaintJob.{PaintJob}
+use Rattle.outside.specs.declared.errands.Errand.{Errand}
 use Rattle.tile_key.specs.Places.{Place}
 use Rattle.script_world.specs.House.{ids_of}
 use Rattle.script_world.specs.Seats.{link_in}
@@ -39,10 +40,13 @@ ids-heard {S} d id view e live same = ap (λ (x : Document S). ids_of x.views) (
 pub ids-works : {C B S : Type 0} (rules : Rules C B) (cut : C → Place → S) (old new : Document S) (outs : Outs S) → Works rules cut old outs new → ids_of new.views ≡ ids_of old.views
 ids-works {C} {B} {S} rules cut old new outs works =
     elim works [
-      | inl applies ↦ ap (λ (d : Document S). ids_of d.views) applies.new_is
-      | inr other ↦ elim other [
-        | inl sends ↦ ap (λ (d : Document S). ids_of d.views) sends.new_is ∙ ids-with_view old.views sends.view.id (sent rules old sends.version sends.key) (λ v. refl)
-        | inr cuts ↦ ap (λ (d : Document S). ids_of d.views) cuts.new_is
+      | inl serves ↦ ap (λ (d : Document S). ids_of d.views) serves.new_is
+      | inr more ↦ elim more [
+        | inl applies ↦ ap (λ (d : Document S). ids_of d.views) applies.new_is
+        | inr other ↦ elim other [
+          | inl sends ↦ ap (λ (d : Document S). ids_of d.views) sends.new_is ∙ ids-with_view old.views sends.view.id (sent rules old sends.version sends.key) (λ v. refl)
+          | inr cuts ↦ ap (λ (d : Document S). ids_of d.views) cuts.new_is
+        ]
       ]
     ]
 
@@ -72,10 +76,17 @@ ids-paints {C} {B} {S} rules old new ticket scene outs (Some job) paints =
       | inr taken ↦ ap (λ (d : Document S). ids_of d.views) taken.2 ∙ ids-offered rules old job.number job.keys old.views
     ]
 
-pub ids-answers : {C B S : Type 0} (rules : Rules C B) (cut : C → Place → S) (old new : Document S) (jobs : List (PaintJob S)) (outs : Outs S) → Segment rules cut old (map answered jobs) outs new → ids_of new.views ≡ ids_of old.views
-ids-answers {C} {B} {S} rules cut old new [] outs run = ap (λ (d : Document S). ids_of d.views) run.1
-ids-answers rules cut old new (job ∷ jobs) outs run =
-    ids-answers rules cut run.0 new jobs run.2 run.4 ∙ ids-paints rules old run.0 job.ticket.0 job.scene run.1 (find_job old.jobs job.ticket.0) run.3
+-- errands that are answered
+ids-stored : {C B S : Type 0} (rules : Rules C B) (cut : C → Place → S) (old new : Document S) (errands : List Errand) (outs : Outs S) → Segment rules cut old (map stored errands) outs new → ids_of new.views ≡ ids_of old.views
+ids-stored {C} {B} {S} rules cut old new [] outs run = ap (λ (d : Document S). ids_of d.views) run.1
+ids-stored {C} {B} {S} rules cut old new (errand ∷ errands) outs run =
+    ids-stored rules cut run.0 new errands run.2 run.4 ∙ ap (λ (d : Document S). ids_of d.views) run.3.1
+
+pub ids-answers : {C B S : Type 0} (rules : Rules C B) (cut : C → Place → S) (old new : Document S) (jobs : List (PaintJob S)) (errands : List Errand) (outs : Outs S)
+    → Segment rules cut old (map answered jobs ++ map stored errands) outs new → ids_of new.views ≡ ids_of old.views
+ids-answers rules cut old new [] errands outs run = ids-stored rules cut old new errands outs run
+ids-answers rules cut old new (job ∷ jobs) errands outs run =
+    ids-answers rules cut run.0 new jobs errands run.2 run.4 ∙ ids-paints rules old run.0 job.ticket.0 job.scene run.1 (find_job old.jobs job.ticket.0) run.3
 
 -- whether a view has a link
 abbrev pub HasLink : List (ℕ × ℕ) → ℕ → Type 0

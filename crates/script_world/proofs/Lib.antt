@@ -7,4 +7,5 @@ pub mod Housed
 pub mod Steps
 pub mod Rest
 pub mod Worlds
+pub mod Resting
 pub mod Once

@@ -4,15 +4,17 @@ use Rattle.std.proofs.Common.{◌≡◌, ◌∙◌, ◌⊎◌, ℕ, zero, suc, �
 use Rattle.std.specs.List.{AllByRecursion}
 use Rattle.cool_base.specs.declared.ids.ViewId.{ViewId}
 use Rattle.cool_frame.specs.declared.frame.Frame.{Frame}
-use Rattle.document_laws.proofs.Idle.{next_by}
-use Rattle.document_laws.specs.AtOnce.{answered, all_answered}
+use Rattle.document_laws.specs.AtOnce.{answered, all_answered, stored}
 use Rattle.document_laws.proofs.Views.{found_view}
 use Rattle.document_machine.specs.Due.{sent, tile_frame}
+use Rattle.document_machine.specs.Event.{Event, Painted}
+use Rattle.document_machine.specs.Goes.{DoesNext, Moves as MachineMoves, next_work}
+use Rattle.document_machine.specs.Held.{Held, KeepsPainted, KeptTile, current_version, opening_held}
 use Rattle.document_machine.specs.Message.{effect, reply, heard}
-use Rattle.document_machine.specs.Next.{Work, Apply, Send, Cut, Rest, none_kept, next_pair, serving_next, pick}
+use Rattle.document_machine.specs.Next.{Work, Serve, Apply, Send, Cut, Rest}
 use Rattle.document_machine.specs.Outputs.{frames_only, joined}
-use Rattle.document_machine.specs.Run.{Segment}
-use Rattle.document_machine.specs.State.{View, Job, Document, opening, find_view, with_view, find_job}
+use Rattle.document_machine.specs.Run.{Run}
+use Rattle.document_machine.specs.State.{View, Job, Document, find_view, with_view, find_job}
 use Rattle.send_window.specs.Tiles.{Sent}
 use Rattle.document_machine.specs.Step.{Does, Sends, Rests, Cuts, Paints, Says as MachineSays, JoinsWhere as MachineJoins, told, given}
 use Rattle.document_machine.specs.declared.limits.TheConstants.{MOST_VIEWS}
@@ -22,6 +24,7 @@ use Rattle.document_machine.specs.declared.rights.Rights.{Rights}
 use Rattle.kit_trait.specs.Rules.{Rules, doc}
 use Rattle.kit_trait.specs.declared.jobs.PaintJob.{PaintJob}
 use Rattle.kit_trait.specs.declared.values.Input.{Input}
+use Rattle.outside.specs.declared.errands.Errand.{Errand}
 use Rattle.tile_key.specs.Places.{Place, place_of_keys}
 use Rattle.script_world.specs.House.{House, rights, JoinsWhere, BeginsWhere, LoadsOne, LoadsWhere, seated, SaysAs, LeavesAs, TakesOne, TakesFirst, WorksAtOnce, TurnsDocument, PollTurn, wids_of, says_processed, acknowledgements_by, acknowledgements, IsHousedBy, IsHoused}
 use Rattle.script_world.specs.Seats.{Seats, is_waiting, sits, without, records}
@@ -29,38 +32,36 @@ use Rattle.script_world.specs.World.{Seen, Move, Turn, Acknowledge, Moves, Chain
 use Rattle.script_world.specs.declared.event.Waiting.{Waiting}
 use Rattle.script_world.specs.declared.event.Waiting.TheVariants.{Opened, Loads, Says, Gone}
 use Rattle.script_world.proofs.Housed.{Keeps, first_housed, poll_housed}
-
-none_behind : (n m : ℕ) → n ≡ m → nat_lt n m ≡ false
-none_behind n m is = grind arith
+use Rattle.script_world.proofs.Resting.{none_next}
 
 module _ {C B S : Type 0} (rules : Rules C B) (cut : C → Place → S) where
-  -- the one job of a key that a turn may cut
-  abbrev job_now : Document S → Place → Job S
-  job_now old key = record {
+  -- the one job of these keys that a turn may cut
+  abbrev job_now : Document S → List Place → Job S
+  job_now old keys = record {
     ticket = old.next_ticket;
     number = old.applied;
-    keys = key ∷ [];
-    area = place_of_keys (key ∷ []);
-    scene = cut (doc rules old.base old.journal old.applied) (place_of_keys (key ∷ []));
+    keys = keys;
+    area = place_of_keys keys;
+    scene = cut (doc rules old.base old.journal old.applied) (place_of_keys keys);
   }
 
-  same_job : (old : Document S) (key : Place) (job : Job S) → job.ticket ≡ old.next_ticket → job.number ≡ old.applied → job.keys ≡ key ∷ [] → job.area ≡ place_of_keys job.keys
-      → job.scene ≡ cut (doc rules old.base old.journal old.applied) job.area → job ≡ job_now old key
-  same_job old key job ticket number keys area scene =
-      let here : job.area ≡ place_of_keys (key ∷ []) = area ∙ ap place_of_keys keys in
-      let shows : job.scene ≡ (job_now old key).scene = scene ∙ ap (cut (doc rules old.base old.journal old.applied)) here in
+  same_job : (old : Document S) (keys : List Place) (job : Job S) → job.ticket ≡ old.next_ticket → job.number ≡ old.applied → job.keys ≡ keys → job.area ≡ place_of_keys job.keys
+      → job.scene ≡ cut (doc rules old.base old.journal old.applied) job.area → job ≡ job_now old keys
+  same_job old keys job ticket number keys_are area scene =
+      let here : job.area ≡ place_of_keys keys = area ∙ ap place_of_keys keys_are in
+      let shows : job.scene ≡ (job_now old keys).scene = scene ∙ ap (cut (doc rules old.base old.journal old.applied)) here in
       ap (λ (n : ℕ). record job { ticket = n }) ticket
       ∙ ap (λ (n : ℕ). record job { ticket = old.next_ticket; number = n }) number
-      ∙ ap (λ (ks : List Place). record job { ticket = old.next_ticket; number = old.applied; keys = ks }) keys
-      ∙ ap (λ (place : Place). record job { ticket = old.next_ticket; number = old.applied; keys = key ∷ []; area = place }) here
-      ∙ ap (λ (s : S). record (job_now old key) { scene = s }) shows
+      ∙ ap (λ (ks : List Place). record job { ticket = old.next_ticket; number = old.applied; keys = ks }) keys_are
+      ∙ ap (λ (place : Place). record job { ticket = old.next_ticket; number = old.applied; keys = keys; area = place }) here
+      ∙ ap (λ (s : S). record (job_now old keys) { scene = s }) shows
 
-  cuts_once : (old new : Document S) (outs : Outs S) (key : Place) (cuts : Cuts rules cut old outs new) → cuts.job.keys ≡ key ∷ []
-      → (outs ≡ record { frames = []; jobs = given (job_now old key) ∷ [] })
-      × (new ≡ record old { jobs = old.jobs ++ job_now old key ∷ []; next_ticket = old.next_ticket + 1 })
-  cuts_once old new outs key cuts keys =
-      let same = same_job old key cuts.job cuts.ticket_is cuts.number_is keys cuts.area_is cuts.scene_is in (
-        cuts.outs_are ∙ ap (λ (j : Job S). record { frames = []; jobs = given j ∷ [] }) same,
+  cuts_once : (old new : Document S) (outs : Outs S) (keys : List Place) (cuts : Cuts rules cut old outs new) → cuts.job.keys ≡ keys
+      → (outs ≡ record { frames = []; jobs = given (job_now old keys) ∷ []; errands = [] })
+      × (new ≡ record old { jobs = old.jobs ++ job_now old keys ∷ []; next_ticket = old.next_ticket + 1 })
+  cuts_once old new outs keys cuts are =
+      let same = same_job old keys cuts.job cuts.ticket_is cuts.number_is are cuts.area_is cuts.scene_is in (
+        cuts.outs_are ∙ ap (λ (j : Job S). record { frames = []; jobs = given j ∷ []; errands = [] }) same,
         cuts.new_is ∙ ap (λ (j : Job S). record old { jobs = old.jobs ++ j ∷ []; next_ticket = old.next_ticket + 1 }) same,
       )
 
@@ -81,6 +82,7 @@ module _ {C B S : Type 0} (rules : Rules C B) (cut : C → Place → S) where
 
   -- what one work gives out, and the document after it
   does_once : (work : Work) (old new other : Document S) (outs others : Outs S) → Does rules cut old work (Worked outs) new → Does rules cut old work (Worked others) other → (outs ≡ others) × (new ≡ other)
+  does_once Serve old new other outs others a b = (a.outs_are ∙ sym b.outs_are, a.new_is ∙ sym b.new_is)
   does_once Apply old new other outs others a b =
       let some : Some a.input ≡ Some b.input = sym a.behind ∙ b.behind in
       let same : a.input ≡ b.input = cc in (
@@ -92,9 +94,9 @@ module _ {C B S : Type 0} (rules : Rules C B) (cut : C → Place → S) where
       let one = sends_once old new outs id key version a.0.view a.0 a.1 a.2 a.3 live in
       let two = sends_once old other others id key version a.0.view b.0 b.1 b.2 b.3 live in
       (one.0 ∙ sym two.0, one.1 ∙ sym two.1)
-  does_once (Cut id key) old new other outs others a b =
-      let one = cuts_once old new outs key a.0 a.1 in
-      let two = cuts_once old other others key b.0 b.1 in
+  does_once (Cut id keys) old new other outs others a b =
+      let one = cuts_once old new outs keys a.0 a.1 in
+      let two = cuts_once old other others keys b.0 b.1 in
       (one.0 ∙ sym two.0, one.1 ∙ sym two.1)
   does_once Rest old new other outs others a b = absurd a
 
@@ -107,42 +109,86 @@ module _ {C B S : Type 0} (rules : Rules C B) (cut : C → Place → S) where
         | inr x ↦ elim b [ inl y ↦ absurd (y.0 x.0) | inr y ↦ (x.1 ∙ sym y.1, x.2 ∙ sym y.2) ]
       ]
 
-  answers_once : (jobs : List (PaintJob S)) (old new other : Document S) (outs others : Outs S) → Segment rules cut old (map answered jobs) outs new → Segment rules cut old (map answered jobs) others other → (outs ≡ others) × (new ≡ other)
-  answers_once [] old new other outs others a b = (a.0 ∙ sym b.0, a.1 ∙ sym b.1)
-  answers_once (job ∷ jobs) old new other outs others a b =
-      let one = paints_once old a.0 b.0 job.ticket.0 job.scene a.1 b.1 (find_job old.jobs job.ticket.0) a.3 b.3 in
-      let run : Segment rules cut a.0 (map answered jobs) b.2 other = subst (λ (d : Document S). Segment rules cut d (map answered jobs) b.2 other) (sym one.1) b.4 in
-      let more = answers_once jobs a.0 new other a.2 b.2 a.4 run in
-      (a.5 ∙ ap (λ (o : Outs S). joined o a.2) one.0 ∙ ap (λ (o : Outs S). joined b.1 o) more.0 ∙ sym b.5, more.1)
+  same_held : (a b : Held S) → a.document ≡ b.document → a.kept ≡ b.kept → a ≡ b
+  same_held a b document kept =
+      ap (λ (d : Document S). record { document = d; kept = a.kept }) document ∙ ap (λ (tiles : List KeptTile). record { document = b.document; kept = tiles }) kept
 
-  works_once : (old new other : Document S) (frames others : List (ViewId × Frame)) → WorksAtOnce rules cut old frames new → WorksAtOnce rules cut old others other → (frames ≡ others) × (new ≡ other)
+  keeps_once : (old : Held S) (scene : S) (tiles more : List KeptTile) (job : Option (Job S)) → KeepsPainted rules old scene tiles job → KeepsPainted rules old scene more job → tiles ≡ more
+  keeps_once old scene tiles more None a b = a ∙ sym b
+  keeps_once old scene tiles more (Some job) a b =
+      elim a [
+        | inl x ↦ elim b [ inl y ↦ x.1 ∙ sym y.1 | inr y ↦ absurd (x.0 y.0) ]
+        | inr x ↦ elim b [ inl y ↦ absurd (y.0 x.0) | inr y ↦ x.1 ∙ sym y.1 ]
+      ]
+
+  -- a job that comes back, and an errand that is answered
+  painted_once : (old new other : Held S) (ticket : ℕ) (scene : S) (outs others : Outs S) → MachineMoves rules cut old (Painted ticket scene) outs new → MachineMoves rules cut old (Painted ticket scene) others other → (outs ≡ others) × (new ≡ other)
+  painted_once old new other ticket scene outs others a b =
+      let job : Option (Job S) = find_job old.document.jobs ticket in
+      let same = paints_once old.document new.document other.document ticket scene outs others job a.0 b.0 in
+      (same.0, same_held new other same.1 (keeps_once old scene new.kept other.kept job a.1 b.1))
+
+  stored_once : (old new other : Held S) (errand : Errand) (outs others : Outs S) → MachineMoves rules cut old (stored errand) outs new → MachineMoves rules cut old (stored errand) others other → (outs ≡ others) × (new ≡ other)
+  stored_once old new other errand outs others a b = (a.0.0 ∙ sym b.0.0, same_held new other (a.0.1 ∙ sym b.0.1) (a.1 ∙ sym b.1))
+
+  -- one event, and then the others
+  runs_once : (event : Event S) (events : List (Event S)) (old new other : Held S) (outs others : Outs S)
+      → ((mid too : Held S) (here there : Outs S) → MachineMoves rules cut old event here mid → MachineMoves rules cut old event there too → (here ≡ there) × (mid ≡ too))
+      → ((mid : Held S) (later more : Outs S) → Run (MachineMoves rules cut) mid events later new → Run (MachineMoves rules cut) mid events more other → (later ≡ more) × (new ≡ other))
+      → Run (MachineMoves rules cut) old (event ∷ events) outs new → Run (MachineMoves rules cut) old (event ∷ events) others other → (outs ≡ others) × (new ≡ other)
+  runs_once event events old new other outs others one rest a b =
+      let same = one a.0 b.0 a.1 b.1 a.3 b.3 in
+      let run : Run (MachineMoves rules cut) a.0 events b.2 other = subst (λ (x : Held S). Run (MachineMoves rules cut) x events b.2 other) (sym same.1) b.4 in
+      let more = rest a.0 a.2 b.2 a.4 run in
+      (a.5 ∙ ap (λ (o : Outs S). joined o a.2) same.0 ∙ ap (λ (o : Outs S). joined b.1 o) more.0 ∙ sym b.5, more.1)
+
+  stores_once : (errands : List Errand) (old new other : Held S) (outs others : Outs S) → Run (MachineMoves rules cut) old (map stored errands) outs new → Run (MachineMoves rules cut) old (map stored errands) others other → (outs ≡ others) × (new ≡ other)
+  stores_once [] old new other outs others a b = (a.0 ∙ sym b.0, a.1 ∙ sym b.1)
+  stores_once (errand ∷ errands) old new other outs others a b =
+      runs_once (stored errand) (map stored errands) old new other outs others
+      (λ mid too here there one two. stored_once old mid too errand here there one two)
+      (λ mid later more one two. stores_once errands mid new other later more one two) a b
+
+  answers_once : (jobs : List (PaintJob S)) (errands : List Errand) (old new other : Held S) (outs others : Outs S)
+      → Run (MachineMoves rules cut) old (map answered jobs ++ map stored errands) outs new → Run (MachineMoves rules cut) old (map answered jobs ++ map stored errands) others other → (outs ≡ others) × (new ≡ other)
+  answers_once [] errands old new other outs others a b = stores_once errands old new other outs others a b
+  answers_once (job ∷ jobs) errands old new other outs others a b =
+      runs_once (answered job) (map answered jobs ++ map stored errands) old new other outs others
+      (λ mid too here there one two. painted_once old mid too job.ticket.0 job.scene here there one two)
+      (λ mid later more one two. answers_once jobs errands mid new other later more one two) a b
+
+  -- the work that is next
+  next_once : (old new other : Held S) (outs others : Outs S) → DoesNext rules cut old (Worked outs) new → DoesNext rules cut old (Worked others) other → (outs ≡ others) × (new ≡ other)
+  next_once old new other outs others a b =
+      let same = does_once (next_work rules old) old.document new.document other.document outs others a.0 b.0 in
+      (same.0, same_held new other same.1 (a.1 ∙ sym b.1))
+
+  works_once : (old new other : Held S) (frames others : List (ViewId × Frame)) → WorksAtOnce rules cut old frames new → WorksAtOnce rules cut old others other → (frames ≡ others) × (new ≡ other)
   works_once old new other frames others a b =
-      let one = does_once (pick rules none_kept old) old a.mid b.mid a.first b.first a.does b.does in
-      let at : Segment rules cut a.mid (all_answered b.first) b.later other = subst (λ (d : Document S). Segment rules cut d (all_answered b.first) b.later other) (sym one.1) b.answered in
-      let run : Segment rules cut a.mid (all_answered a.first) b.later other = subst (λ (o : Outs S). Segment rules cut a.mid (all_answered o) b.later other) (sym one.0) at in
-      let more = answers_once a.first.jobs a.mid new other a.later b.later a.answered run in (
+      let one = next_once old a.mid b.mid a.first b.first a.does b.does in
+      let at : Run (MachineMoves rules cut) a.mid (all_answered b.first) b.later other = subst (λ (x : Held S). Run (MachineMoves rules cut) x (all_answered b.first) b.later other) (sym one.1) b.answered in
+      let run : Run (MachineMoves rules cut) a.mid (all_answered a.first) b.later other = subst (λ (o : Outs S). Run (MachineMoves rules cut) a.mid (all_answered o) b.later other) (sym one.0) at in
+      let more = answers_once a.first.jobs a.first.errands a.mid new other a.later b.later a.answered run in (
         a.frames_are ∙ ap (λ (o : Outs S). o.frames ++ a.later.frames) one.0 ∙ ap (λ (o : Outs S). b.first.frames ++ o.frames) more.0 ∙ sym b.frames_are,
         more.1,
       )
 
   -- a turn that does a work isn't one with nothing to do
-  work_or_rest : (old new : Document S) (frames : List (ViewId × Frame)) → WorksAtOnce rules cut old frames new → Rests rules old → ⊥
-  work_or_rest old new frames work rests =
-      let all : nat_lt old.applied (length old.journal) ≡ false = none_behind old.applied (length old.journal) rests.level in
-      let is : pick rules none_kept old ≡ Rest =
-      ap (λ (b : Bool). cond b Apply (serving_next none_kept (next_pair rules none_kept old))) all ∙ ap (serving_next none_kept) (next_by rules old rests) in
-      subst (λ (w : Work). Does rules cut old w (Worked work.first) work.mid) is work.does
+  work_or_rest : (old new : Held S) (frames : List (ViewId × Frame)) → old.document.jobs ≡ [] → WorksAtOnce rules cut old frames new → Rests rules old.document → ⊥
+  work_or_rest old new frames free work rests =
+      let is : next_work rules old ≡ Rest = none_next rules (current_version rules old) old.document free rests in
+      subst (λ (w : Work). Does rules cut old.document w (Worked work.first) work.mid.document) is work.does.0
 
   -- a turn of the document
-  document_once : (seats : Seats) (old : Option (Document S)) (out others : List ℕ) (worked too : Bool) (new other : Option (Document S))
+  document_once : (seats : Seats) (old : Option (Held S)) (out others : List ℕ) (worked too : Bool) (new other : Option (Held S))
       → IsHousedBy rules cut seats old → TurnsDocument rules cut seats old out worked new → TurnsDocument rules cut seats old others too other
       → (out ≡ others) × (worked ≡ too) × (new ≡ other)
   document_once seats None out others worked too new other housed a b = (a.0 ∙ sym b.0, a.1 ∙ sym b.1, a.2 ∙ sym b.2)
   document_once seats (Some d) out others true true new other housed a b =
       let same = works_once d a.0 b.0 a.1 b.1 a.2 b.2 in
       (a.3 ∙ ap (records seats) same.0 ∙ sym b.3, refl, a.4 ∙ ap Some same.1 ∙ sym b.4)
-  document_once seats (Some d) out others true false new other housed a b = absurd (work_or_rest d a.0 a.1 a.2 b.1)
-  document_once seats (Some d) out others false true new other housed a b = absurd (work_or_rest d b.0 b.1 b.2 a.1)
+  document_once seats (Some d) out others true false new other housed a b = absurd (work_or_rest d a.0 a.1 housed.none_out a.2 b.1)
+  document_once seats (Some d) out others false true new other housed a b = absurd (work_or_rest d b.0 b.1 housed.none_out b.2 a.1)
   document_once seats (Some d) out others false false new other housed a b = (a.0 ∙ sym b.0, refl, a.2 ∙ sym b.2)
 
   -- an event
@@ -150,24 +196,25 @@ module _ {C B S : Type 0} (rules : Rules C B) (cut : C → Place → S) where
   machine_joins_once true old new other given outs others a b = (a.0 ∙ sym b.0, a.1 ∙ sym b.1)
   machine_joins_once false old new other given outs others a b = (a.0 ∙ sym b.0, a.1 ∙ sym b.1)
 
-  joins_once : (b : Bool) (seats : Seats) (link : ℕ) (given : Rights) (old : Document S) (out others : List ℕ) (new other : House S)
+  joins_once : (b : Bool) (seats : Seats) (link : ℕ) (given : Rights) (old : Held S) (out others : List ℕ) (new other : House S)
       → JoinsWhere b rules cut seats link given old out new → JoinsWhere b rules cut seats link given old others other → (out ≡ others) × (new ≡ other)
   joins_once true seats link given old out others new other a b =
-      let same = machine_joins_once (nat_lt (length old.views) MOST_VIEWS) old a.0 b.0 given a.1 b.1 a.2 b.2 in (
-        a.4 ∙ ap (λ (o : Outs S). records (sits seats link old.next_view) o.frames) same.0 ∙ sym b.4,
-        a.3 ∙ ap (λ (d : Document S). record { seats = sits seats link old.next_view; document = Some d }) same.1 ∙ sym b.3,
+      let same = machine_joins_once (nat_lt (length old.document.views) MOST_VIEWS) old.document a.0.document b.0.document given a.1 b.1 a.2.0 b.2.0 in
+      let held : a.0 ≡ b.0 = same_held a.0 b.0 same.1 (a.2.1 ∙ sym b.2.1) in (
+        a.4 ∙ ap (λ (o : Outs S). records (sits seats link old.document.next_view) o.frames) same.0 ∙ sym b.4,
+        a.3 ∙ ap (λ (x : Held S). record { seats = sits seats link old.document.next_view; document = Some x }) held ∙ sym b.3,
       )
   joins_once false seats link given old out others new other a b = (a.0 ∙ sym b.0, a.1 ∙ sym b.1)
 
   begins_once : (b : Bool) (seats : Seats) (link : ℕ) (file : List ℕ) (given : Rights) (out others : List ℕ) (new other : House S)
       → BeginsWhere b rules cut seats link file given out new → BeginsWhere b rules cut seats link file given others other → (out ≡ others) × (new ≡ other)
-  begins_once true seats link file given out others new other a b = joins_once true seats link given (opening file []) out others new other a b
+  begins_once true seats link file given out others new other a b = joins_once true seats link given (opening_held file []) out others new other a b
   begins_once false seats link file given out others new other a b = (a.0 ∙ sym b.0, a.1 ∙ sym b.1)
 
-  loads_once : (document : Option (Document S)) (seats : Seats) (link : ℕ) (file : List ℕ) (given : Rights) (out others : List ℕ) (new other : House S)
+  loads_once : (document : Option (Held S)) (seats : Seats) (link : ℕ) (file : List ℕ) (given : Rights) (out others : List ℕ) (new other : House S)
       → LoadsOne rules cut seats document link file given out new → LoadsOne rules cut seats document link file given others other → (out ≡ others) × (new ≡ other)
   loads_once None seats link file given out others new other a b = begins_once (rules.accepts []) seats link file given out others new other a b
-  loads_once (Some d) seats link file given out others new other a b = joins_once (nat_lt (length d.views) MOST_VIEWS) seats link given d out others new other a b
+  loads_once (Some d) seats link file given out others new other a b = joins_once (nat_lt (length d.document.views) MOST_VIEWS) seats link given d out others new other a b
 
   load_once : (b : Bool) (old : House S) (link : ℕ) (file : List ℕ) (given : Rights) (out others : List ℕ) (new other : House S)
       → LoadsWhere b rules cut old link file given out new → LoadsWhere b rules cut old link file given others other → (out ≡ others) × (new ≡ other)
@@ -182,21 +229,22 @@ module _ {C B S : Type 0} (rules : Rules C B) (cut : C → Place → S) where
         a.new_is ∙ ap (λ (v : View). heard old id (effect rules old v text)) same ∙ sym b.new_is,
       )
 
-  says_once : (old : House S) (link : ℕ) (text : List ℕ) (found : Option (Document S × ℕ)) (out others : List ℕ) (new other : House S)
+  says_once : (old : House S) (link : ℕ) (text : List ℕ) (found : Option (Held S × ℕ)) (out others : List ℕ) (new other : House S)
       → SaysAs rules cut old link text found out new → SaysAs rules cut old link text found others other → (out ≡ others) × (new ≡ other)
   says_once old link text None out others new other a b = (a.0 ∙ sym b.0, a.1 ∙ sym b.1)
   says_once old link text (Some seat) out others new other a b =
-      let same = machine_says_once seat.0 a.0 b.0 seat.1 text a.1 b.1 a.2 b.2 in (
+      let same = machine_says_once seat.0.document a.0.document b.0.document seat.1 text a.1 b.1 a.2.0 b.2.0 in
+      let held : a.0 ≡ b.0 = same_held a.0 b.0 same.1 (a.2.1 ∙ sym b.2.1) in (
         a.4 ∙ ap (λ (o : Outs S). records old.seats o.frames) same.0 ∙ sym b.4,
-        a.3 ∙ ap (λ (d : Document S). record old { document = Some d }) same.1 ∙ sym b.3,
+        a.3 ∙ ap (λ (x : Held S). record old { document = Some x }) held ∙ sym b.3,
       )
 
-  leaves_once : (old : House S) (link : ℕ) (found : Option (Document S × ℕ)) (out others : List ℕ) (new other : House S)
+  leaves_once : (old : House S) (link : ℕ) (found : Option (Held S × ℕ)) (out others : List ℕ) (new other : House S)
       → LeavesAs rules cut old link found out new → LeavesAs rules cut old link found others other → (out ≡ others) × (new ≡ other)
   leaves_once old link None out others new other a b = (a.0 ∙ sym b.0, a.1 ∙ sym b.1)
   leaves_once old link (Some seat) out others new other a b =
-      let same : a.0 ≡ b.0 = a.1.1 ∙ sym b.1.1 in
-      (a.2 ∙ sym b.2, a.3 ∙ ap (λ (d : Document S). record { seats = without old.seats link; document = Some d }) same ∙ sym b.3)
+      let same : a.0 ≡ b.0 = same_held a.0 b.0 (a.1.0.1 ∙ sym b.1.0.1) (a.1.1 ∙ sym b.1.1) in
+      (a.2 ∙ sym b.2, a.3 ∙ ap (λ (x : Held S). record { seats = without old.seats link; document = Some x }) same ∙ sym b.3)
 
   takes_once : (event : Waiting) (old : House S) (out others : List ℕ) (new other : House S)
       → TakesOne rules cut event old out new → TakesOne rules cut event old others other → (out ≡ others) × (new ≡ other)
@@ -214,7 +262,7 @@ module _ {C B S : Type 0} (rules : Rules C B) (cut : C → Place → S) where
 
   same_house : (a b : House S) → a.seats ≡ b.seats → a.document ≡ b.document → a ≡ b
   same_house a b seats document =
-      ap (λ (s : Seats). record { seats = s; document = a.document }) seats ∙ ap (λ (d : Option (Document S)). record { seats = b.seats; document = d }) document
+      ap (λ (s : Seats). record { seats = s; document = a.document }) seats ∙ ap (λ (d : Option (Held S)). record { seats = b.seats; document = d }) document
 
   -- a poll turn
   poll_once : (keeps : Keeps rules cut) (waiting : List Waiting) (old : House S) (out others : List ℕ) (worked too : Bool) (rest more : List Waiting) (new other : House S)
@@ -233,10 +281,10 @@ module _ {C B S : Type 0} (rules : Rules C B) (cut : C → Place → S) where
       )
 
   -- where nothing waits and the document rests, no poll turn works
-  no_work : (seats : Seats) (document : Option (Document S)) (out : List ℕ) (worked : Bool) (new : Option (Document S))
+  no_work : (seats : Seats) (document : Option (Held S)) (out : List ℕ) (worked : Bool) (new : Option (Held S))
       → IsHousedBy rules cut seats document → RestsNow rules document → TurnsDocument rules cut seats document out worked new → worked ≡ true → ⊥
   no_work seats None out worked new housed rests turn works = let odd : false ≡ true = sym turn.1 ∙ works in absurd (cc)
-  no_work seats (Some d) out true new housed rests turn works = work_or_rest d turn.0 turn.1 turn.2 rests
+  no_work seats (Some d) out true new housed rests turn works = work_or_rest d turn.0 turn.1 housed.none_out turn.2 rests
   no_work seats (Some d) out false new housed rests turn works = absurd (cc)
 
   still : (waiting : List Waiting) (old : House S) (out : List ℕ) (rest : List Waiting) (new : House S)
@@ -251,20 +299,20 @@ module _ {C B S : Type 0} (rules : Rules C B) (cut : C → Place → S) where
   empty_window d id None empty is = refl
   empty_window d id (Some view) empty is = ap (λ (w : List Sent). map (λ (tile : Sent). tile.wid) w) (found_view (λ (v : View). v.window ≡ []) d.views id view empty is)
 
-  none_acknowledge : (d : Document S) (seats : List (ℕ × ℕ)) → AllByRecursion (λ (v : View). v.window ≡ []) d.views → acknowledgements_by (Some d) seats ≡ []
+  none_acknowledge : (d : Held S) (seats : List (ℕ × ℕ)) → AllByRecursion (λ (v : View). v.window ≡ []) d.document.views → acknowledgements_by (Some d) seats ≡ []
   none_acknowledge d [] empty = refl
   none_acknowledge d (seat ∷ seats) empty =
-      ap (λ (wids : List ℕ). says_processed seat.0 wids ++ acknowledgements_by (Some d) seats) (empty_window d seat.1 (find_view d.views seat.1) empty refl) ∙ none_acknowledge d seats empty
+      ap (λ (wids : List ℕ). says_processed seat.0 wids ++ acknowledgements_by (Some d) seats) (empty_window d.document seat.1 (find_view d.document.views seat.1) empty refl) ∙ none_acknowledge d seats empty
 
   nobody_acknowledges : (seats : List (ℕ × ℕ)) → acknowledgements_by {S = S} None seats ≡ []
   nobody_acknowledges [] = refl
   nobody_acknowledges (seat ∷ seats) = nobody_acknowledges seats
 
-  rest_is_silent : (document : Option (Document S)) (seats : List (ℕ × ℕ)) → IsAtRest rules document → acknowledgements_by document seats ≡ []
+  rest_is_silent : (document : Option (Held S)) (seats : List (ℕ × ℕ)) → IsAtRest rules document → acknowledgements_by document seats ≡ []
   rest_is_silent None seats rest = nobody_acknowledges seats
   rest_is_silent (Some d) seats rest = none_acknowledge d seats rest.0.empty
 
-  rest_is_idle : (document : Option (Document S)) → IsAtRest rules document → RestsNow rules document
+  rest_is_idle : (document : Option (Held S)) → IsAtRest rules document → RestsNow rules document
   rest_is_idle None rest = tt
   rest_is_idle (Some d) rest = rest.0.rests
 

@@ -17,6 +17,7 @@ use Rattle.cool_message.specs.declared.message.ClientMessage.TheVariants.{TilePr
 use Rattle.document_laws.proofs.Acknowledged.{written_read, said_lowers}
 use Rattle.document_laws.specs.AtOnce.{numbers, IsAcknowledged}
 use Rattle.document_laws.proofs.Views.{found_view}
+use Rattle.document_machine.specs.Held.{Held}
 use Rattle.document_machine.specs.Keys.{Pairwise}
 use Rattle.document_machine.specs.Kept.{IsViewKept}
 use Rattle.document_machine.specs.Quiet.{IsQuiet, AllRight}
@@ -54,26 +55,26 @@ window_read {C} {B} {S} rules d id (Some view) wid wids kept is has small =
     let few : length view.window ≤ 64 = (found_view (IsViewKept rules d) d.views id view kept is).window_few in
     subst (λ (w : List ℕ). reading (written (TileProcessed w)) ≡ Ok (TileProcessed w)) has (written_read rules d view (some_window view wid wids has) few small)
 
-seat_acks : {C B S : Type 0} (rules : Rules C B) (cut : C → Place → S) (document : Option (Document S)) (seats : Seats) (link id : ℕ) (wids : List ℕ) → IsHousedBy rules cut seats document → window_in document id ≡ wids
+seat_acks : {C B S : Type 0} (rules : Rules C B) (cut : C → Place → S) (document : Option (Held S)) (seats : Seats) (link id : ℕ) (wids : List ℕ) → IsHousedBy rules cut seats document → window_in document id ≡ wids
     → AllByRecursion (λ (n : ℕ). n < 2 ^ 64) (window_in document id) → AllAcknowledge (says_processed link wids)
 seat_acks rules cut document seats link id [] housed is small = tt
 seat_acks rules cut None seats link id (wid ∷ wids) housed is small = absurd (cc)
-seat_acks rules cut (Some d) seats link id (wid ∷ wids) housed is small =
-    ((wid ∷ wids, window_read rules d id (find_view d.views id) wid wids housed.kept.each refl is small), tt)
+seat_acks rules cut (Some held) seats link id (wid ∷ wids) housed is small =
+    ((wid ∷ wids, window_read rules held.document id (find_view held.document.views id) wid wids housed.kept.document.each refl is small), tt)
 
 acks_append : (a b : List Waiting) → AllAcknowledge a → AllAcknowledge b → AllAcknowledge (a ++ b)
 acks_append [] b one other = other
 acks_append (x ∷ a) b one other = (one.0, acks_append a b one.1 other)
 
 -- all of them are acknowledgements
-pub all_acks : {C B S : Type 0} (rules : Rules C B) (cut : C → Place → S) (document : Option (Document S)) (seats : Seats) (views : List (ℕ × ℕ)) → IsHousedBy rules cut seats document → AreSmall document views → AllAcknowledge (acknowledgements_by document views)
+pub all_acks : {C B S : Type 0} (rules : Rules C B) (cut : C → Place → S) (document : Option (Held S)) (seats : Seats) (views : List (ℕ × ℕ)) → IsHousedBy rules cut seats document → AreSmall document views → AllAcknowledge (acknowledgements_by document views)
 all_acks rules cut document seats [] housed small = tt
 all_acks rules cut document seats (seat ∷ views) housed small =
     acks_append (says_processed seat.0 (window_in document seat.1)) (acknowledgements_by document views)
     (seat_acks rules cut document seats seat.0 seat.1 (window_in document seat.1) housed refl small.0) (all_acks rules cut document seats views housed small.1)
 
 -- the first of them: its link is a view with an unacknowledged tile
-pub record IsFirst {S : Type 0} (document : Option (Document S)) (views : List (ℕ × ℕ)) (event : Waiting) : Type 1 where
+pub record IsFirst {S : Type 0} (document : Option (Held S)) (views : List (ℕ × ℕ)) (event : Waiting) : Type 1 where
   pub link : ℕ
   pub id : ℕ
   pub wid : ℕ
@@ -103,7 +104,7 @@ first_at link id views = subst (λ (o : Ordering). cond (is_eq o) (Some id) (loo
 later_at : (link other id found : ℕ) (views : List (ℕ × ℕ)) → is_eq (nat_cmp link other) ≡ false → lookup (is_at (nat_cmp link)) views ≡ Some found → lookup (is_at (nat_cmp link)) ((other, id) ∷ views) ≡ Some found
 later_at link other id found views apart at = subst (λ (b : Bool). cond b (Some id) (lookup (is_at (nat_cmp link)) views) ≡ Some found) (sym apart) at
 
-first_by : {S : Type 0} (document : Option (Document S)) (seat : ℕ × ℕ) (views : List (ℕ × ℕ)) (wids : List ℕ) (event : Waiting) (events : List Waiting)
+first_by : {S : Type 0} (document : Option (Held S)) (seat : ℕ × ℕ) (views : List (ℕ × ℕ)) (wids : List ℕ) (event : Waiting) (events : List Waiting)
     → window_in document seat.1 ≡ wids → AllByRecursion (λ (n : ℕ). n < 2 ^ 64) (window_in document seat.1) → IsStrictlySortedBy nat_cmp (map (λ (e : ℕ × ℕ). e.0) (seat ∷ views))
     → (acknowledgements_by document views ≡ event ∷ events → IsFirst document views event)
     → says_processed seat.0 wids ++ acknowledgements_by document views ≡ event ∷ events → IsFirst document (seat ∷ views) event
@@ -133,7 +134,7 @@ first_by document seat views (wid ∷ wids) event events is small sorted further
       among = λ P all_of. all_of.0;
     }
 
-pub first_of_all : {S : Type 0} (document : Option (Document S)) (views : List (ℕ × ℕ)) (event : Waiting) (events : List Waiting)
+pub first_of_all : {S : Type 0} (document : Option (Held S)) (views : List (ℕ × ℕ)) (event : Waiting) (events : List Waiting)
     → AreSmall document views → IsStrictlySortedBy nat_cmp (map (λ (e : ℕ × ℕ). e.0) views) → acknowledgements_by document views ≡ event ∷ events → IsFirst document views event
 first_of_all document [] event events small sorted all = absurd (cc)
 first_of_all document (seat ∷ views) event events small sorted all =
@@ -150,29 +151,30 @@ has_tiles : {S : Type 0} (d : Document S) (id : ℕ) (found : Option View) (wid 
 has_tiles d id None wid wids is has = absurd (cc)
 has_tiles d id (Some view) wid wids is has = record { view = view; live = is; window = has }
 
-seated_is : {S : Type 0} (d : Document S) (id : ℕ) (view : View) → find_view d.views id ≡ Some view → seated_at (Some d) (Some id) ≡ Some (d, id)
-seated_is {S} d id view live =
-    let f : Bool → Option (Document S × ℕ) = λ b. cond b (Some (d, id)) None in
+seated_is : {S : Type 0} (held : Held S) (id : ℕ) (view : View) → find_view held.document.views id ≡ Some view → seated_at (Some held) (Some id) ≡ Some (held, id)
+seated_is {S} held id view live =
+    let f : Bool → Option (Held S × ℕ) = λ b. cond b (Some (held, id)) None in
     ap f (ap is_some live)
 
 -- the first acknowledgement leaves less to do
-first_less : {C B S : Type 0} (rules : Rules C B) (cut : C → Place → S) (old : House S) (document : Option (Document S)) (event : Waiting) (out : List ℕ) (new : House S)
+first_less : {C B S : Type 0} (rules : Rules C B) (cut : C → Place → S) (old : House S) (document : Option (Held S)) (event : Waiting) (out : List ℕ) (new : House S)
     → old.document ≡ document → IsHousedBy rules cut old.seats document → IsFirst document old.seats.views event → TakesOne rules cut event old out new → left_of rules new.document < left_of rules document
 first_less rules cut old None event out new is housed first takes = let odd : [] ≡ first.wid ∷ first.wids = first.window in absurd (cc)
-first_less {C} {B} {S} rules cut old (Some d) event out new is housed first takes =
+first_less {C} {B} {S} rules cut old (Some held) event out new is housed first takes =
+    let d : Document S = held.document in
     let tiles = has_tiles d first.id (find_view d.views first.id) first.wid first.wids refl first.window in
     let text : List ℕ = written (TileProcessed (first.wid ∷ first.wids)) in
     let says : SaysAs rules cut old first.link text (seated old first.link) out new = subst (λ (e : Waiting). TakesOne rules cut e old out new) first.is takes in
-    let found : seated old first.link ≡ Some (d, first.id) =
-    ap (λ (o : Option (Document S)). seated_at o (view_of old.seats first.link)) is ∙ ap (λ (v : Option ℕ). seated_at (Some d) v) first.at ∙ seated_is d first.id tiles.view tiles.live in
-    let said : SaysAs rules cut old first.link text (Some (d, first.id)) out new = subst (λ (f : Option (Document S × ℕ)). SaysAs rules cut old first.link text f out new) found says in
+    let found : seated old first.link ≡ Some (held, first.id) =
+    ap (λ (o : Option (Held S)). seated_at o (view_of old.seats first.link)) is ∙ ap (λ (v : Option ℕ). seated_at (Some held) v) first.at ∙ seated_is held first.id tiles.view tiles.live in
+    let said : SaysAs rules cut old first.link text (Some (held, first.id)) out new = subst (λ (f : Option (Held S × ℕ)). SaysAs rules cut old first.link text f out new) found says in
     let some : tiles.view.window ≢ [] = some_window tiles.view first.wid first.wids tiles.window in
     let read : reading text ≡ Ok (TileProcessed (numbers tiles.view)) =
-    window_read rules d first.id (find_view d.views first.id) first.wid first.wids housed.kept.each refl first.window first.small
+    window_read rules d first.id (find_view d.views first.id) first.wid first.wids housed.kept.document.each refl first.window first.small
     ∙ ap (λ (w : List ℕ). Ok (TileProcessed w)) (sym tiles.window) in
-    let gone : IsAcknowledged rules d first.id tiles.view said.1 said.0 = said_lowers rules d first.id tiles.view text said.1 said.0 tiles.live some read said.2 in
-    let less : left_to_do rules said.0 < left_to_do rules d = gone.less in
-    let new_is : left_of rules new.document ≡ left_to_do rules said.0 = ap (λ (h : House S). left_of rules h.document) said.3 in
+    let gone : IsAcknowledged rules d first.id tiles.view said.1 said.0.document = said_lowers rules d first.id tiles.view text said.1 said.0.document tiles.live some read said.2.0 in
+    let less : left_to_do rules said.0.document < left_to_do rules d = gone.less in
+    let new_is : left_of rules new.document ≡ left_to_do rules said.0.document = ap (λ (h : House S). left_of rules h.document) said.3 in
     omega (arith, less, new_is)
 
 -- the poll turn that takes it leaves less to do, and then acknowledgements wait
@@ -198,7 +200,7 @@ no_wids : (link : ℕ) (wids : List ℕ) → says_processed link wids ≡ [] →
 no_wids link [] none = refl
 no_wids link (wid ∷ wids) none = absurd (cc)
 
-empty_at : {S : Type 0} (document : Option (Document S)) (views : List (ℕ × ℕ)) (id : ℕ) → acknowledgements_by document views ≡ [] → HasLink views id → window_in document id ≡ []
+empty_at : {S : Type 0} (document : Option (Held S)) (views : List (ℕ × ℕ)) (id : ℕ) → acknowledgements_by document views ≡ [] → HasLink views id → window_in document id ≡ []
 empty_at document [] id none has = absurd (cc)
 empty_at {S} document (seat ∷ views) id none has =
     let parts = none_in (says_processed seat.0 (window_in document seat.1)) (acknowledgements_by document views) none in
@@ -230,20 +232,21 @@ found_each (v ∷ vs) order = (
   found_later v vs vs order.0 (found_each vs order.1),
 )
 
-empty_each : {S : Type 0} (d : Document S) (seats : List (ℕ × ℕ)) (views : List View) → acknowledgements_by (Some d) seats ≡ [] → AllByRecursion (HasLink seats) (ids_of views)
-    → AllByRecursion (λ (v : View). find_view d.views v.id ≡ Some v) views → AllByRecursion (λ (v : View). v.window ≡ []) views
-empty_each d seats [] none linked found = tt
-empty_each {S} d seats (v ∷ vs) none linked found =
-    let empty : wids_of (find_view d.views v.id) ≡ [] = empty_at (Some d) seats v.id none linked.0 in
-    (no_tiles v.window (subst (λ (o : Option View). wids_of o ≡ []) found.0 empty), empty_each d seats vs none linked.1 found.1)
+empty_each : {S : Type 0} (held : Held S) (seats : List (ℕ × ℕ)) (views : List View) → acknowledgements_by (Some held) seats ≡ [] → AllByRecursion (HasLink seats) (ids_of views)
+    → AllByRecursion (λ (v : View). find_view held.document.views v.id ≡ Some v) views → AllByRecursion (λ (v : View). v.window ≡ []) views
+empty_each held seats [] none linked found = tt
+empty_each {S} held seats (v ∷ vs) none linked found =
+    let empty : wids_of (find_view held.document.views v.id) ≡ [] = empty_at (Some held) seats v.id none linked.0 in
+    (no_tiles v.window (subst (λ (o : Option View). wids_of o ≡ []) found.0 empty), empty_each held seats vs none linked.1 found.1)
 
 -- a house that rests without acknowledgements is at rest
-pub at_rest : {C B S : Type 0} (rules : Rules C B) (cut : C → Place → S) (seats : Seats) (document : Option (Document S)) → ((d : Document S) → IsQuiet rules d → IsSeated rules cut seats d → AllRight rules d) → IsHousedBy rules cut seats document → RestsNow rules document
+pub at_rest : {C B S : Type 0} (rules : Rules C B) (cut : C → Place → S) (seats : Seats) (document : Option (Held S)) → ((held : Held S) → IsQuiet rules held.document → IsSeated rules cut seats held → AllRight rules held.document) → IsHousedBy rules cut seats document → RestsNow rules document
     → acknowledgements_by document seats.views ≡ [] → IsAtRest rules document
 at_rest rules cut seats None right housed rests none = tt
-at_rest rules cut seats (Some d) right housed rests none =
-    let quiet : IsQuiet rules d = record { rests = rests; no_job = housed.none_out; empty = empty_each d seats.views d.views none housed.linked (found_each d.views housed.kept.ids) } in
-    (quiet, right d quiet housed)
+at_rest rules cut seats (Some held) right housed rests none =
+    let empty : AllByRecursion (λ (v : View). v.window ≡ []) held.document.views = empty_each held seats.views held.document.views none housed.linked (found_each held.document.views housed.kept.document.ids) in
+    let quiet : IsQuiet rules held.document = record { rests = rests; no_job = housed.none_out; no_put = housed.none_put; empty = empty } in
+    (quiet, right held quiet housed)
 
 -- the pass that found acknowledgements: turns up to the last that works, then they wait
 pub acks_came : {C B S : Type 0} (rules : Rules C B) (cut : C → Place → S) (start : Seen S) (still : House S) (waiting : List Waiting) (a b c : Option (List ℕ)) (was : House S)

@@ -6,10 +6,10 @@ use Rattle.std.proofs.lemmas.Result.{err_from_is_err_and}
 use Rattle.cool_message.specs.Reading.{reading}
 use Rattle.cool_message.specs.declared.message.ClientMessage.TheVariants.{TileProcessed}
 use Rattle.document_laws.proofs.Acknowledged.{said_acknowledges, acknowledging_adds_nothing}
-use Rattle.document_laws.proofs.Lower.{at_once_lowers}
 use Rattle.document_laws.specs.AtOnce.{acknowledges}
-use Rattle.document_machine.specs.Rank.{left_to_do}
+use Rattle.document_machine.specs.Held.{Held}
 use Rattle.document_machine.specs.State.{Document}
+use Rattle.document_machine.specs.Rank.{left_to_do}
 use Rattle.kit_trait.specs.Rules.{Rules}
 use Rattle.tile_key.specs.Places.{Place}
 use Rattle.script_lines.specs.Records.{AddsPart}
@@ -17,14 +17,14 @@ use Rattle.script_lines.specs.declared.output.Stop.{Stop}
 use Rattle.script_lines.specs.declared.output.Stop.TheVariants.{Sink}
 use Rattle.script_run.specs.Play.{Stopped}
 use Rattle.script_run.proofs.Moves.{adds_more, adds_nothing}
-use Rattle.script_world.specs.House.{House, SaysAs, TakesOne, seated, WorksAtOnce, TurnsDocument, PollTurn, IsHousedBy, IsHoused}
+use Rattle.script_world.specs.House.{House, SaysAs, TakesOne, seated, TurnsDocument, PollTurn, IsHousedBy, IsHoused}
 use Rattle.script_world.specs.Moved.{Came, MadeFrom, TurnWritten, IsAcknowledgement, AllAcknowledge, MadeTurns, TurnedTo, left_of}
 use Rattle.script_world.specs.Seats.{Seats}
 use Rattle.script_world.specs.World.{Seen, Move, Turn, Moves, Chain, RestsNow, turns, Begun}
 use Rattle.script_world.specs.declared.event.Waiting.{Waiting}
 use Rattle.script_world.specs.declared.event.Waiting.TheVariants.{Opened, Loads, Says, Gone}
 use Rattle.script_world.proofs.Chains.{came_one, came_joined, chain_one, chain_joined, stopped_later, stopped_writing}
-use Rattle.script_world.proofs.Housed.{Keeps, first_housed, found_document, works_of}
+use Rattle.script_world.proofs.Housed.{Keeps, first_housed, found_document, works_answered}
 
 some_wait : (event : Waiting) (rest : List Waiting) → nat_lt 0 (length (event ∷ rest)) ≡ true
 some_wait event rest = grind arith
@@ -113,7 +113,7 @@ nothing_cut a b part =
     let size : length {A = ℕ} [] ≡ length (part.part ++ part.behind) = ap length part.is in
     omega (arith, size, part.more, length-append part.part part.behind)
 
-no_turn_made : {C B S : Type 0} (rules : Rules C B) (cut : C → Place → S) (seats : Seats) (document : Option (Document S)) (out : List ℕ) (turned : Bool) (new : Option (Document S)) → TurnsDocument rules cut seats document out turned new → turned ≡ false → out ≡ []
+no_turn_made : {C B S : Type 0} (rules : Rules C B) (cut : C → Place → S) (seats : Seats) (document : Option (Held S)) (out : List ℕ) (turned : Bool) (new : Option (Held S)) → TurnsDocument rules cut seats document out turned new → turned ≡ false → out ≡ []
 no_turn_made rules cut seats None out turned new goes lacks = goes.0
 no_turn_made rules cut seats (Some d) out true new goes lacks = absurd (cc)
 no_turn_made rules cut seats (Some d) out false new goes lacks = goes.0
@@ -136,14 +136,14 @@ turn_cut rules cut waiting old out false rest new shown a b stop turn same is pa
     absurd (nothing_cut a b (subst (λ (o : List ℕ). AddsPart a o b) (same ∙ idle_out rules cut waiting old out rest new turn) part))
 
 -- a turn that worked is one move; where it did nothing, all is as it was
-first_same : {C B S : Type 0} (rules : Rules C B) (cut : C → Place → S) (seats : Seats) (document : Option (Document S)) (out : List ℕ) (new : Option (Document S)) (turned : Bool) → TurnsDocument rules cut seats document out turned new → turned ≡ false → new ≡ document
+first_same : {C B S : Type 0} (rules : Rules C B) (cut : C → Place → S) (seats : Seats) (document : Option (Held S)) (out : List ℕ) (new : Option (Held S)) (turned : Bool) → TurnsDocument rules cut seats document out turned new → turned ≡ false → new ≡ document
 first_same rules cut seats None out new turned goes lacks = goes.2
 first_same rules cut seats (Some d) out new true goes lacks = absurd (cc)
 first_same rules cut seats (Some d) out new false goes lacks = goes.2
 
 same_house : {S : Type 0} (a b : House S) → a.seats ≡ b.seats → a.document ≡ b.document → a ≡ b
 same_house {S} a b seats document =
-    ap (λ (s : Seats). record { seats = s; document = a.document }) seats ∙ ap (λ (d : Option (Document S)). record { seats = b.seats; document = d }) document
+    ap (λ (s : Seats). record { seats = s; document = a.document }) seats ∙ ap (λ (d : Option (Held S)). record { seats = b.seats; document = d }) document
 
 idle_same : {C B S : Type 0} (rules : Rules C B) (cut : C → Place → S) (waiting : List Waiting) (old : House S) (out : List ℕ) (rest : List Waiting) (new : House S) → PollTurn rules cut waiting old out false rest new → (rest ≡ waiting) × (waiting ≡ []) × (new ≡ old)
 idle_same {C} {B} {S} rules cut [] old out rest new turn =
@@ -154,7 +154,7 @@ idle_same {C} {B} {S} rules cut [] old out rest new turn =
 idle_same rules cut (event ∷ events) old out rest new turn =
     let odd : false ≡ true = turn.worked_is ∙ ap (λ (b : Bool). b || turn.turned) (some_wait event events) in absurd (cc)
 
-rests_by : {C B S : Type 0} (rules : Rules C B) (cut : C → Place → S) (seats : Seats) (document : Option (Document S)) (out : List ℕ) (new : Option (Document S)) (turned : Bool) → TurnsDocument rules cut seats document out turned new → turned ≡ false → RestsNow rules new
+rests_by : {C B S : Type 0} (rules : Rules C B) (cut : C → Place → S) (seats : Seats) (document : Option (Held S)) (out : List ℕ) (new : Option (Held S)) (turned : Bool) → TurnsDocument rules cut seats document out turned new → turned ≡ false → RestsNow rules new
 rests_by rules cut seats None out new turned goes lacks = subst (RestsNow rules) (sym goes.2) tt
 rests_by rules cut seats (Some d) out new true goes lacks = absurd (cc)
 rests_by rules cut seats (Some d) out new false goes lacks = subst (RestsNow rules) (sym goes.2) goes.1
@@ -198,19 +198,17 @@ turn_fewer rules cut [] old worked rest new b c written some = absurd (omega (ar
 turn_fewer rules cut (event ∷ events) old worked rest new b c written some = let same : length rest ≡ length events = ap length written.done.takes.0 in omega (arith, same)
 
 -- what a turn of the document leaves to do
-pub document_left : {C B S : Type 0} (rules : Rules C B) (cut : C → Place → S) (seats : Seats) (old : Option (Document S)) (out : List ℕ) (worked : Bool) (new : Option (Document S))
+pub document_left : {C B S : Type 0} (rules : Rules C B) (cut : C → Place → S) (seats : Seats) (old : Option (Held S)) (out : List ℕ) (worked : Bool) (new : Option (Held S))
     → IsHousedBy rules cut seats old → TurnsDocument rules cut seats old out worked new → left_of rules new + cond worked 1 0 ≤ left_of rules old
 document_left rules cut seats None out worked new housed goes =
     let same : left_of rules new ≡ 0 = ap (left_of rules) goes.2 in
     let none : ◌≡◌ {A = ℕ} (cond worked 1 0) 0 = ap (λ (b : Bool). cond {A = ℕ} b 1 0) goes.1 in
     omega (arith, same, none)
-document_left {C} {B} {S} rules cut seats (Some d) out true new housed goes =
-    let now : Document S = goes.0 in
-    let works : WorksAtOnce rules cut d goes.1 now = goes.2 in
-    let less : left_to_do rules now < left_to_do rules d = (at_once_lowers rules cut d works.mid now works.first works.later (works_of rules cut d now goes.1 works) housed.none_out housed.kept works.answered).1 in
-    let same : left_of rules new ≡ left_to_do rules now = ap (left_of rules) goes.4 in
+document_left rules cut seats (Some old) out true new housed goes =
+    let less : left_to_do rules goes.0.document < left_to_do rules old.document = (works_answered rules cut old goes.0 goes.1 goes.2 housed.kept).less in
+    let same : left_of rules new ≡ left_to_do rules goes.0.document = ap (left_of rules) goes.4 in
     omega (arith, less, same)
-document_left rules cut seats (Some d) out false new housed goes = let same : left_of rules new ≡ left_to_do rules d = ap (left_of rules) goes.2 in omega (arith, same)
+document_left rules cut seats (Some old) out false new housed goes = let same : left_of rules new ≡ left_to_do rules old.document = ap (left_of rules) goes.2 in omega (arith, same)
 
 -- where no event waits, a poll turn that works leaves less to do
 pub bare_left : {C B S : Type 0} (rules : Rules C B) (cut : C → Place → S) (waiting : List Waiting) (old : House S) (worked : Bool) (rest : List Waiting) (new : House S) (b c : Option (List ℕ))
@@ -225,16 +223,16 @@ bare_left {C} {B} {S} rules cut [] old worked rest new b c none housed written =
 bare_left rules cut (event ∷ events) old worked rest new b c none housed written = absurd (cc)
 
 -- an acknowledgement never leaves more to do
-said_left : {C B S : Type 0} (rules : Rules C B) (cut : C → Place → S) (old : House S) (link : ℕ) (text : List ℕ) (found : Option (Document S × ℕ)) (out : List ℕ) (new : House S) (wids : List ℕ)
+said_left : {C B S : Type 0} (rules : Rules C B) (cut : C → Place → S) (old : House S) (link : ℕ) (text : List ℕ) (found : Option (Held S × ℕ)) (out : List ℕ) (new : House S) (wids : List ℕ)
     → seated old link ≡ found → reading text ≡ Ok (TileProcessed wids) → SaysAs rules cut old link text found out new → left_of rules new.document ≤ left_of rules old.document
 said_left {C} {B} {S} rules cut old link text None out new wids is read says =
     let same : left_of rules new.document ≡ left_of rules old.document = ap (λ (h : House S). left_of rules h.document) says.1 in omega (arith, same)
 said_left {C} {B} {S} rules cut old link text (Some seat) out new wids is read says =
-    let d : Document S = seat.0 in
-    let acknowledged = said_acknowledges rules d seat.1 wids text says.1 says.0 read says.2 in
+    let d : Document S = seat.0.document in
+    let acknowledged = said_acknowledges rules d seat.1 wids text says.1 says.0.document read says.2.0 in
     let less : left_to_do rules (acknowledges d seat.1 wids) ≤ left_to_do rules d = acknowledging_adds_nothing rules d seat.1 wids in
-    let now : left_to_do rules says.0 ≡ left_to_do rules (acknowledges d seat.1 wids) = ap (left_to_do rules) acknowledged.1 in
-    let new_is : left_of rules new.document ≡ left_to_do rules says.0 = ap (λ (h : House S). left_of rules h.document) says.3 in
+    let now : left_to_do rules says.0.document ≡ left_to_do rules (acknowledges d seat.1 wids) = ap (left_to_do rules) acknowledged.1 in
+    let new_is : left_of rules new.document ≡ left_to_do rules says.0.document = ap (λ (h : House S). left_of rules h.document) says.3 in
     let was : left_of rules old.document ≡ left_to_do rules d = ap (left_of rules) (found_document old.document _ seat is).0 in
     omega (arith, less, now, new_is, was)
 

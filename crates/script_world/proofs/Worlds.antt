@@ -1,6 +1,6 @@
 -- What a world does from its line on, over its poll.
 use Rattle.std.proofs.Common.{◌≡◌, ◌∙◌, ℕ, List, [], ap, sym, subst, refl, Option}
-use Rattle.document_machine.specs.State.{Document}
+use Rattle.document_machine.specs.Held.{Held}
 use Rattle.kit_trait.specs.Rules.{Rules}
 use Rattle.tile_key.specs.Places.{Place}
 use Rattle.outside.specs.Streams.{Adds}
@@ -15,12 +15,12 @@ use Rattle.script_world.proofs.Chains.{came_joined, stopped_later}
 use Rattle.script_world.proofs.Steps.{begun_of}
 
 -- the world whose document was taken out of it
-same_world : {S : Type 0} (waiting : List Waiting) (seats : Seats) (taken inside : Option (Option (Document S))) (self : Seen S)
+same_world : {S : Type 0} (waiting : List Waiting) (seats : Seats) (taken inside : Option (Option (Held S))) (self : Seen S)
     → taken ≡ inside → record { waiting = waiting; house = record { seats = seats; document = document_of inside } } ≡ self → record { waiting = waiting; house = record { seats = seats; document = document_of taken } } ≡ self
-same_world {S} waiting seats taken inside self same is = ap (λ (b : Option (Option (Document S))). record { waiting = waiting; house = record { seats = seats; document = document_of b } }) same ∙ is
+same_world {S} waiting seats taken inside self same is = ap (λ (b : Option (Option (Held S))). record { waiting = waiting; house = record { seats = seats; document = document_of b } }) same ∙ is
 
 -- all events, and then up to rest, settles the world
-pub settles : {C B S : Type 0} (rules : Rules C B) (cut : C → Place → S) (waiting left : List Waiting) (seats : Seats) (taken inside : Option (Option (Document S))) (self : Seen S) (mid new : House S) (a b c : Option (List ℕ))
+pub settles : {C B S : Type 0} (rules : Rules C B) (cut : C → Place → S) (waiting left : List Waiting) (seats : Seats) (taken inside : Option (Option (Held S))) (self : Seen S) (mid new : House S) (a b c : Option (List ℕ))
     → taken ≡ inside → record { waiting = waiting; house = record { seats = seats; document = document_of inside } } ≡ self → left ≡ []
     → Came (Moves rules cut) (record { waiting = waiting; house = record { seats = seats; document = document_of taken } }) (record { waiting = []; house = mid }) a b
     → Came (Moves rules cut) (record { waiting = []; house = mid }) (record { waiting = []; house = new }) b c
@@ -35,7 +35,7 @@ settles {C} {B} {S} rules cut waiting left seats taken inside self mid new a b c
     (all.out, subst (λ (x : Seen S). Settled rules cut self all.out x) t_is (subst (λ (x : Seen S). Settled rules cut x all.out t) (same_world waiting seats taken inside self same is) done), all.added)
 
 -- stopped at the events
-pub begin_stopped : {C B S : Type 0} (rules : Rules C B) (cut : C → Place → S) (waiting : List Waiting) (seats : Seats) (taken inside : Option (Option (Document S))) (self : Seen S) (a b : Option (List ℕ)) (stop : Stop)
+pub begin_stopped : {C B S : Type 0} (rules : Rules C B) (cut : C → Place → S) (waiting : List Waiting) (seats : Seats) (taken inside : Option (Option (Held S))) (self : Seen S) (a b : Option (List ℕ)) (stop : Stop)
     → taken ≡ inside → record { waiting = waiting; house = record { seats = seats; document = document_of inside } } ≡ self
     → Stopped stop (MadeFrom (Moves rules cut) (record { waiting = waiting; house = record { seats = seats; document = document_of taken } })) a b
     → Stopped stop (Begun rules cut self) a b
@@ -44,7 +44,7 @@ begin_stopped {C} {B} {S} rules cut waiting seats taken inside self a b stop sam
     subst (λ (x : Seen S). Stopped stop (Begun rules cut x) a b) (same_world waiting seats taken inside self same is) (begun_of rules cut s a b stop stopped)
 
 -- stopped behind the events
-pub settle_stopped : {C B S : Type 0} (rules : Rules C B) (cut : C → Place → S) (waiting : List Waiting) (seats : Seats) (taken inside : Option (Option (Document S))) (self : Seen S) (mid : House S) (a b c : Option (List ℕ)) (stop : Stop)
+pub settle_stopped : {C B S : Type 0} (rules : Rules C B) (cut : C → Place → S) (waiting : List Waiting) (seats : Seats) (taken inside : Option (Option (Held S))) (self : Seen S) (mid : House S) (a b c : Option (List ℕ)) (stop : Stop)
     → taken ≡ inside → record { waiting = waiting; house = record { seats = seats; document = document_of inside } } ≡ self
     → Came (Moves rules cut) (record { waiting = waiting; house = record { seats = seats; document = document_of taken } }) (record { waiting = []; house = mid }) a b
     → Stopped stop (MadeFrom (Moves rules cut) (record { waiting = []; house = mid })) b c
@@ -54,7 +54,7 @@ settle_stopped {C} {B} {S} rules cut waiting seats taken inside self mid a b c s
     begin_stopped rules cut waiting seats taken inside self a c stop same is (stopped_later (Moves rules cut) s (record { waiting = []; house = mid }) a b c stop first later)
 
 -- so many turns of the world
-pub turned_by : {C B S : Type 0} (rules : Rules C B) (cut : C → Place → S) (count : ℕ) (waiting : List Waiting) (seats : Seats) (taken inside : Option (Option (Document S))) (self t : Seen S) (a c : Option (List ℕ))
+pub turned_by : {C B S : Type 0} (rules : Rules C B) (cut : C → Place → S) (count : ℕ) (waiting : List Waiting) (seats : Seats) (taken inside : Option (Option (Held S))) (self t : Seen S) (a c : Option (List ℕ))
     → taken ≡ inside → record { waiting = waiting; house = record { seats = seats; document = document_of inside } } ≡ self
     → TurnedTo rules cut count (record { waiting = waiting; house = record { seats = seats; document = document_of taken } }) t a c
     → (out : List ℕ) × Turned rules cut count self out t × Adds a out c

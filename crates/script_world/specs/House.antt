@@ -1,5 +1,5 @@
--- What one poll holds: links and at most one document; and what one turn of it does. It is said by the document
--- machine's steps, for any kit.
+-- What one poll holds: links and at most one document with its kept tiles; and what one turn of it does. It is said by
+-- the moves of the document machine, for any kit.
 use Rattle.std.specs.Prelude.{ℕ, ◌≡◌, nat_lt, List, [], ◌∷◌, ◌++◌, length, map, codes, Option, None, Some, is_some, Bool, true, false, ◌||◌, if◌then◌else◌}
 use Rattle.std.specs.List.{flat_map, AllByRecursion}
 use Rattle.cool_base.specs.declared.ids.ViewId.{ViewId}
@@ -8,12 +8,13 @@ use Rattle.cool_message.specs.Writing.{written}
 use Rattle.cool_message.specs.declared.message.ClientMessage.TheVariants.{TileProcessed}
 use Rattle.document_laws.specs.AtOnce.{all_answered, numbers}
 use Rattle.document_machine.specs.Event.{Joined, Left, Said}
-use Rattle.document_machine.specs.Kept.{IsKept}
-use Rattle.document_machine.specs.Next.{none_kept, pick}
+use Rattle.document_machine.specs.Goes.{DoesNext, Moves}
+use Rattle.document_machine.specs.Held.{Held, opening_held}
+use Rattle.document_machine.specs.Kept.{IsHeld}
 use Rattle.document_machine.specs.Outputs.{nothing}
-use Rattle.document_machine.specs.Run.{Segment}
-use Rattle.document_machine.specs.State.{View, Document, opening, find_view}
-use Rattle.document_machine.specs.Step.{Step, Does, Rests}
+use Rattle.document_machine.specs.Run.{Run}
+use Rattle.document_machine.specs.State.{View, find_view}
+use Rattle.document_machine.specs.Step.{Rests}
 use Rattle.document_machine.specs.declared.limits.TheConstants.{MOST_VIEWS}
 use Rattle.document_machine.specs.declared.outs.Outs.{Outs}
 use Rattle.document_machine.specs.declared.outs.Turned.TheVariants.{Worked}
@@ -24,13 +25,13 @@ use Rattle.script_world.specs.Seats.{Seats, is_waiting, view_of, enters, sits, w
 use Rattle.script_world.specs.declared.event.Waiting.{Waiting}
 use Rattle.script_world.specs.declared.event.Waiting.TheVariants.{Opened, Loads, Says, Gone}
 
--- who is there, and the document once a load of it was taken
+-- who is there, and the document with the tiles that are kept of it, once a load of it was taken
 pub record House (S : Type 0) : Type 0 where
   pub seats : Seats
-  pub document : Option (Document S)
+  pub document : Option (Held S)
 
 -- the document of a broker, if there is one; one that was given up shows none
-abbrev pub document_of : {S : Type 0} → Option (Option (Document S)) → Option (Document S)
+abbrev pub document_of : {S : Type 0} → Option (Option (Held S)) → Option (Held S)
 document_of None = None
 document_of (Some document) = document
 
@@ -41,25 +42,25 @@ rights false = record { can_write = false; token = codes "t-ro" }
 
 -- A load of a document that is there: the link is a new view of it, or, where it has all the views that it may have, is refused and stays
 -- in the lobby.
-abbrev pub JoinsWhere : {C B S : Type 0} → Bool → Rules C B → (C → Place → S) → Seats → ℕ → Rights → Document S → List ℕ → House S → Type 0
-JoinsWhere {C} {B} {S} true rules cut seats link given old out new = (d : Document S) × (outs : Outs S)
-    × Step rules cut old (Joined given) outs d
-    × (new ≡ record { seats = sits seats link old.next_view; document = Some d })
-    × (out ≡ records (sits seats link old.next_view) outs.frames)
+abbrev pub JoinsWhere : {C B S : Type 0} → Bool → Rules C B → (C → Place → S) → Seats → ℕ → Rights → Held S → List ℕ → House S → Type 0
+JoinsWhere {C} {B} {S} true rules cut seats link given old out new = (held : Held S) × (outs : Outs S)
+    × Moves rules cut old (Joined given) outs held
+    × (new ≡ record { seats = sits seats link old.document.next_view; document = Some held })
+    × (out ≡ records (sits seats link old.document.next_view) outs.frames)
 JoinsWhere false rules cut seats link given old out new =
     (out ≡ tells link views_full) × (new ≡ record { seats = seats; document = Some old })
 
-abbrev pub JoinsOne : {C B S : Type 0} → Rules C B → (C → Place → S) → Seats → ℕ → Rights → Document S → List ℕ → House S → Type 0
+abbrev pub JoinsOne : {C B S : Type 0} → Rules C B → (C → Place → S) → Seats → ℕ → Rights → Held S → List ℕ → House S → Type 0
 JoinsOne rules cut seats link given old out new =
-    JoinsWhere (nat_lt (length old.views) MOST_VIEWS) rules cut seats link given old out new
+    JoinsWhere (nat_lt (length old.document.views) MOST_VIEWS) rules cut seats link given old out new
 
 -- The first load begins the document over no bytes, unless the kit refuses no bytes as a file.
 abbrev pub BeginsWhere : {C B S : Type 0} → Bool → Rules C B → (C → Place → S) → Seats → ℕ → List ℕ → Rights → List ℕ → House S → Type 0
-BeginsWhere true rules cut seats link file given out new = JoinsOne rules cut seats link given (opening file []) out new
+BeginsWhere true rules cut seats link file given out new = JoinsOne rules cut seats link given (opening_held file []) out new
 BeginsWhere false rules cut seats link file given out new =
     (out ≡ tells link bad_file) × (new ≡ record { seats = seats; document = None })
 
-abbrev pub LoadsOne : {C B S : Type 0} → Rules C B → (C → Place → S) → Seats → Option (Document S) → ℕ → List ℕ → Rights → List ℕ → House S → Type 0
+abbrev pub LoadsOne : {C B S : Type 0} → Rules C B → (C → Place → S) → Seats → Option (Held S) → ℕ → List ℕ → Rights → List ℕ → House S → Type 0
 LoadsOne rules cut seats None link file given out new = BeginsWhere (rules.accepts []) rules cut seats link file given out new
 LoadsOne rules cut seats (Some old) link file given out new = JoinsOne rules cut seats link given old out new
 
@@ -69,33 +70,33 @@ LoadsWhere true rules cut old link file given out new = LoadsOne rules cut old.s
 LoadsWhere false rules cut old link file given out new = (out ≡ []) × (new ≡ old)
 
 -- the view with this id, where the document has it
-abbrev pub seated_at : {S : Type 0} → Option (Document S) → Option ℕ → Option (Document S × ℕ)
+abbrev pub seated_at : {S : Type 0} → Option (Held S) → Option ℕ → Option (Held S × ℕ)
 seated_at None seat = None
-seated_at (Some d) None = None
-seated_at (Some d) (Some id) = if is_some (find_view d.views id) then Some (d, id) else None
+seated_at (Some held) None = None
+seated_at (Some held) (Some id) = if is_some (find_view held.document.views id) then Some (held, id) else None
 
 -- the document with the view that the link is
-abbrev pub seated : {S : Type 0} → House S → ℕ → Option (Document S × ℕ)
+abbrev pub seated : {S : Type 0} → House S → ℕ → Option (Held S × ℕ)
 seated house link = seated_at house.document (view_of house.seats link)
 
--- A message of a view is a step of its document; one of the lobby is answered there; one of a link that isn't held
+-- A message of a view is a move of its document; one of the lobby is answered there; one of a link that isn't held
 -- changes nothing.
 abbrev pub lobby_tells : Bool → ℕ → List ℕ → List ℕ
 lobby_tells true link text = tells link (lobby_frame text)
 lobby_tells false link text = []
 
-abbrev pub SaysAs : {C B S : Type 0} → Rules C B → (C → Place → S) → House S → ℕ → List ℕ → Option (Document S × ℕ) → List ℕ → House S → Type 0
+abbrev pub SaysAs : {C B S : Type 0} → Rules C B → (C → Place → S) → House S → ℕ → List ℕ → Option (Held S × ℕ) → List ℕ → House S → Type 0
 SaysAs rules cut old link text None out new = (out ≡ lobby_tells (is_waiting old.seats link) link text) × (new ≡ old)
-SaysAs {C} {B} {S} rules cut old link text (Some seat) out new = (d : Document S) × (outs : Outs S)
-    × Step rules cut seat.0 (Said seat.1 text) outs d
-    × (new ≡ record old { document = Some d }) × (out ≡ records old.seats outs.frames)
+SaysAs {C} {B} {S} rules cut old link text (Some seat) out new = (held : Held S) × (outs : Outs S)
+    × Moves rules cut seat.0 (Said seat.1 text) outs held
+    × (new ≡ record old { document = Some held }) × (out ≡ records old.seats outs.frames)
 
--- A view that leaves is a step of its document; then the link is no longer held.
-abbrev pub LeavesAs : {C B S : Type 0} → Rules C B → (C → Place → S) → House S → ℕ → Option (Document S × ℕ) → List ℕ → House S → Type 0
+-- A view that leaves is a move of its document; then the link is no longer held.
+abbrev pub LeavesAs : {C B S : Type 0} → Rules C B → (C → Place → S) → House S → ℕ → Option (Held S × ℕ) → List ℕ → House S → Type 0
 LeavesAs rules cut old link None out new = (out ≡ []) × (new ≡ record old { seats = without old.seats link })
-LeavesAs {C} {B} {S} rules cut old link (Some seat) out new = (d : Document S)
-    × Step rules cut seat.0 (Left seat.1) nothing d
-    × (out ≡ []) × (new ≡ record { seats = without old.seats link; document = Some d })
+LeavesAs {C} {B} {S} rules cut old link (Some seat) out new = (held : Held S)
+    × Moves rules cut seat.0 (Left seat.1) nothing held
+    × (out ≡ []) × (new ≡ record { seats = without old.seats link; document = Some held })
 
 -- taking one event
 abbrev pub TakesOne : {C B S : Type 0} → Rules C B → (C → Place → S) → Waiting → House S → List ℕ → House S → Type 0
@@ -110,23 +111,23 @@ abbrev pub TakesFirst : {C B S : Type 0} → Rules C B → (C → Place → S) �
 TakesFirst rules cut [] old out rest new = (rest ≡ []) × (out ≡ []) × (new ≡ old)
 TakesFirst rules cut (event ∷ events) old out rest new = (rest ≡ events) × TakesOne rules cut event old out new
 
--- A turn that does the one work that is picked, and directly after it the answers to the jobs that it
--- cut, in order; these are all the frames.
-pub record WorksAtOnce {C B S : Type 0} (rules : Rules C B) (cut : C → Place → S) (old : Document S) (frames : List (ViewId × Frame)) (new : Document S) : Type 0 where
-  pub mid : Document S
+-- A turn that does the one work that is next, and directly after it the answers to the jobs that it cut, in order, and to
+-- the put that it began: a script's store takes each content at once. These are all the frames.
+pub record WorksAtOnce {C B S : Type 0} (rules : Rules C B) (cut : C → Place → S) (old : Held S) (frames : List (ViewId × Frame)) (new : Held S) : Type 0 where
+  pub mid : Held S
   pub first : Outs S
   pub later : Outs S
-  pub does : Does rules cut old (pick rules none_kept old) (Worked first) mid
-  pub answered : Segment rules cut mid (all_answered first) later new
+  pub does : DoesNext rules cut old (Worked first) mid
+  pub answered : Run (Moves rules cut) mid (all_answered first) later new
   pub frames_are : frames ≡ first.frames ++ later.frames
 
--- One turn of the document, its jobs painted and answered at once: what it wrote and that it worked; or it rests, and
--- so does a house without a document.
-abbrev pub TurnsDocument : {C B S : Type 0} → Rules C B → (C → Place → S) → Seats → Option (Document S) → List ℕ → Bool → Option (Document S) → Type 0
+-- One turn of the document, its jobs painted and its put answered at once: what it wrote and that it worked; or it rests,
+-- and so does a house without a document.
+abbrev pub TurnsDocument : {C B S : Type 0} → Rules C B → (C → Place → S) → Seats → Option (Held S) → List ℕ → Bool → Option (Held S) → Type 0
 TurnsDocument rules cut seats None out worked new = (out ≡ []) × (worked ≡ false) × (new ≡ None)
-TurnsDocument {C} {B} {S} rules cut seats (Some old) out true new = (d : Document S) × (frames : List (ViewId × Frame))
-    × WorksAtOnce rules cut old frames d × (out ≡ records seats frames) × (new ≡ Some d)
-TurnsDocument rules cut seats (Some old) out false new = (out ≡ []) × Rests rules old × (new ≡ Some old)
+TurnsDocument {C} {B} {S} rules cut seats (Some old) out true new = (held : Held S) × (frames : List (ViewId × Frame))
+    × WorksAtOnce rules cut old frames held × (out ≡ records seats frames) × (new ≡ Some held)
+TurnsDocument rules cut seats (Some old) out false new = (out ≡ []) × Rests rules old.document × (new ≡ Some old)
 
 -- A poll turn takes the first event that waits, if one does, and then the document makes one turn. It worked where it
 -- took an event or where the document's turn worked.
@@ -151,12 +152,12 @@ abbrev pub says_processed : ℕ → List ℕ → List Waiting
 says_processed link [] = []
 says_processed link (wid ∷ wids) = Says link (written (TileProcessed (wid ∷ wids))) ∷ []
 
-abbrev pub window_in : {S : Type 0} → Option (Document S) → ℕ → List ℕ
+abbrev pub window_in : {S : Type 0} → Option (Held S) → ℕ → List ℕ
 window_in None view = []
-window_in (Some d) view = wids_of (find_view d.views view)
+window_in (Some held) view = wids_of (find_view held.document.views view)
 
 -- each view whose window isn't empty acknowledges all its tiles, in order of links
-abbrev pub acknowledgements_by : {S : Type 0} → Option (Document S) → List (ℕ × ℕ) → List Waiting
+abbrev pub acknowledgements_by : {S : Type 0} → Option (Held S) → List (ℕ × ℕ) → List Waiting
 acknowledgements_by document views = flat_map (λ seat. says_processed seat.0 (window_in document seat.1)) views
 
 abbrev pub acknowledgements : {S : Type 0} → House S → List Waiting
@@ -166,15 +167,17 @@ acknowledgements house = acknowledgements_by house.document house.seats.views
 abbrev pub ids_of : List View → List ℕ
 ids_of views = map (λ view. view.id) views
 
--- a document and who is there: it is as a broker keeps it, no job is out, and each of its views has a link
-pub record IsSeated {C B S : Type 0} (rules : Rules C B) (cut : C → Place → S) (seats : Seats) (d : Document S) : Type 0 where
-  pub kept : IsKept rules cut d
-  pub none_out : d.jobs ≡ []
-  pub linked : AllByRecursion (λ id. is_some (link_of seats id) ≡ true) (ids_of d.views)
+-- a document and who is there: it is as a broker keeps it with its tiles, no job is out, no put is under way, and each
+-- of its views has a link
+pub record IsSeated {C B S : Type 0} (rules : Rules C B) (cut : C → Place → S) (seats : Seats) (held : Held S) : Type 0 where
+  pub kept : IsHeld rules cut held
+  pub none_out : held.document.jobs ≡ []
+  pub none_put : held.document.saving.put ≡ None
+  pub linked : AllByRecursion (λ id. is_some (link_of seats id) ≡ true) (ids_of held.document.views)
 
-abbrev pub IsHousedBy : {C B S : Type 0} → Rules C B → (C → Place → S) → Seats → Option (Document S) → Type 0
+abbrev pub IsHousedBy : {C B S : Type 0} → Rules C B → (C → Place → S) → Seats → Option (Held S) → Type 0
 IsHousedBy rules cut seats None = Unit {0}
-IsHousedBy rules cut seats (Some d) = IsSeated rules cut seats d
+IsHousedBy rules cut seats (Some held) = IsSeated rules cut seats held
 
 abbrev pub IsHoused : {C B S : Type 0} → Rules C B → (C → Place → S) → House S → Type 0
 IsHoused rules cut house = IsHousedBy rules cut house.seats house.document

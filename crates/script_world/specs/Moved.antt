@@ -3,8 +3,8 @@ use Rattle.std.specs.Prelude.{ℕ, ◌≡◌, ◌<◌, ◌^◌, List, Option, No
 use Rattle.std.specs.List.{AllByRecursion}
 use Rattle.cool_message.specs.Reading.{reading}
 use Rattle.cool_message.specs.declared.message.ClientMessage.TheVariants.{TileProcessed}
+use Rattle.document_machine.specs.Held.{Held}
 use Rattle.document_machine.specs.Rank.{left_to_do}
-use Rattle.document_machine.specs.State.{Document}
 use Rattle.kit_trait.specs.Rules.{Rules}
 use Rattle.tile_key.specs.Places.{Place}
 use Rattle.outside.specs.Streams.{Adds}
@@ -38,9 +38,9 @@ IsAcknowledgement (Says link text) = (wids : List ℕ) × (reading text ≡ Ok (
 IsAcknowledgement (Gone link) = ⊥
 
 -- how much the document has left to do
-abbrev pub left_of : {C B S : Type 0} → Rules C B → Option (Document S) → ℕ
+abbrev pub left_of : {C B S : Type 0} → Rules C B → Option (Held S) → ℕ
 left_of rules None = 0
-left_of rules (Some d) = left_to_do rules d
+left_of rules (Some held) = left_to_do rules held.document
 
 -- all these events are
 abbrev pub AllAcknowledge : List Waiting → Type 0
@@ -59,5 +59,5 @@ pub record TurnedTo {C B S : Type 0} (rules : Rules C B) (cut : C → Place → 
   pub added : Adds old out new
 
 -- the windows of these seats hold numbers below 2^64
-abbrev pub AreSmall : {S : Type 0} → Option (Document S) → List (ℕ × ℕ) → Type 0
+abbrev pub AreSmall : {S : Type 0} → Option (Held S) → List (ℕ × ℕ) → Type 0
 AreSmall document views = AllByRecursion (λ seat. AllByRecursion (λ n. n < 2 ^ 64) (window_in document seat.1)) views

@@ -1,8 +1,8 @@
 -- The world of a script: one poll, and the events that wait.
 use Rattle.std.specs.Prelude.{ℕ, zero, suc, ◌≡◌, ◌<◌, List, [], ◌∷◌, ◌++◌, length, map, codes, Bool, Option, None, Some, ◌⊎◌, true}
 use Rattle.std.specs.Fmt.{decimal}
+use Rattle.document_machine.specs.Held.{Held}
 use Rattle.document_machine.specs.Quiet.{IsQuiet, AllRight}
-use Rattle.document_machine.specs.State.{Document}
 use Rattle.document_machine.specs.Step.{Rests}
 use Rattle.kit_trait.specs.Rules.{Rules}
 use Rattle.tile_key.specs.Places.{Place}
@@ -33,9 +33,9 @@ abbrev pub typed_events : ℕ → List ℕ → List Waiting
 typed_events link typed = map (λ character. Says link (key_text character)) typed
 
 -- a turn of the document, if there is one, would do nothing
-abbrev pub RestsNow : {C B S : Type 0} → Rules C B → Option (Document S) → Type 0
+abbrev pub RestsNow : {C B S : Type 0} → Rules C B → Option (Held S) → Type 0
 RestsNow rules None = Unit {0}
-RestsNow rules (Some d) = Rests rules d
+RestsNow rules (Some held) = Rests rules held.document
 
 -- a poll turn would do nothing
 abbrev pub IsIdle : {C B S : Type 0} → Rules C B → Seen S → Type 0
@@ -70,9 +70,9 @@ pub record Turned {C B S : Type 0} (rules : Rules C B) (cut : C → Place → S)
   pub all : (made ≡ count) ⊎ ((made < count) × IsIdle rules t)
 
 -- the document, if there is one, is quiet, and all that its views see or asked for is right
-abbrev pub IsAtRest : {C B S : Type 0} → Rules C B → Option (Document S) → Type 0
+abbrev pub IsAtRest : {C B S : Type 0} → Rules C B → Option (Held S) → Type 0
 IsAtRest rules None = Unit {0}
-IsAtRest rules (Some d) = IsQuiet rules d × AllRight rules d
+IsAtRest rules (Some held) = IsQuiet rules held.document × AllRight rules held.document
 
 -- All that waits is done: moves up to where nothing waits and the document, if any, is quiet and right.
 pub record Settled {C B S : Type 0} (rules : Rules C B) (cut : C → Place → S) (s : Seen S) (out : List ℕ) (t : Seen S) : Type 0 where

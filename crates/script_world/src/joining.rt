@@ -1,6 +1,5 @@
 //! Loads: a document begins, and a link becomes a view of it or is refused.
 ghost use Rattle.std.specs.Prelude.{◌≡◌, [], IfOk, true};
-ghost use Rattle.std.specs.Option.{ForSome};
 ghost use Rattle.script_world.specs.House.{document_of, rights, LoadsOne, LoadsWhere, BeginsWhere};
 ghost use Rattle.script_world.specs.Seats.{is_waiting};
 ghost use Rattle.script_world.specs.Taken.{JoinsBy};
@@ -38,7 +37,6 @@ fn joins<K: Kit>(
     link: u32,
     writes: bool,
 ) -> Result<Step<K>, Memory>
-    requires { ForSome broker (λ d. d.jobs ≡ []) }
     ensures { IfOk result (λ step. JoinsBy K.rules K.cut seats.old link (rights writes) broker step.bytes.items (record { seats = seats.new; document = document_of step.broker })) }
 {
     let given = rights(alloc, writes)?;
@@ -94,7 +92,6 @@ fn loads_one<K: Kit>(
     file: &FileId,
     writes: bool,
 ) -> Result<Step<K>, Memory>
-    requires { ForSome (document_of broker) (λ d. d.jobs ≡ []) }
     ensures { IfOk result (λ step. LoadsOne K.rules K.cut seats.old (document_of broker) link file.now (rights writes) step.bytes.items (record { seats = seats.new; document = document_of step.broker })) }
 {
     match broker {
@@ -112,7 +109,6 @@ pub(crate) fn loads<K: Kit>(
     file: &FileId,
     writes: bool,
 ) -> Result<Step<K>, Memory>
-    requires { ForSome (document_of broker) (λ d. d.jobs ≡ []) }
     ensures { IfOk result (λ step. LoadsWhere (is_waiting seats.old link) K.rules K.cut (record { seats = seats.old; document = document_of broker }) link file.now (rights writes) step.bytes.items (record { seats = seats.new; document = document_of step.broker })) }
 {
     if !seats.is_waiting(link) {

@@ -12,7 +12,7 @@ use crate::takes::{Step, takes};
 use crate::turning::{Turn, turns};
 use broker_core::Broker;
 use cool_base::Memory;
-use document_laws::steps_keep;
+use document_laws::moves_keep;
 use kit_trait::Kit;
 use outside::Sink;
 use script_lines::{Stop, write_whole};
@@ -29,7 +29,7 @@ fn event_turn<K: Kit>(
     requires { IsHoused K.rules K.cut (record { seats = seats.old; document = document_of broker }) }
     ensures { IfOk result (λ turn. (rest : List Waiting) → PollTurn K.rules K.cut (event ∷ rest) (record { seats = seats.old; document = document_of broker }) turn.bytes.items turn.worked rest (record { seats = seats.new; document = document_of turn.broker })) }
 {
-    steps_keep::<K>();
+    moves_keep::<K>();
     let taken = takes(alloc, broker, seats, event)?;
     let Step { broker, mut bytes } = taken;
     let turned = turns(alloc, broker, seats)?;
@@ -76,7 +76,7 @@ pub(crate) fn one_turn<K: Kit, T: Sink>(
     ensures stop { IfErr result (λ stop. Stopped stop (MadeFrom (Moves K.rules K.cut) (record { waiting = waiting.old.items; house = record { seats = seats.old; document = document_of broker } })) (T.written sink.old) (T.written sink.new)) }
     ensures cause { HasCause (T.faults sink.old) (T.faults sink.new) (result ≡ Err Stop.Sink) }
 {
-    steps_keep::<K>();
+    moves_keep::<K>();
     let turned = poll_turn(alloc, broker, seats, waiting)?;
     let Turn {
         broker,
@@ -103,7 +103,7 @@ pub(crate) fn all_events<K: Kit, T: Sink>(
     ensures stop { IfErr result (λ stop. Stopped stop (MadeFrom (Moves K.rules K.cut) (record { waiting = waiting.old.items; house = record { seats = seats.old; document = document_of broker } })) (T.written sink.old) (T.written sink.new)) }
     ensures cause { HasCause (T.faults sink.old) (T.faults sink.new) (result ≡ Err Stop.Sink) }
 {
-    steps_keep::<K>();
+    moves_keep::<K>();
     let mut broker = broker;
     'events: while !waiting.is_empty() {
         let (next, _) = one_turn(alloc, broker, seats, waiting, sink)?;

@@ -13,7 +13,7 @@ use crate::event::Waiting;
 use crate::moves::{all_events, one_turn, works};
 use crate::seats::Seats;
 use broker_core::Broker;
-use document_laws::{quiet_is_right, steps_keep};
+use document_laws::{quiet_is_right, moves_keep};
 use kit_trait::Kit;
 use outside::Sink;
 use script_lines::Stop;
@@ -40,7 +40,7 @@ fn acknowledged<K: Kit, T: Sink>(
     ensures stop { IfErr result (λ stop. Stopped stop (MadeFrom (Moves K.rules K.cut) (record { waiting = waiting.old.items; house = record { seats = seats.old; document = document_of broker } })) (T.written sink.old) (T.written sink.new)) }
     ensures cause { HasCause (T.faults sink.old) (T.faults sink.new) (result ≡ Err Stop.Sink) }
 {
-    steps_keep::<K>();
+    moves_keep::<K>();
     let (next, _) = one_turn(alloc, broker, seats, waiting, sink)?;
     all_events(alloc, next, seats, waiting, sink)
 }

@@ -1,6 +1,6 @@
 //! One event, as the records that taking it writes.
-ghost use Rattle.std.specs.Prelude.{◌≡◌, [], IfOk};
-ghost use Rattle.std.specs.Option.{ForSome, option_map};
+ghost use Rattle.std.specs.Prelude.{◌≡◌, IfOk};
+ghost use Rattle.std.specs.Option.{option_map};
 ghost use Rattle.script_world.specs.House.{document_of, seated_at, SaysAs, LeavesAs, TakesOne};
 ghost use Rattle.script_world.specs.Seats.{view_of};
 ghost use Rattle.script_world.specs.Taken.{LeavesDocument};
@@ -41,7 +41,6 @@ fn says_to<K: Kit>(
     link: u32,
     text: &[u8],
 ) -> Result<Step<K>, Memory>
-    requires { ForSome broker (λ d. d.jobs ≡ []) }
     ensures { IfOk result (λ step. SaysAs K.rules K.cut (record { seats = seats.now; document = broker }) link text.now (seated_at broker (view_of seats.now link)) step.bytes.items (record { seats = seats.now; document = document_of step.broker })) }
 {
     let Some(view) = live_view(&broker, seats, link) else {
@@ -67,7 +66,6 @@ fn says<K: Kit>(
     link: u32,
     text: &[u8],
 ) -> Result<Step<K>, Memory>
-    requires { ForSome (document_of broker) (λ d. d.jobs ≡ []) }
     ensures { IfOk result (λ step. SaysAs K.rules K.cut (record { seats = seats.now; document = document_of broker }) link text.now (seated_at (document_of broker) (view_of seats.now link)) step.bytes.items (record { seats = seats.now; document = document_of step.broker })) }
 {
     match broker {
@@ -84,7 +82,6 @@ fn says<K: Kit>(
 
 /// The link's view leaves the document, if it is one of its views.
 fn leaves_it<K: Kit>(mut broker: Broker<K>, seats: &Seats, link: u32) -> Broker<K>
-    requires { ForSome broker (λ d. d.jobs ≡ []) }
     ensures { LeavesDocument K.rules K.cut broker (seated_at broker (view_of seats.now link)) result }
 {
     if let Some(view) = live_view(&broker, seats, link) {
@@ -95,7 +92,6 @@ fn leaves_it<K: Kit>(mut broker: Broker<K>, seats: &Seats, link: u32) -> Broker<
 
 /// A link is gone.
 fn leaves<K: Kit>(alloc: Global, broker: Option<Broker<K>>, seats: &mut Seats, link: u32) -> Step<K>
-    requires { ForSome (document_of broker) (λ d. d.jobs ≡ []) }
     ensures { LeavesAs K.rules K.cut (record { seats = seats.old; document = document_of broker }) link (seated_at (document_of broker) (view_of seats.old link)) result.bytes.items (record { seats = seats.new; document = document_of result.broker }) }
 {
     let broker = match broker {
@@ -116,7 +112,6 @@ pub(crate) fn takes<K: Kit>(
     seats: &mut Seats,
     event: Waiting,
 ) -> Result<Step<K>, Memory>
-    requires { ForSome (document_of broker) (λ d. d.jobs ≡ []) }
     ensures { IfOk result (λ step. TakesOne K.rules K.cut event (record { seats = seats.old; document = document_of broker }) step.bytes.items (record { seats = seats.new; document = document_of step.broker })) }
 {
     match event {

@@ -1,4 +1,4 @@
-use Rattle.document_laws.proofs.Kept as Kept
+use Rattle.document_laws.proofs.Moving as Moving
 use Rattle.script_laws.proofs.Lines as Law
 use Rattle.script_laws.proofs.scripts_are_runs.Goals as goal
 
@@ -7,7 +7,7 @@ returns-clause-lines g c =
     let laws = g.met.K.Kit g.world.𝓛 g.world.𝓜 g.world.𝓡 ((λ s x. x), (λ x. x), (λ x. x), λ x. x) in
     λ lines out t runs.
     Law.script_played g.K.Kit.rules g.K.Kit.cut
-    (Kept.steps_keep g.K.Kit.rules g.K.Kit.cut (λ base. laws.some_part (g.K.Kit.rules.start base) (laws.sound_start base)))
+    (Moving.moves_keep g.K.Kit.rules g.K.Kit.cut (λ base. laws.some_part (g.K.Kit.rules.start base) (laws.sound_start base)))
     lines out t runs
 
 pub returns-clause-under_way : goal.returns-clause-under_way
@@ -15,5 +15,5 @@ returns-clause-under_way g c =
     let laws = g.met.K.Kit g.world.𝓛 g.world.𝓜 g.world.𝓡 ((λ s x. x), (λ x. x), (λ x. x), λ x. x) in
     λ lines line out more t runs doing.
     Law.script_under_way g.K.Kit.rules g.K.Kit.cut
-    (Kept.steps_keep g.K.Kit.rules g.K.Kit.cut (λ base. laws.some_part (g.K.Kit.rules.start base) (laws.sound_start base)))
+    (Moving.moves_keep g.K.Kit.rules g.K.Kit.cut (λ base. laws.some_part (g.K.Kit.rules.start base) (laws.sound_start base)))
     lines line out more t runs doing

@@ -21,7 +21,7 @@ events-preserved g c = record {
   came = turn_more g.K.Kit.rules g.K.Kit.cut (record { waiting = c.args.waiting.now.items; house = record { seats = c.args.seats.now; document = document_of c.args.broker } }) c.events.waiting.items (record { seats = c.events.seats; document = document_of c.events.broker }) c.in_ok-next.field-0-1 c.one_turn.new.waiting.items (record { seats = c.one_turn.new.seats; document = document_of c.in_ok-next.next })
       (g.T.Sink.written c.args.sink.now) (g.T.Sink.written c.events.sink) (g.T.Sink.written c.one_turn.new.sink) c.events.invariant.came c.in_ok-next.ensures.ok;
   housed = c.in_ok-next.ensures.housed;
-  less = acks_more g.K.Kit.rules g.K.Kit.cut c.steps_keep.ensures.step c.args.waiting.now.items c.events.waiting.items (left_of g.K.Kit.rules (document_of c.args.broker)) (record { seats = c.events.seats; document = document_of c.events.broker }) c.in_ok-next.field-0-1 c.one_turn.new.waiting.items (record { seats = c.one_turn.new.seats; document = document_of c.in_ok-next.next })
+  less = acks_more g.K.Kit.rules g.K.Kit.cut c.moves_keep.ensures.step c.args.waiting.now.items c.events.waiting.items (left_of g.K.Kit.rules (document_of c.args.broker)) (record { seats = c.events.seats; document = document_of c.events.broker }) c.in_ok-next.field-0-1 c.one_turn.new.waiting.items (record { seats = c.one_turn.new.seats; document = document_of c.in_ok-next.next })
       (g.T.Sink.written c.events.sink) (g.T.Sink.written c.one_turn.new.sink) c.events.invariant.housed c.events.invariant.less c.in_ok-next.ensures.ok;
   faults = c.in_ok-next.ensures.cause.kept (λ e. cc) ∙ c.events.invariant.faults;
 }

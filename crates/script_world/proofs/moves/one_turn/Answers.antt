@@ -18,5 +18,5 @@ returns-in_err-write_whole-clause-stop g c =
 
 pub returns-clause-housed : goal.returns-clause-housed
 returns-clause-housed g c =
-    poll_housed g.K.Kit.rules g.K.Kit.cut c.steps_keep.ensures.step c.args.waiting.now.items (record { seats = c.args.seats.now; document = document_of c.args.broker }) c.in_ok-turned.turned.bytes.items c.in_ok-turned.turned.worked c.poll_turn.new.waiting.items
+    poll_housed g.K.Kit.rules g.K.Kit.cut c.moves_keep.ensures.step c.args.waiting.now.items (record { seats = c.args.seats.now; document = document_of c.args.broker }) c.in_ok-turned.turned.bytes.items c.in_ok-turned.turned.worked c.poll_turn.new.waiting.items
     (record { seats = c.poll_turn.new.seats; document = document_of c.in_ok-turned.turned.broker }) c.requires c.in_ok-turned.ensures

@@ -19,7 +19,7 @@ returns-clause-ok g c =
 
 pub returns-clause-less : goal.returns-clause-less
 returns-clause-less g c =
-    let first = first_turn g.K.Kit.rules g.K.Kit.cut c.steps_keep.ensures.step c.args.waiting.now.items (record { seats = c.args.seats.now; document = document_of c.args.broker }) c.in_ok-next.field-0-1 c.one_turn.new.waiting.items (record { seats = c.one_turn.new.seats; document = document_of c.in_ok-next.next }) (g.T.Sink.written c.args.sink.now) (g.T.Sink.written c.one_turn.new.sink)
+    let first = first_turn g.K.Kit.rules g.K.Kit.cut c.moves_keep.ensures.step c.args.waiting.now.items (record { seats = c.args.seats.now; document = document_of c.args.broker }) c.in_ok-next.field-0-1 c.one_turn.new.waiting.items (record { seats = c.one_turn.new.seats; document = document_of c.in_ok-next.next }) (g.T.Sink.written c.args.sink.now) (g.T.Sink.written c.one_turn.new.sink)
     c.requires.housed c.requires.are c.requires.some c.requires.small c.requires.sorted c.in_ok-next.ensures.ok in
     on_ok c.all_events.result
     (λ new. AllAcknowledge c.one_turn.new.waiting.items → left_of g.K.Kit.rules (document_of new) ≤ left_of g.K.Kit.rules (document_of c.in_ok-next.next))

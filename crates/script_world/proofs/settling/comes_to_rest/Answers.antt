@@ -50,5 +50,5 @@ returns-then-is_empty-clause-ok g c = (came_joined (Moves g.K.Kit.rules g.K.Kit.
 
 pub returns-then-is_empty-clause-rests : goal.returns-then-is_empty-clause-rests
 returns-then-is_empty-clause-rests g c =
-    at_rest g.K.Kit.rules g.K.Kit.cut c.works.new.seats (document_of c.in_ok-still.still) (λ d quiet seated. c.quiet_is_right.ensures d seated.kept quiet) c.in_ok-still.ensures.housed_still c.in_ok-still.ensures.rests
+    at_rest g.K.Kit.rules g.K.Kit.cut c.works.new.seats (document_of c.in_ok-still.still) (λ held quiet seated. c.quiet_is_right.ensures held.document seated.kept.document quiet) c.in_ok-still.ensures.housed_still c.in_ok-still.ensures.rests
     (sym (c.in_ok-acknowledge_all.ensures.ok ∙ ap (λ w. w ++ acknowledgements (record { seats = c.works.new.seats; document = document_of c.in_ok-still.still })) c.in_ok-still.ensures.none_still) ∙ none_left c.acknowledge_all.new.waiting.items (λ some. let none : c.acknowledge_all.new.waiting.len ≡ 0 = is_none c.acknowledge_all.new.waiting.len c.is_empty.result c.is_empty.ensures c.if-is_empty.true in omega (arith, none)))
