@@ -231,7 +231,7 @@ pub record IsAnswered {C B S : Type 0} (rules : Rules C B) (old new : Document S
 pub works_answered : {C B S : Type 0} (rules : Rules C B) (cut : C → Place → S) (old new : Held S) (frames : List (ViewId × Frame)) → WorksAtOnce rules cut old frames new → IsHeld rules cut old → IsAnswered rules old.document new.document
 works_answered rules cut old new frames at_once kept =
     let less = at_once_lowers rules cut old.document at_once.mid.document new.document at_once.first at_once.later (works_of rules cut old new frames at_once) kept.document
-        (steps_of rules cut (all_answered at_once.first) at_once.mid new at_once.later at_once.answered)
+    (steps_of rules cut (all_answered at_once.first) at_once.mid new at_once.later at_once.answered)
     in
     record { jobs = less.0; put = less.1; less = less.2 }
 
