@@ -583,7 +583,7 @@ module _ {C B S : Type 0} (rules : Rules C B) where
         ap (λ d. d.jobs) step.1,
         ap (λ d. d.saving.put) step.1 ∙ ap (λ o. (ended o true mid.saving).put) taken,
         put_answered_lowers cut mid new errand.ticket.0 (Ok (own_receipt errand)) (put_of errand)
-        outs taken step,
+            outs taken step,
       )
 
   -- what a turn that works leads to, once all that it gave out is answered

@@ -1,6 +1,5 @@
 -- A run that is cut at two of its events.
-use Rattle.std.proofs.Common.{◌≡◌, ◌∙◌, ℕ, ◌<◌, List, [], ◌∷◌, ◌++◌, refl, ap, sym, subst, append_assoc, Some}
-use Rattle.std.specs.List.{flat_map}
+use Rattle.std.proofs.Common.{◌≡◌, ◌∙◌, ℕ, ◌<◌, List, [], ◌∷◌, ◌++◌, refl, ap, sym, subst, append_assoc}
 use Rattle.cool_base.specs.declared.ids.ViewId.{ViewId}
 use Rattle.cool_frame.specs.declared.frame.Frame.{Frame}
 use Rattle.document_machine.specs.Kept.{IsKept}
@@ -10,9 +9,8 @@ use Rattle.document_machine.specs.Due.{parts_of}
 use Rattle.document_machine.specs.Event.{Event}
 use Rattle.document_machine.specs.Held.{Held}
 use Rattle.document_machine.specs.Outputs.{nothing, joined}
-use Rattle.document_machine.specs.Run.{Run, Segment}
+use Rattle.document_machine.specs.Run.{Segment}
 use Rattle.document_machine.specs.State.{Document, opening}
-use Rattle.document_machine.specs.Step.{Step}
 use Rattle.document_machine.specs.declared.outs.Outs.{Outs}
 use Rattle.kit_trait.specs.Rules.{Rules}
 use Rattle.tile_key.specs.Places.{Place}

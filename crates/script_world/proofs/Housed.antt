@@ -3,7 +3,7 @@
 use Rattle.std.proofs.Common.{◌≡◌, ◌≢◌, ◌∙◌, ℕ, ◌<◌, Bool, true, false, cond, ◌&&◌, List, [], ◌∷◌, ◌++◌, length, nat_lt, Option, None, Some, refl, sym, ap, subst}
 use Rattle.std.specs.BTreeMap.{is_at}
 use Rattle.std.specs.List.{AllByRecursion, list_any}
-use Rattle.std.specs.Option.{is_some, is_none, ForSome}
+use Rattle.std.specs.Option.{is_some, is_none}
 use Rattle.std.specs.Ordering.{nat_cmp}
 use Rattle.document_laws.specs.AtOnce.{all_answered}
 use Rattle.document_laws.proofs.Heard.{effect_good}
@@ -231,7 +231,7 @@ pub record IsAnswered {C B S : Type 0} (rules : Rules C B) (old new : Document S
 pub works_answered : {C B S : Type 0} (rules : Rules C B) (cut : C → Place → S) (old new : Held S) (frames : List (ViewId × Frame)) → WorksAtOnce rules cut old frames new → IsHeld rules cut old → IsAnswered rules old.document new.document
 works_answered rules cut old new frames at_once kept =
     let less = at_once_lowers rules cut old.document at_once.mid.document new.document at_once.first at_once.later (works_of rules cut old new frames at_once) kept.document
-        (steps_of rules cut (all_answered at_once.first) at_once.mid new at_once.later at_once.answered)
+    (steps_of rules cut (all_answered at_once.first) at_once.mid new at_once.later at_once.answered)
     in
     record { jobs = less.0; put = less.1; less = less.2 }
 

@@ -13,7 +13,7 @@ use crate::event::Waiting;
 use crate::moves::{all_events, one_turn, works};
 use crate::seats::Seats;
 use broker_core::Broker;
-use document_laws::{quiet_is_right, moves_keep};
+use document_laws::{moves_keep, quiet_is_right};
 use kit_trait::Kit;
 use outside::Sink;
 use script_lines::Stop;
