@@ -1,4 +1,4 @@
-use Rattle.std.proofs.Common.{◌≡◌, ◌∙◌, ℕ, List, [], ◌∷◌, map, length, get_or, sym, ap, subst}
+use Rattle.std.proofs.Common.{◌≡◌, ◌∙◌, List, map, length, get_or, sym, ap, subst}
 use Rattle.kit_trait.specs.declared.values.Pixels.{Pixels}
 use Rattle.tile_cache.specs.Calls.{AreSized, end_of, finished, outs_of, told}
 use Rattle.document_machine.specs.Event.{Painted}
