@@ -13,9 +13,10 @@ returns-else-eq-clause-none g c = λ _.
     let job : Job _ = record { ticket = j.ticket; number = j.number; keys = j.group; area = j.area; scene = j.scene } in
     let here : get_or jobs c.loop-i.i job ≡ job = subst (λ (x : Job _). get_or jobs c.loop-i.i x ≡ x) (sym c.job.view_is) (sym c.index-jobs-i.is) in
     let found : find_job jobs c.args.done.now.ticket.0 ≡ Some job = ticket_finds jobs c.args.done.now.ticket.0 c.loop-i.i job c.loop-i-test.true (same_ticket j.ticket c.args.done.now.ticket.0 c.if-job-done.true) here c.loop-i.invariant in
+    let laws = g.met.S.Eq g.world.𝓛 g.world.𝓜 g.world.𝓡 ((λ s x. x), (λ x. x), (λ x. x), λ x. x) in
     let differs : g.S.PartialEq.eq j.scene c.args.done.now.scene ≡ false = sym c.eq.ensures ∙ c.if-eq.false in
     let apart : c.args.done.now.scene ≢ j.scene = λ same.
-        let equal : g.S.PartialEq.eq j.scene c.args.done.now.scene ≡ true = subst (λ x. g.S.PartialEq.eq j.scene x ≡ true) (sym same) (g.met.S.Eq.laws.refl j.scene) in
+        let equal : g.S.PartialEq.eq j.scene c.args.done.now.scene ≡ true = subst (λ x. g.S.PartialEq.eq j.scene x ≡ true) (sym same) (laws.laws.refl j.scene) in
         let both : true ≡ false = sym equal ∙ differs in
         cc
     in
