@@ -1,6 +1,5 @@
-use Rattle.std.proofs.Common.{◌≡◌, ◌≤◌, ◌<◌, ◌∷◌, length, sym, subst, ◌∙◌, arith}
+use Rattle.std.proofs.Common.{◌≤◌, ◌<◌, length, sym, subst, ◌∙◌, arith}
 use Rattle.tile_key.specs.Places.{IsGroup}
-use Rattle.document_machine.specs.Next.{right_of}
 use Rattle.broker_core.specs.Choosing.{joins_group}
 use Rattle.broker_core.proofs.Groupings.{taken_end, taken_full, taken_group, taken_more}
 use Rattle.broker_core.proofs.choosing.group_at.Goals as goal

@@ -16,9 +16,9 @@ returns-else-eq-clause-none g c = λ _.
     let laws = g.met.S.Eq g.world.𝓛 g.world.𝓜 g.world.𝓡 ((λ s x. x), (λ x. x), (λ x. x), λ x. x) in
     let differs : g.S.PartialEq.eq j.scene c.args.done.now.scene ≡ false = sym c.eq.ensures ∙ c.if-eq.false in
     let apart : c.args.done.now.scene ≢ j.scene = λ same.
-        let equal : g.S.PartialEq.eq j.scene c.args.done.now.scene ≡ true = subst (λ x. g.S.PartialEq.eq j.scene x ≡ true) (sym same) (laws.laws.refl j.scene) in
-        let both : true ≡ false = sym equal ∙ differs in
-        cc
+    let equal : g.S.PartialEq.eq j.scene c.args.done.now.scene ≡ true = subst (λ x. g.S.PartialEq.eq j.scene x ≡ true) (sym same) (laws.laws.refl j.scene) in
+    let both : true ≡ false = sym equal ∙ differs in
+    cc
     in
     subst (λ o. Ignores c.args.done.now.scene o) (sym found) apart
 

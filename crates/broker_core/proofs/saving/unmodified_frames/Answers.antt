@@ -1,4 +1,3 @@
-use Rattle.std.proofs.Common.{sym}
 use Rattle.broker_core.specs.Members.{views_of}
 use Rattle.broker_core.proofs.Served.{same_there, unmodified_more}
 use Rattle.broker_core.proofs.saving.unmodified_frames.Goals as goal

@@ -1,6 +1,5 @@
 use Rattle.std.proofs.Common.{◌≡◌, ◌↔◌, Some, IsTrue, sym, ap, subst, ◌∙◌}
 use Rattle.std.specs.Prelude.{IsSomeAnd, option_map}
-use Rattle.document_machine.specs.Held.{Held}
 use Rattle.document_machine.specs.Quiet.{IsQuiet}
 use Rattle.broker_core.proofs.Rest.{test_is}
 use Rattle.broker_core.proofs.broker.Broker.is_quiet.Goals as goal

@@ -1,8 +1,7 @@
-use Rattle.std.proofs.Common.{◌≡◌, ◌∙◌, ◌<◌, ◌+◌, ℕ, List, All, false, [], ◌∷◌, ◌++◌, length, sym, ap, subst, Some, None}
+use Rattle.std.proofs.Common.{◌≡◌, ◌∙◌, List, All, false, [], ◌∷◌, ◌++◌, length, sym, ap, subst, Some, None}
 use Rattle.std.specs.Prelude.{nat_lt}
-use Rattle.tile_cache.specs.Cached.{Cached}
 use Rattle.tile_cache.specs.Calls.{IsFree, begun}
-use Rattle.tile_key.specs.Places.{Place, IsArea, place_of_keys}
+use Rattle.tile_key.specs.Places.{Place, place_of_keys}
 use Rattle.document_machine.specs.Goes.{DoesNext}
 use Rattle.document_machine.specs.Held.{Held, current_version}
 use Rattle.document_machine.specs.Next.{group_at, next_pair}
@@ -11,7 +10,7 @@ use Rattle.document_machine.specs.State.{Job}
 use Rattle.document_machine.specs.declared.outs.Turned.TheVariants.{Worked}
 use Rattle.broker_core.specs.Choosing as choosing
 use Rattle.broker_core.specs.Held.{Holds, held_of}
-use Rattle.broker_core.proofs.Cuttings.{begins, cuts_next, group, held_cut, held_jobs, holds_cut, part_is}
+use Rattle.broker_core.proofs.Cuttings.{begins, cuts_next, held_cut, held_jobs, holds_cut, part_is}
 use Rattle.broker_core.proofs.Pairs.{group_same}
 use Rattle.broker_core.proofs.core_of.Core.cut.Goals as goal
 

@@ -1,4 +1,4 @@
-use Rattle.std.proofs.Common.{◌≡◌, ◌≤◌, ◌∙◌, length, refl, sym, ap, arith}
+use Rattle.std.proofs.Common.{◌≡◌, ◌∙◌, length, refl, sym, ap, arith}
 use Rattle.std.specs.List.{list_all}
 use Rattle.document_machine.specs.Held.{Held}
 use Rattle.document_machine.specs.Quiet.{is_quiet}

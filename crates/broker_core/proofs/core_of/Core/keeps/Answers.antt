@@ -1,5 +1,4 @@
-use Rattle.std.proofs.Common.{◌≡◌, ◌∙◌, true, false, sym, ap, subst, None, Option, is_some, ℕ}
-use Rattle.std.specs.Prelude.{IsSome}
+use Rattle.std.proofs.Common.{◌∙◌, sym, ap, is_some}
 use Rattle.document_machine.specs.Held.{Held, current_version}
 use Rattle.broker_core.specs.Held.{held_of}
 use Rattle.broker_core.proofs.Pairs.{some_same, some_is, none_is}

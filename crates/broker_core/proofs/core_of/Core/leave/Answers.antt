@@ -1,4 +1,4 @@
-use Rattle.std.proofs.Common.{◌≡◌, ◌≢◌, ◌∙◌, false, true, sym, ap, nat_eq}
+use Rattle.std.proofs.Common.{◌∙◌, sym, ap, nat_eq}
 use Rattle.document_machine.specs.Held.{Held}
 use Rattle.broker_core.specs.Held.{held_of}
 use Rattle.broker_core.proofs.Comings.{holds_left, leaves_by, room_by}

@@ -1,4 +1,4 @@
-use Rattle.std.proofs.Common.{◌≡◌, ◌∙◌, length, sym, ap}
+use Rattle.std.proofs.Common.{◌∙◌, length, sym, ap}
 use Rattle.std.specs.Prelude.{nat_lt}
 use Rattle.document_machine.specs.Held.{Held, current_version}
 use Rattle.document_machine.specs.Next.{next_pair}

@@ -1,4 +1,4 @@
-use Rattle.std.proofs.Common.{◌≡◌, ◌∙◌, refl, sym, ap, subst}
+use Rattle.std.proofs.Common.{◌∙◌, refl, ap, subst}
 use Rattle.document_machine.specs.Held.{Held}
 use Rattle.broker_core.specs.Held.{held_of}
 use Rattle.save_core.specs.Saving.{answered, answers}

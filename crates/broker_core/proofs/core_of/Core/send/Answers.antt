@@ -1,9 +1,9 @@
-use Rattle.std.proofs.Common.{◌≡◌, ◌∙◌, ℕ, List, true, false, [], ◌∷◌, ◌++◌, length, set, sym, ap, subst, Some, None, Option}
+use Rattle.std.proofs.Common.{◌≡◌, ◌∙◌, List, false, [], ◌∷◌, ◌++◌, length, set, sym, ap, subst, Some}
 use Rattle.std.specs.Prelude.{nat_lt, IsSome}
 use Rattle.std.specs.Map.{lookup}
 use Rattle.cool_base.specs.declared.ids.ViewId.{ViewId}
 use Rattle.cool_frame.specs.declared.frame.Frame.{Frame}
-use Rattle.tile_cache.specs.Cached.{Cached, current_tile}
+use Rattle.tile_cache.specs.Cached.{current_tile}
 use Rattle.tile_cache.specs.Calls.{used}
 use Rattle.tile_cache.specs.declared.tiles.Tile.{Tile}
 use Rattle.tile_key.specs.Places.{same_place}

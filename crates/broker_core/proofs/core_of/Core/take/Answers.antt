@@ -1,4 +1,4 @@
-use Rattle.std.proofs.Common.{◌≡◌, ◌∙◌, ℕ, List, [], ◌∷◌, map, length, get_or, sym, ap, subst}
+use Rattle.std.proofs.Common.{◌≡◌, ◌∙◌, List, map, length, get_or, sym, ap, subst}
 use Rattle.kit_trait.specs.declared.values.Pixels.{Pixels}
 use Rattle.tile_cache.specs.Calls.{AreSized, end_of, finished, outs_of, told}
 use Rattle.document_machine.specs.Event.{Painted}
@@ -34,8 +34,10 @@ finish-requires g c =
     let at : IsJobAt d.document.jobs c.args.done.now.ticket.0 c.args.done.now.scene c.args.i = subst (λ (o : Held _). IsJobAt o.document.jobs c.args.done.now.ticket.0 c.args.done.now.scene c.args.i) (sym c.self.view_is) c.requires in
     let here : get_or d.document.jobs c.args.i job ≡ job = subst (λ (x : Job _). get_or d.document.jobs c.args.i x ≡ x) (sym c.job.view_is) (sym c.remove-job.ensures.value) in
     let parts_are : c.in_ok-parts.parts.items ≡ map (shown_here g.K.Kit.rules d.document job) job.keys = parts_by g.K.Kit.rules g.K.Kit.cut g.K.Scene.Scene.paints g.K.Kit.IsSound laws.sound_start laws.sound_step laws.same_parts laws.pictures (g.K.Kit.contents i.kit) i.views.members.items i.tiles d c.self.invariant c.args.done.now.ticket.0 c.args.done.now.scene c.args.i job at here c.args.done.now.pixels c.in_ok-parts.parts.items c.args.done.now.painted c.in_ok-parts.ensures.pictures in
-    record { sized = subst (λ (ps : List Pixels). AreSized (outs_of c.args.done.now.ticket.0 i.tiles) ps) (sym c.as_slice.ensures.value)
-    (parts_sized g.K.Kit.rules g.K.Kit.cut g.K.Scene.Scene.paints g.K.Kit.IsSound laws.sound_start laws.sound_step laws.same_parts laws.pictures (g.K.Kit.contents i.kit) i.views.members.items i.tiles d c.self.invariant c.args.done.now.ticket.0 c.args.done.now.scene c.args.i job at here c.in_ok-parts.parts.items parts_are) }
+    record {
+      sized = subst (λ (ps : List Pixels). AreSized (outs_of c.args.done.now.ticket.0 i.tiles) ps) (sym c.as_slice.ensures.value)
+          (parts_sized g.K.Kit.rules g.K.Kit.cut g.K.Scene.Scene.paints g.K.Kit.IsSound laws.sound_start laws.sound_step laws.same_parts laws.pictures (g.K.Kit.contents i.kit) i.views.members.items i.tiles d c.self.invariant c.args.done.now.ticket.0 c.args.done.now.scene c.args.i job at here c.in_ok-parts.parts.items parts_are);
+    }
 
 pub unreachable-requires : goal.unreachable-requires
 unreachable-requires g c =

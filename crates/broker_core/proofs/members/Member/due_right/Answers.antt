@@ -1,4 +1,4 @@
-use Rattle.std.proofs.Common.{sym, ap, ◌∙◌, None}
+use Rattle.std.proofs.Common.{sym, ap, ◌∙◌}
 use Rattle.tile_key.specs.Places.{next_place}
 use Rattle.broker_core.specs.Choosing.{where_true}
 use Rattle.broker_core.proofs.Groupings.{no_key_due}
