@@ -1,13 +1,13 @@
 -- An edit from its walk to what is kept after it.
-use Rattle.std.proofs.Common.{◌≡◌, ℕ, Bool, true, List, [], Option, refl, ap, sym, ◌∙◌, subst}
+use Rattle.std.proofs.Common.{◌≡◌, ℕ, true, List, [], sym, ◌∙◌, subst}
 use Rattle.std.specs.Prelude.{Result, Ok, Err, IfOk}
 use Rattle.std.specs.BTreeMap.{is_at}
 use Rattle.std.specs.List.{filter}
 use Rattle.std.specs.List.Sorted.{IsStrictlySortedBy}
 use Rattle.std.specs.Map.{keys_of}
 use Rattle.formula_base.specs.Ranges.{Position, position_cmp}
-use Rattle.part_calc.specs.Fates.{Fates, fate_in, is_fresh, found_over, IsKept, IsComputed}
-use Rattle.part_calc.specs.Finding.{IsSound, Covers, AreFound, is_listed}
+use Rattle.part_calc.specs.Fates.{Fates, is_fresh, found_over, IsKept, IsComputed}
+use Rattle.part_calc.specs.Finding.{IsSound, Covers, AreFound}
 use Rattle.part_calc.specs.Kept.{IsPart}
 use Rattle.part_calc.specs.Lanes.{Index, Knows}
 use Rattle.part_calc.specs.Parts.{Part, with_text}

@@ -1,5 +1,5 @@
 -- What is kept before an edit, and what is found after it.
-use Rattle.std.proofs.Common.{◌≡◌, ◌⊎◌, ◌≢◌, ℕ, Bool, true, false, cond, ◌||◌, List, [], ◌∷◌, Option, Some, None, refl, ap, sym, ◌∙◌, subst, ⊎_elim, unwrap_or}
+use Rattle.std.proofs.Common.{◌≡◌, ℕ, Bool, true, false, cond, List, [], ◌∷◌, Option, Some, None, refl, ap, sym, ◌∙◌, subst, ⊎_elim, unwrap_or}
 use Rattle.std.specs.BTreeMap.{is_at, insert_entry}
 use Rattle.std.specs.List.{AllByRecursion}
 use Rattle.std.specs.List.Sorted.{IsStrictlySortedBy}
@@ -7,7 +7,6 @@ use Rattle.std.specs.Map.{keys_of, lookup}
 use Rattle.std.specs.Option.{is_some, is_none}
 use Rattle.std.specs.declared.cmp.Ordering.TheVariants.{Less}
 use Rattle.std.proofs.lemmas.Bool.{both_ways, cases_Bool, cond-true, cond-false}
-use Rattle.std.proofs.lemmas.Map.{lookup-none}
 use Rattle.std.specs.Ordering.{is_eq}
 use Rattle.formula_base.specs.declared.values.Value.{Value}
 use Rattle.formula_base.specs.Ranges.{Position, position_cmp}
@@ -15,10 +14,10 @@ use Rattle.part_calc.specs.declared.contents.Content.{Content}
 use Rattle.part_calc.specs.declared.contents.Content.TheVariants.{Plain, Formula}
 use Rattle.part_calc.specs.Contents.{is_formula}
 use Rattle.part_calc.specs.Parts.{Part, content_at, with_text, is_circular, value_at}
-use Rattle.part_calc.specs.Finding.{Known, seen_in, seen_at, is_listed, IsSound, Covers, AreFound}
+use Rattle.part_calc.specs.Finding.{seen_in, seen_at, is_listed, IsSound, Covers, AreFound}
 use Rattle.part_calc.specs.Dependants.{Depend}
 use Rattle.part_calc.specs.Fates.{Fates, fate_at, fate_in, is_fresh, found_over, put_over, IsKept, IsComputed, IsRight}
-use Rattle.part_calc.proofs.PositionLaws.{at_one, at_itself, positions_total, lookup_insert}
+use Rattle.part_calc.proofs.PositionLaws.{at_one, at_itself, lookup_insert}
 use Rattle.part_calc.proofs.PartLaws.{plain_cell}
 use Rattle.part_calc.proofs.FindLaws.{sound_none}
 use Rattle.part_calc.proofs.DependantLaws.{same_content, circular_apart, value_apart}

@@ -1,12 +1,13 @@
 -- Lanes know which formulas name a cell.
 use Rattle.std.specs.Prelude.{Result, Ok, Err, OnOk, OnErr}
-use Rattle.std.proofs.Common.{◌≡◌, ◌≢◌, ℕ, ◌+◌, ◌<◌, Bool, true, false, cond, not, ◌||◌, ◌&&◌, List, [], ◌∷◌, ◌++◌, length, take, get_or, Option, Some, None, refl, ap, sym, ◌∙◌, ⊎_elim, unwrap_or, min, max, nat_le, eqb, leb-true, arith}
+use Rattle.std.proofs.Common.{◌≡◌, ◌≢◌, ◌⊎◌, inl, inr, ℕ, ◌+◌, ◌/◌, ◌<◌, ◌≤◌, Bool, true, false, cond, not, ◌||◌, ◌&&◌, List, [], ◌∷◌, ◌++◌, length, take, get_or, Option, Some, None, refl, ap, sym, ◌∙◌, ⊎_elim, unwrap_or, min, max, nat_le, eqb, leb-true, arith}
 use Rattle.std.specs.BTreeMap.{is_at, insert_entry}
 use Rattle.std.specs.List.{list_any, filter}
 use Rattle.std.specs.List.Sorted.{IsStrictlySortedBy}
 use Rattle.std.specs.Map.{keys_of, lookup}
-use Rattle.std.proofs.lemmas.Bool.{both_ways, or_cases, or_left, or_right, and_parts, and_from, cond-true, eqb-true, not_from_true, not_from_false}
+use Rattle.std.proofs.lemmas.Bool.{both_ways, cases_lt, or_cases, or_left, or_right, and_parts, and_from, cond-true, eqb-true, not_from_true, not_from_false}
 use Rattle.std.proofs.lemmas.List.{take_more}
+use Rattle.std.proofs.lemmas.Nat.{div-add-mod', le-div}
 use Rattle.std.proofs.lemmas.List.Folds.{list_any-append}
 use Rattle.formula_base.specs.Blocks.{Block, is_within}
 use Rattle.formula_base.specs.Evaluation.{names_of}
@@ -61,34 +62,89 @@ pinned a b r h e =
     let same = eqb-true a b e in
     omega (arith, low, high, same)
 
--- the lane of a block is one of those of each cell in it
-lane_hit : (b : Block) (r : Position) → is_within r b ≡ true → (test : Position → Bool) → test (lane_of b) ≡ true → list_any test (lanes_at r) ≡ true
-lane_hit b r within test = by (eqb b.0.1 b.1.1) (eqb b.0.0 b.1.0) refl refl
+-- and one between two that lie in one band
+kept_order : (k a r : ℕ) → 0 < k → a ≤ r → a / k ≤ r / k
+kept_order k a r some h =
+    let whole = div-add-mod' a k in
+    le-div (a / k) r k some (omega (arith, whole, h))
+
+banded : (k a b r : ℕ) → 0 < k → (nat_le (min a b) r && nat_le r (max a b)) ≡ true
+    → eqb (a / k) (b / k) ≡ true → r / k ≡ a / k
+banded k a b r some h e =
+    let parts = and_parts (nat_le (min a b) r) (nat_le r (max a b)) h in
+    by (leb-true (min a b) r parts.0) (leb-true r (max a b) parts.1) (eqb-true (a / k) (b / k) e)
+    (cases_lt a b)
   where
-    parts : ((nat_le (min b.0.0 b.1.0) r.0 && nat_le r.0 (max b.0.0 b.1.0)) ≡ true) × ((nat_le (min b.0.1 b.1.1) r.1 && nat_le r.1 (max b.0.1 b.1.1)) ≡ true)
-    parts = and_parts (nat_le (min b.0.0 b.1.0) r.0 && nat_le r.0 (max b.0.0 b.1.0)) (nat_le (min b.0.1 b.1.1) r.1 && nat_le r.1 (max b.0.1 b.1.1)) within
+    by : min a b ≤ r → r ≤ max a b → a / k ≡ b / k → (a < b) ⊎ (b ≤ a) → r / k ≡ a / k
+    by low high same (inl rises) =
+        let first = kept_order k a r some (omega (arith, low, rises)) in
+        let last = kept_order k r b some (omega (arith, high, rises)) in
+        omega (arith, first, last, same)
+    by low high same (inr falls) =
+        let first = kept_order k b r some (omega (arith, low, falls)) in
+        let last = kept_order k r a some (omega (arith, high, falls)) in
+        omega (arith, first, last, same)
 
-    second : test (4096, r.1) ≡ true → list_any test (lanes_at r) ≡ true
-    second h = or_right (test r) (list_any test ((4096, r.1) ∷ (r.0, 256) ∷ (4096, 256) ∷ [])) (or_left (test (4096, r.1)) (list_any test ((r.0, 256) ∷ (4096, 256) ∷ [])) h)
+-- a list has what stands in it
+any_at : {X : Type 0} (test : X → Bool) (xs : List X) (x : X) (ys : List X) → test x ≡ true
+    → list_any test (xs ++ x ∷ ys) ≡ true
+any_at test [] x ys h = or_left (test x) (list_any test ys) h
+any_at test (y ∷ xs) x ys h =
+    or_right (test y) (list_any test (xs ++ x ∷ ys)) (any_at test xs x ys h)
 
-    third : test (r.0, 256) ≡ true → list_any test (lanes_at r) ≡ true
-    third h =
-        or_right (test r) (list_any test ((4096, r.1) ∷ (r.0, 256) ∷ (4096, 256) ∷ []))
-        (or_right (test (4096, r.1)) (list_any test ((r.0, 256) ∷ (4096, 256) ∷ [])) (or_left (test (r.0, 256)) (list_any test ((4096, 256) ∷ [])) h))
+-- the lane of a block is one of those of each cell in it
+lane_hit : (b : Block) (r : Position) → is_within r b ≡ true → (test : Position → Bool)
+    → test (lane_of b) ≡ true → list_any test (lanes_at r) ≡ true
+lane_hit b r within test =
+    by (eqb b.0.1 b.1.1) (eqb b.0.0 b.1.0) (eqb (b.0.0 / 16) (b.1.0 / 16))
+    (eqb (b.0.0 / 256) (b.1.0 / 256)) refl refl refl refl
+  where
+    parts : ((nat_le (min b.0.0 b.1.0) r.0 && nat_le r.0 (max b.0.0 b.1.0)) ≡ true)
+        × ((nat_le (min b.0.1 b.1.1) r.1 && nat_le r.1 (max b.0.1 b.1.1)) ≡ true)
+    parts =
+        and_parts (nat_le (min b.0.0 b.1.0) r.0 && nat_le r.0 (max b.0.0 b.1.0))
+        (nat_le (min b.0.1 b.1.1) r.1 && nat_le r.1 (max b.0.1 b.1.1)) within
 
-    fourth : test (4096, 256) ≡ true → list_any test (lanes_at r) ≡ true
-    fourth h =
-        or_right (test r) (list_any test ((4096, r.1) ∷ (r.0, 256) ∷ (4096, 256) ∷ []))
-        (or_right (test (4096, r.1)) (list_any test ((r.0, 256) ∷ (4096, 256) ∷ []))
-        (or_right (test (r.0, 256)) (list_any test ((4096, 256) ∷ [])) (or_left (test (4096, 256)) false h)))
+    column_lane : Position
+    column_lane = (4096, r.1)
 
-    by : (x y : Bool) → eqb b.0.1 b.1.1 ≡ x → eqb b.0.0 b.1.0 ≡ y → test (cond x (cond y b.0 (4096, b.0.1)) (cond y (b.0.0, 256) (4096, 256))) ≡ true → list_any test (lanes_at r) ≡ true
-    by true true column row h =
-        or_left (test r) (list_any test ((4096, r.1) ∷ (r.0, 256) ∷ (4096, 256) ∷ []))
-        (ap (λ (n : ℕ). test (n, r.1)) (pinned b.0.0 b.1.0 r.0 parts.0 row) ∙ ap (λ (n : ℕ). test (b.0.0, n)) (pinned b.0.1 b.1.1 r.1 parts.1 column) ∙ h)
-    by true false column row h = second (ap (λ (n : ℕ). test (4096, n)) (pinned b.0.1 b.1.1 r.1 parts.1 column) ∙ h)
-    by false true column row h = third (ap (λ (n : ℕ). test (n, 256)) (pinned b.0.0 b.1.0 r.0 parts.0 row) ∙ h)
-    by false false column row h = fourth h
+    row_lane : Position
+    row_lane = (r.0, 256)
+
+    sixteen : Position
+    sixteen = (4096 + 1, r.0 / 16)
+
+    many : Position
+    many = (4096 + 2, r.0 / 256)
+
+    last : Position
+    last = (4096, 256)
+
+    by : (x y z w : Bool) → eqb b.0.1 b.1.1 ≡ x → eqb b.0.0 b.1.0 ≡ y
+        → eqb (b.0.0 / 16) (b.1.0 / 16) ≡ z → eqb (b.0.0 / 256) (b.1.0 / 256) ≡ w
+        → test
+        (cond x (cond y b.0 (4096, b.0.1))
+        (cond y (b.0.0, 256)
+        (cond z (4096 + 1, b.0.0 / 16) (cond w (4096 + 2, b.0.0 / 256) (4096, 256))))) ≡ true
+        → list_any test (lanes_at r) ≡ true
+    by true true z w column row band bands h =
+        any_at test [] r (column_lane ∷ row_lane ∷ sixteen ∷ many ∷ last ∷ [])
+        (ap (λ (n : ℕ). test (n, r.1)) (pinned b.0.0 b.1.0 r.0 parts.0 row)
+        ∙ ap (λ (n : ℕ). test (b.0.0, n)) (pinned b.0.1 b.1.1 r.1 parts.1 column) ∙ h)
+    by true false z w column row band bands h =
+        any_at test (r ∷ []) column_lane (row_lane ∷ sixteen ∷ many ∷ last ∷ [])
+        (ap (λ (n : ℕ). test (4096, n)) (pinned b.0.1 b.1.1 r.1 parts.1 column) ∙ h)
+    by false true z w column row band bands h =
+        any_at test (r ∷ column_lane ∷ []) row_lane (sixteen ∷ many ∷ last ∷ [])
+        (ap (λ (n : ℕ). test (n, 256)) (pinned b.0.0 b.1.0 r.0 parts.0 row) ∙ h)
+    by false false true w column row band bands h =
+        any_at test (r ∷ column_lane ∷ row_lane ∷ []) sixteen (many ∷ last ∷ [])
+        (ap (λ (n : ℕ). test (4096 + 1, n)) (banded 16 b.0.0 b.1.0 r.0 (omega arith) parts.0 band) ∙ h)
+    by false false false true column row band bands h =
+        any_at test (r ∷ column_lane ∷ row_lane ∷ sixteen ∷ []) many (last ∷ [])
+        (ap (λ (n : ℕ). test (4096 + 2, n)) (banded 256 b.0.0 b.1.0 r.0 (omega arith) parts.0 bands) ∙ h)
+    by false false false false column row band bands h =
+        any_at test (r ∷ column_lane ∷ row_lane ∷ sixteen ∷ many ∷ []) last [] h
 
 -- a block that stands in its lane is of a reader of each cell in it
 reader_from_span : (index : Index) (b : Block) (c r : Position) → has_span index b c ≡ true → is_within r b ≡ true → is_reader index r c ≡ true

@@ -1,12 +1,8 @@
 -- Readers are found by the blocks of formulas, cell by cell.
 use Rattle.std.proofs.Common.{◌≡◌, ℕ, Bool, true, false, cond, List, [], ◌∷◌, ◌++◌, map, refl, ap, sym, ◌∙◌, append_assoc, append-nil}
-use Rattle.std.specs.Prelude.{fold}
 use Rattle.std.specs.List.{list_any, filter}
-use Rattle.std.specs.BTreeMap.{is_at}
-use Rattle.formula_base.specs.declared.expressions.Expr.{Expr}
-use Rattle.formula_base.specs.Ranges.{Position, position_cmp}
-use Rattle.formula_base.specs.Blocks.{Block, is_within}
-use Rattle.formula_base.specs.Evaluation.{names_of, reads_of}
+use Rattle.formula_base.specs.Ranges.{Position}
+use Rattle.formula_base.specs.Blocks.{is_within}
 use Rattle.part_calc.specs.declared.contents.Content.{Content}
 use Rattle.part_calc.specs.Contents.{content_of, reads_in, blocks_in}
 use Rattle.part_calc.specs.Finding.{is_listed}

@@ -1,9 +1,9 @@
 -- The walk along readers: what each visit leaves of its state.
-use Rattle.std.proofs.Common.{◌≡◌, ◌⊎◌, ℕ, ◌+◌, ◌<◌, Bool, true, false, cond, not, ◌||◌, ◌&&◌, List, [], ◌∷◌, ◌++◌, length, take, get_or, Option, Some, None, refl, ap, sym, ◌∙◌, subst, ⊎_elim, unwrap_or, arith}
+use Rattle.std.proofs.Common.{◌≡◌, ℕ, ◌+◌, ◌<◌, Bool, true, false, cond, ◌||◌, ◌&&◌, List, [], ◌∷◌, ◌++◌, length, take, get_or, Option, Some, None, refl, ap, sym, ◌∙◌, subst, ⊎_elim, unwrap_or, arith}
 use Rattle.std.specs.BTreeMap.{is_at}
 use Rattle.std.specs.List.{list_any}
 use Rattle.std.specs.Option.{is_some}
-use Rattle.std.proofs.lemmas.Bool.{both_ways, cases_Bool, or_cases, or_left, or_right}
+use Rattle.std.proofs.lemmas.Bool.{both_ways, or_cases, or_right}
 use Rattle.std.proofs.lemmas.List.{take_more}
 use Rattle.std.proofs.lemmas.List.Folds.{list_any-append}
 use Rattle.formula_base.specs.Blocks.{is_within}
@@ -12,10 +12,10 @@ use Rattle.formula_base.specs.Ranges.{Position, position_cmp}
 use Rattle.part_calc.specs.declared.dependants.Visit.{Visit}
 use Rattle.part_calc.specs.declared.lanes.Span.{Span}
 use Rattle.part_calc.specs.Finding.{is_listed}
-use Rattle.part_calc.specs.Lanes.{Index, is_read, is_reader, spans_in, lanes_at}
+use Rattle.part_calc.specs.Lanes.{Index, is_read, is_reader}
 use Rattle.part_calc.specs.Fates.{Fates, fate_in, is_fresh}
 use Rattle.part_calc.specs.Walking.{entering, leaving, enters, leaves, IsPushed, IsWalk, IsReached}
-use Rattle.part_calc.proofs.PositionLaws.{at_one, at_itself}
+use Rattle.part_calc.proofs.PositionLaws.{at_one}
 
 or_false : (b : Bool) → b ≡ (b || false)
 or_false true = refl
@@ -73,23 +73,6 @@ pub span_out : (visits : List Visit) (r : Position) (s : Span) → is_within r s
 span_out visits r s without =
     pushed_same visits visits (λ c. false) (λ c. is_within r s.block && is_at (position_cmp c) s.reader)
     (λ c. ap (λ (b : Bool). b && is_at (position_cmp c) s.reader) (sym without)) (pushed_none visits)
-
--- the readers in the four lanes
-pub lanes_pushed : (index : Index) (p : Position) (a b c d e : List Visit) → IsPushed a b (is_read (spans_in index p) p) → IsPushed b c (is_read (spans_in index (4096, p.1)) p) → IsPushed c d (is_read (spans_in index (p.0, 256)) p) → IsPushed d e (is_read (spans_in index (4096, 256)) p)
-    → IsPushed a e (is_reader index p)
-lanes_pushed index p a b c d e first second third fourth =
-    let one = λ (q : Position). is_read (spans_in index p) p q in
-    let two = λ (q : Position). is_read (spans_in index (4096, p.1)) p q in
-    let three = λ (q : Position). is_read (spans_in index (p.0, 256)) p q in
-    let four = λ (q : Position). is_read (spans_in index (4096, 256)) p q in
-    pushed_same a e (λ q. ((one q || two q) || three q) || four q) (is_reader index p) (λ q. four_ways (one q) (two q) (three q) (four q))
-    (pushed_both a d e (λ q. (one q || two q) || three q) four (pushed_both a c d (λ q. one q || two q) three (pushed_both a b c one two first second) third) fourth)
-  where
-    four_ways : (w x y z : Bool) → (((w || x) || y) || z) ≡ (w || (x || (y || (z || false))))
-    four_ways true x y z = refl
-    four_ways false true y z = refl
-    four_ways false false true z = refl
-    four_ways false false false z = or_false z
 
 -- the first cells, and one more
 pub starts_more : (visits after : List Visit) (starts : List Position) (i : ℕ) (p : Position) → i < length starts → p ≡ get_or starts i p → IsPushed [] visits (is_listed (take i starts)) → after ≡ visits ++ entering p ∷ [] → IsPushed [] after (is_listed (take (i + 1) starts))

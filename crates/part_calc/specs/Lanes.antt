@@ -1,5 +1,5 @@
--- Who names a cell, by lanes: the blocks that formulas name stand in lanes, each in one, and a cell lies in four.
-use Rattle.std.specs.Prelude.{◌≡◌, Bool, true, ◌&&◌, ◌==◌, List, [], ◌∷◌, unwrap_or, refl, if◌then◌else◌}
+-- Who names a cell, by lanes: the blocks that formulas name stand in lanes, each in one, and a cell lies in six.
+use Rattle.std.specs.Prelude.{◌≡◌, ◌+◌, ◌/◌, Bool, true, ◌&&◌, ◌==◌, List, [], ◌∷◌, unwrap_or, refl, if◌then◌else◌}
 use Rattle.std.specs.BTreeMap.{is_at}
 use Rattle.std.specs.List.{list_any}
 use Rattle.std.specs.Map.{lookup}
@@ -20,14 +20,22 @@ coded_span =
 abbrev pub Index : Type 0
 Index = List (Position × List Span)
 
--- the lane of a block: a cell's own, a column's, a row's, or the one of all wider blocks
+-- the lane of a block of several rows and columns: that of sixteen rows, that of 256 rows, or the one of all others
+abbrev pub wide_lane : Block → Position
+wide_lane b =
+    if b.0.0 / 16 == b.1.0 / 16 then (ROWS + 1, b.0.0 / 16)
+    else (if b.0.0 / 256 == b.1.0 / 256 then (ROWS + 2, b.0.0 / 256) else (ROWS, COLUMNS))
+
+-- the lane of a block: a cell's own, a column's, a row's, or one of wider blocks
 abbrev pub lane_of : Block → Position
 lane_of b =
-    if b.0.1 == b.1.1 then (if b.0.0 == b.1.0 then b.0 else (ROWS, b.0.1)) else (if b.0.0 == b.1.0 then (b.0.0, COLUMNS) else (ROWS, COLUMNS))
+    if b.0.1 == b.1.1 then (if b.0.0 == b.1.0 then b.0 else (ROWS, b.0.1))
+    else (if b.0.0 == b.1.0 then (b.0.0, COLUMNS) else wide_lane b)
 
 -- the lanes in which a block with the cell can stand
 abbrev pub lanes_at : Position → List Position
-lanes_at r = r ∷ (ROWS, r.1) ∷ (r.0, COLUMNS) ∷ (ROWS, COLUMNS) ∷ []
+lanes_at r =
+    r ∷ (ROWS, r.1) ∷ (r.0, COLUMNS) ∷ (ROWS + 1, r.0 / 16) ∷ (ROWS + 2, r.0 / 256) ∷ (ROWS, COLUMNS) ∷ []
 
 -- the spans of a lane
 unfoldable pub spans_in : Index → Position → List Span

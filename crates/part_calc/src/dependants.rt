@@ -156,6 +156,8 @@ fn push_readers(index: &Index, visits: &mut Vec<Visit>, position: (u32, u32)) ->
     push_lane(index, visits, position, position)?;
     push_lane(index, visits, (ROWS, position.1), position)?;
     push_lane(index, visits, (position.0, COLUMNS), position)?;
+    push_lane(index, visits, (ROWS + 1, position.0 / 16), position)?;
+    push_lane(index, visits, (ROWS + 2, position.0 / 256), position)?;
     push_lane(index, visits, (ROWS, COLUMNS), position)?;
     Ok(())
 }

@@ -1,14 +1,15 @@
 //! Who names a cell: the blocks that formulas name, by lanes.
 //!
 //! A block stands in one lane: that of its cell, where it has no other; that of its column or of its
-//! row, where it lies in one; and else in the lane of all wider blocks. So the formulas that name a cell
-//! stand in four lanes, that of the cell, those of its column and its row, and the last.
+//! row, where it lies in one; else in that of the sixteen rows or of the 256 rows in which it lies, and
+//! else in the lane of all others. So the formulas that name a cell stand in six lanes: that of the cell,
+//! those of its column and its row, those of the sixteen and of the 256 rows about it, and the last.
 ghost use Rattle.std.specs.Prelude.{◌≡◌, ◌||◌, ◌++◌, ◌∷◌, [], not, true, false, Bool, IfOk, OnOk, OnErr, if◌then◌else◌};
 ghost use Rattle.std.specs.List.{list_any, filter};
 ghost use Rattle.std.specs.BTreeMap.{is_at};
 ghost use Rattle.formula_base.specs.Ranges.{Position, position_cmp};
 ghost use Rattle.formula_base.specs.Blocks.{Block as BlockAt};
-ghost use Rattle.part_calc.specs.Lanes.{lane_of, spans_in, is_block, is_span, has_span, IsGrown, Knows};
+ghost use Rattle.part_calc.specs.Lanes.{wide_lane, lane_of, spans_in, is_block, is_span, has_span, IsGrown, Knows};
 
 use crate::contents::Cell;
 use cool_base::Memory;
@@ -122,6 +123,20 @@ pub fn lane_of(block: Block) -> (u32, u32)
         }
     } else if first.0 == last.0 {
         (first.0, COLUMNS)
+    } else {
+        wide_lane(block)
+    }
+}
+
+// The lane of a block of several rows and columns.
+fn wide_lane(block: Block) -> (u32, u32)
+    ensures { result ≡ wide_lane block }
+{
+    let (first, last) = block;
+    if first.0 / 16 == last.0 / 16 {
+        (ROWS + 1, first.0 / 16)
+    } else if first.0 / 256 == last.0 / 256 {
+        (ROWS + 2, first.0 / 256)
     } else {
         (ROWS, COLUMNS)
     }

@@ -1,4 +1,4 @@
-use Rattle.std.proofs.Common.{◌≡◌, length, subst, arith}
+use Rattle.std.proofs.Common.{subst, arith}
 use Rattle.part_calc.specs.Walking.{IsWalk}
 use Rattle.part_calc.proofs.WalkingLaws.{walk_first, walk_end}
 use Rattle.part_calc.proofs.dependants.search.Goals as goal

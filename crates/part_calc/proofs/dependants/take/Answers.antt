@@ -1,4 +1,3 @@
-use Rattle.std.proofs.Common.{ℕ, ap, sym, ◌∙◌, subst}
 use Rattle.part_calc.proofs.WalkingLaws.{take_leave, take_enter}
 use Rattle.part_calc.proofs.dependants.take.Goals as goal
 

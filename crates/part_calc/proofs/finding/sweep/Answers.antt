@@ -1,7 +1,6 @@
 use Rattle.std.proofs.Common.{◌<◌, length, get_or, arith}
 use Rattle.std.proofs.lemmas.List.{get_or_default}
 use Rattle.formula_base.specs.Ranges.{Position}
-use Rattle.part_calc.specs.Fates.{found_over}
 use Rattle.part_calc.proofs.FindLaws.{try_more, try_stays}
 use Rattle.part_calc.proofs.finding.sweep.Goals as goal
 

@@ -1,6 +1,4 @@
 use Rattle.std.proofs.Common.{Bool, Some, cond, ap, ◌∙◌, rules}
-use Rattle.std.specs.BTreeMap.{is_at}
-use Rattle.formula_base.specs.Ranges.{position_cmp}
 use Rattle.part_calc.specs.Fates.{fate_in}
 use Rattle.part_calc.proofs.PositionLaws.{at_flip}
 use Rattle.part_calc.proofs.keeping.put_fate.Goals as goal

@@ -1,5 +1,4 @@
-use Rattle.std.proofs.Common.{sym, ap, ◌∙◌}
-use Rattle.part_calc.specs.Fates.{Fates, fate_in}
+use Rattle.std.proofs.Common.{sym, ◌∙◌}
 use Rattle.part_calc.proofs.FoundLaws.{tidied_stays}
 use Rattle.part_calc.proofs.keeping.tidy.Goals as goal
 

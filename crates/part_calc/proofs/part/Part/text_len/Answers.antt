@@ -1,4 +1,4 @@
-use Rattle.std.proofs.Common.{◌≡◌, ◌+◌, ◌≤◌, ◌<◌, length, ap, ◌∙◌, arith}
+use Rattle.std.proofs.Common.{◌≤◌, ◌<◌, length, ap, ◌∙◌, arith}
 use Rattle.part_calc.specs.Parts.{Part}
 use Rattle.part_calc.specs.Text.{part_lines}
 use Rattle.part_calc.proofs.LengthLaws.{text_fits, low_number, high_number}
