@@ -1,0 +1,14 @@
+pub mod Settling
+pub mod Working
+pub mod Befell
+pub mod Doing
+pub mod Happening
+pub mod Turning
+pub mod Refreshing
+pub mod Closing
+pub mod Showing
+pub mod Places
+pub mod Each
+pub mod Leaving
+pub mod Housing
+pub mod Joining

@@ -1,0 +1,26 @@
+//! A poll over many documents: it takes events from its net, gives frames to links, and keeps
+//! documents with their brokers.
+//!
+//! - `OwnedDocument` (`owned`): a broker with its file, the links of its views, and its lock.
+//! - `moving`: what comes to a document: a join, a text, a turn.
+//! - `giving`: the frames of a document are given to the links of its views, in order.
+//! - `befalling`: an event comes to a document, and all that is owed for it is done.
+//! - `locks`: the lock of a document, refreshed and released.
+//! - `house`: all that a poll holds.
+//! - `lodged`: what a house holds under an id: a document, or a file whose load was refused.
+//! - `works`: the works of a document are offered to the yard, or done at once.
+//! - `Parcel`, `Mail` (`parcels`): what polls send to each other.
+#![tactic(auto)]
+
+mod befalling;
+mod giving;
+mod house;
+mod locks;
+mod lodged;
+mod moving;
+mod owned;
+mod parcels;
+mod works;
+
+pub use owned::{HeldLock, OwnedDocument};
+pub use parcels::{Letter, Mail, Parcel};
