@@ -149,7 +149,7 @@ fn all_printable(id: &[u8]) -> bool
 pub fn may_be_lock(id: &[u8]) -> bool
     ensures { result ≡ is_lock_text id.now }
 {
-    !id.is_empty() && id.len() <= 1024 && all_printable(id)
+    !id.is_empty() && id.len() <= LOCK_LIMIT && all_printable(id)
 }
 
 fn has_id(asked: Option<&[u8]>) -> bool
