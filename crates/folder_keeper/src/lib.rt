@@ -31,7 +31,7 @@ impl<'a, R: Files> FolderKeeper<'a, R> {
 
     /// A keeper of the files in the folder, which must be there.
     pub fn open(rt: &'a R, alloc: Global, folder: &str) -> Result<FolderKeeper<'a, R>, KeeperFault>
-        ensures { IfOk result (λ keeper. keeper.faults ≡ 0) }
+        ensures { IfOk result (λ keeper. (keeper.faults ≡ 0) × (keeper.accepted ≡ 0)) }
     {
         match fs::metadata(rt, folder) {
             Ok(found) if found.is_dir() => {}
