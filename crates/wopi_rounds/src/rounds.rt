@@ -121,7 +121,11 @@ fn the_lock_is_told_both_ways(rt: HostRuntime) -> Result<(), Fail> {
     let mut host = Host::new(alloc, MemoryKeeper::new(alloc))?;
     let file = FileId::read("d").expect(&rt, "a file id");
     host.add(&file, &Bytes::from_static(b"abc"))?;
-    for (step, told) in [(Step::Unlock, ""), (Step::Lock, "cool-d"), (Step::Unlock, "")] {
+    for (step, told) in [
+        (Step::Unlock, ""),
+        (Step::Lock, "cool-d"),
+        (Step::Unlock, ""),
+    ] {
         let ask = ask_of(&rt, alloc, step)?;
         asked(alloc, &mut host, &ask)?;
         let request = carried(alloc, &get_lock(alloc)?)?;
