@@ -3,7 +3,8 @@ use Rattle.std.proofs.Common.{◌≡◌, ◌≢◌, ℕ, ◌+◌, ◌<◌, ◌�
 use Rattle.std.proofs.Common.{refl, ap, subst, sym, ◌∙◌, append_assoc, length, take, drop, set, get_or}
 use Rattle.std.proofs.Common.{zero, suc, false, true, if◌then◌else◌, add-one, arith}
 use Rattle.std.proofs.lemmas.List.{append-nil, take_more, take_all, get_or-map, length-map}
-use Rattle.std.proofs.lemmas.List.{length-take-le}
+use Rattle.std.proofs.lemmas.List.{get_or_default, length-drop, length-take-le}
+use Rattle.std.proofs.Common.{◌-◌, Result, Ok, Err, IsOk, IsErr, true≢false}
 use Rattle.std.proofs.Math.Seq.{drop-cons, drop-append_seam}
 use Rattle.net_traits.specs.Nets.{LinkEvent}
 use Rattle.poll_machine.specs.Words.{Ways}
@@ -239,3 +240,46 @@ plan_at {D} {J} {P} {L} w carries plan house i p q s fine worked n t within is a
     (record house { docs = set house.docs i q; ended = n }) t)
     (id_is house i p within is)
     (does_at w carries (plan p.0) house i p q s fine worked n t within is a)
+
+-- what stands at a place is one
+one_there : {A : Type 0} (xs : List A) (i : ℕ) (p q : A) → i < length xs → p ≡ get_or xs i p
+    → q ≡ get_or xs i q → p ≡ q
+one_there xs i p q within first second = first ∙ get_or_default xs i p q within ∙ sym second
+
+-- the same of whatever is known to stand there
+pub done_at : {D J P L : Type 0} (w : Ways D J P) (carries : L → List LinkEvent)
+    (plan : ℕ → Plan (House D J P L) (Happens D J P L)) (house : House D J P L) (i : ℕ)
+    (p q r : ℕ × Slot D J P L) (s : Heard D J P L) (fine : Type 0) (worked : Bool) (n : ℕ)
+    (t : Heard D J P L)
+    → i < length house.docs → p ≡ get_or house.docs i p → r ≡ get_or house.docs i r
+    → Does w carries (plan p.0)
+    (in_house house (take i house.docs) p (drop (i + 1) house.docs) house.ended) s fine worked
+    (in_house house (take i house.docs) q (drop (i + 1) house.docs) n) t
+    → Does w carries (plan r.0) house s fine worked
+    (record house { docs = set house.docs i q; ended = n }) t
+done_at {D} {J} {P} {L} w carries plan house i p q r s fine worked n t within is there a =
+    subst
+    (λ (x : ℕ × Slot D J P L). Does w carries (plan x.0) house s fine worked
+    (record house { docs = set house.docs i q; ended = n }) t)
+    (one_there house.docs i p r within is there)
+    (does_at w carries (plan p.0) house i p q s fine worked n t within is a)
+
+-- a call that was out of memory did a part of its plan, whatever it left
+pub does_failed : {D J P L A E : Type 0} (w : Ways D J P) (carries : L → List LinkEvent)
+    (plan : Plan (House D J P L) (Happens D J P L)) (old : House D J P L) (s : Heard D J P L)
+    (fine : Type 0) (result : Result A E) (worked told : Bool) (new end : House D J P L)
+    (t : Heard D J P L)
+    → IsErr result → Does w carries plan old s fine worked new t
+    → Does w carries plan old s (IsOk result) told end t
+does_failed w carries plan old s fine (Ok a) worked told new end t none done = cc
+does_failed w carries plan old s fine (Err e) worked told new end t none done =
+    does_off w carries plan old s fine _ worked told new end t (λ f. true≢false (sym f)) done
+
+-- where some are left of as many as there were, something stands here
+pub stands_here : {A : Type 0} (all : List ℕ) (docs : List A) (k i : ℕ) (ids : List ℕ)
+    → length ids ≡ length docs → k < length all → drop k all ≡ drop i ids → i < length docs
+stands_here all docs k i ids same within left =
+    let behind : length (drop k all) ≡ length (drop i ids) = ap (λ (l : List ℕ). length l) left in
+    let one : length (drop k all) ≡ length all - k = length-drop k all in
+    let two : length (drop i ids) ≡ length ids - i = length-drop i ids in
+    omega (arith, same, within, behind, one, two)

@@ -12,3 +12,5 @@ pub mod Each
 pub mod Leaving
 pub mod Housing
 pub mod Joining
+pub mod Answering
+pub mod Tokens

@@ -1,18 +1,22 @@
 //! The house of a poll: all that it holds.
 ghost use Rattle.std.specs.Prelude.{◌≡◌, ◌<◌, ◌+◌, ◌++◌, ℕ, List, Option, Some, Ok, IsOk, IfOk, OnOk};
+ghost use Rattle.std.specs.Prelude.{◌^◌, if◌then◌else◌};
+ghost use Rattle.std.specs.Option.{option_to_list};
 ghost use Rattle.std.specs.Prelude.{◌||◌, length, take, drop, slice_index_or, true, false, None, IfSome};
 ghost use Rattle.load_address.specs.declared.served.Served.{Served};
 ghost use Rattle.net_traits.specs.Nets.{Releases, Tells};
 ghost use Rattle.poll_instance.specs.Instance.{ways};
 ghost use Rattle.poll_machine.specs.Told.{was_given};
-ghost use Rattle.poll_machine.specs.House.{Ends, is_among, lost_by, view_in};
+ghost use Rattle.poll_machine.specs.House.{Answered as MailAnswered, Ends, is_among, lost_by, view_in};
 ghost use Rattle.poll_machine.specs.Lobby.{shows};
 ghost use Rattle.poll_machine.specs.Plans.{Looks};
-ghost use Rattle.poll_machine.specs.Turn.{closes, did, for_each, ids, leaves, refreshes, turns};
+ghost use Rattle.poll_machine.specs.Turn.{closes, did, for_each, ids, leaves, reads, refreshes};
+ghost use Rattle.poll_machine.specs.Turn.{turns};
 ghost use Rattle.poll_machine.specs.Words.{Left, Said};
 ghost use Rattle.poll_owner.specs.Doing.{Does, first_in, found_in, id_at, ids_left};
 ghost use Rattle.poll_owner.specs.Lodging.{BrokersSlot, IsPlace, is_live_slot};
-ghost use Rattle.poll_owner.specs.Outside.{BrokersHeard, outside, with_net, with_port, with_store};
+ghost use Rattle.poll_owner.specs.Outside.{BrokersHeard, answer_in, outside, with_net, with_port};
+ghost use Rattle.poll_owner.specs.Outside.{with_store};
 
 use crate::lodged::Lodged;
 use crate::parcels::{Mail, Parcel};
@@ -25,7 +29,7 @@ use poll_hall::Port;
 use poll_links::Lobby;
 use std::alloc::Global;
 use std::marker::Model;
-use yard_traits::{Work, Yard};
+use yard_traits::{Answer, Work, Yard};
 
 /// What a poll holds: its documents in the order of their ids, the links of its lobby, the files of
 /// the documents that it closed as lost, how many links opened here and how many ended, and the
@@ -81,6 +85,25 @@ fn either(one: bool, other: bool) -> bool
     one || other
 }
 
+// The file is noted behind the others, where there is one.
+fn note(files: &mut Vec<FileId>, more: Option<FileId>) -> Result<(), Memory>
+    ensures { OnOk result (files.new.items ≡ files.old.items ++ option_to_list more) }
+{
+    match more {
+        Some(file) => files.push(file)?,
+        None => {}
+    }
+    Ok(())
+}
+
+// The place of what comes next: the same once what stood here is held no more.
+fn next_place(gone: bool, i: usize) -> usize
+    requires { i + 1 < 2 ^ 64 }
+    ensures { result ≡ if gone then i else i + 1 }
+{
+    if gone { i } else { i + 1 }
+}
+
 // Where the document stands of which the link is a view, and that view; None where it is none's.
 fn place_of<K: Kit, N: Net>(docs: &[Lodged<K, N>], link: LinkId) -> Option<(usize, ViewId)>
     ensures place { IfSome result (λ r. IsPlace docs.now link.0 r.0 r.1.0) }
@@ -120,9 +143,9 @@ impl<K: Kit, N: Net> House<K, N> {
     {
         let moment = self.moment;
         let lodged = &mut self.docs[i];
-        let (worked, ended) = lodged.turn(alloc, net, store, yard, port, moment)?;
-        self.ended = sum_of(self.ended, ended)?;
-        Ok(worked)
+        let made = lodged.turn(alloc, net, store, yard, port, moment)?;
+        self.ended = sum_of(self.ended, made.1)?;
+        Ok(made.0)
     }
 
     /// Each document makes a turn, in the order of ids. Whether some one did a work.
@@ -203,9 +226,9 @@ impl<K: Kit, N: Net> House<K, N> {
                   ++ lost_by (ways K.rules K.cut served) (Some p.1) (Ends (Ok tt));
             }) }
     {
-        if let Some(file) = self.docs[i].lost_file() {
-            self.lost.push(file)?;
-        }
+        let lodged = &self.docs[i];
+        let lost = lodged.lost_file();
+        note(&mut self.lost, lost)?;
         self.docs.remove(i);
         Ok(())
     }
@@ -229,16 +252,68 @@ impl<K: Kit, N: Net> House<K, N> {
         ensures left { IfOk result (λ r. ids self.new ≡ ids_left r.1 i (ids self.old)) }
     {
         let lodged = &mut self.docs[i];
+        let doc = lodged.id();
         let Some(unlocked) = lodged.make_ready(alloc, store)? else {
             return Ok((false, false));
         };
-        match port.close(self.docs[i].id) {
+        match port.close(doc) {
             Ok(()) => {
                 self.forget(i)?;
                 Ok((true, true))
             }
             Err(_) => Ok((unlocked, false)),
         }
+    }
+
+    /// Each document that is done is closed, and what is held as refused, in the order of ids.
+    /// Whether some lock was released or something was closed.
+    pub(crate) fn close_all<H: Store, P: Port<Parcel<K, N::Link>, Mail<K::Scene, N::Link>>>(
+        &mut self,
+        alloc: Global,
+        store: &mut H,
+        port: &mut P,
+    ) -> Result<bool, Memory>
+        ensures closes { (served : Served) (s : BrokersHeard K.Scene N.Link)
+            → Does (ways K.rules K.cut served) N.carried
+            (for_each (closes (ways K.rules K.cut served))) self.old
+            (with_port (with_store s (H.calls store.old)) (P.view port.old)) (IsOk result)
+            (found_in result) self.new
+            (with_port (with_store s (H.calls store.new)) (P.view port.new)) }
+    {
+        let mut closed = false;
+        let mut i = 0;
+        for _k in 0..self.docs.len() {
+            let more = self.close_at(alloc, store, port, i)?;
+            closed = either(closed, more.0);
+            i = next_place(more.1, i);
+        }
+        Ok(closed)
+    }
+
+    /// The answer to a work of the document at this place comes, and its frames are given; what is
+    /// held as refused drops it.
+    pub(crate) fn answer_at(
+        &mut self,
+        alloc: Global,
+        net: &mut N,
+        i: usize,
+        answer: &Answer<K::Scene>,
+    ) -> Result<(), Memory>
+        requires { i < length self.old.docs }
+        ensures answers { (served : Served) (s : BrokersHeard K.Scene N.Link)
+            → Does (ways K.rules K.cut served) N.carried
+            (reads (ways K.rules K.cut served) (id_at self.old i) (MailAnswered
+            (answer_in (λ d. record { ticket = d.ticket.0; scene = d.scene }) answer.now))) self.old
+            (with_net s (N.told net.old)) (IsOk result) false self.new
+            (with_net s (N.told net.new)) }
+        ensures same { ids self.new ≡ ids self.old }
+        ensures takes { N.take_faults net.new ≡ N.take_faults net.old }
+    {
+        let moment = self.moment;
+        let lodged = &mut self.docs[i];
+        let ended = lodged.answered(alloc, net, moment, answer)?;
+        self.ended = sum_of(self.ended, ended)?;
+        Ok(())
     }
 
     // The view of a document at this place says a text, and all that comes of it is done.

@@ -4,13 +4,13 @@ ghost use Rattle.std.specs.Prelude.{true, false};
 ghost use Rattle.std.specs.Option.{option_map, option_to_list};
 ghost use Rattle.load_address.specs.declared.served.Served.{Served};
 ghost use Rattle.poll_instance.specs.Instance.{ways};
-ghost use Rattle.poll_machine.specs.House.{Ends, Rises, lost_by, view_at};
-ghost use Rattle.poll_machine.specs.Turn.{did, refreshes, turns};
+ghost use Rattle.poll_machine.specs.House.{Answered as MailAnswered, Ends, Rises, lost_by, view_at};
+ghost use Rattle.poll_machine.specs.Turn.{did, reads, refreshes, turns};
 ghost use Rattle.poll_machine.specs.Words.{Left, Said};
 ghost use Rattle.poll_owner.specs.Doing.{Does, count_of, in_house, worked_in, ended_in, found_in};
 ghost use Rattle.poll_owner.specs.Locking.{Readies};
 ghost use Rattle.poll_owner.specs.Lodging.{BrokersHouse, BrokersDocs, is_live_slot, slot_in};
-ghost use Rattle.poll_owner.specs.Outside.{BrokersHeard, outside, with_store};
+ghost use Rattle.poll_owner.specs.Outside.{BrokersHeard, answer_in, outside, with_net, with_store};
 
 use crate::owned::OwnedDocument;
 use crate::parcels::{Mail, Parcel};
@@ -23,7 +23,7 @@ use poll_hall::Port;
 use poll_lobby::Refusal;
 use std::alloc::Global;
 use std::marker::Model;
-use yard_traits::{Work, Yard};
+use yard_traits::{Answer, Work, Yard};
 
 /// A document, or a file whose load was refused, with the answer that it keeps.
 #[derive(Drop)]
@@ -152,6 +152,32 @@ impl<K: Kit, N: Net> Kept<OwnedDocument<K, N>, Refusal> {
         }
     }
 
+    // The answer to one of its works comes; what is held as refused drops it.
+    fn answered(
+        &mut self,
+        alloc: Global,
+        net: &mut N,
+        at: At,
+        answer: &Answer<K::Scene>,
+    ) -> Result<u64, Memory>
+        ensures answers { (served : Served) (s : BrokersHeard K.Scene N.Link)
+            (house : BrokersHouse K.Scene N.Link) (front back : BrokersDocs K.Scene N.Link)
+            → house.moment ≡ at.moment → Rises (front ++ (at.doc.0, slot_in self.old) ∷ back)
+            → Does (ways K.rules K.cut served) N.carried
+            (reads (ways K.rules K.cut served) at.doc.0 (MailAnswered
+            (answer_in (λ d. record { ticket = d.ticket.0; scene = d.scene }) answer.now)))
+            (in_house house front (at.doc.0, slot_in self.old) back house.ended)
+            (with_net s (N.told net.old)) (IsOk result) false
+            (in_house house front (at.doc.0, slot_in self.new) back
+            (house.ended + count_of result)) (with_net s (N.told net.new)) }
+        ensures takes { N.take_faults net.new ≡ N.take_faults net.old }
+    {
+        match self {
+            Kept::Live(owned) => owned.answered(alloc, net, at.moment, answer),
+            Kept::Refused(_, _) => Ok(0),
+        }
+    }
+
     // It is made ready to be closed.
     fn make_ready<H: Store>(&mut self, alloc: Global, store: &mut H) -> Result<Option<bool>, Memory>
         ensures readies { (served : Served) (id : ℕ) → Readies (ways K.rules K.cut served)
@@ -257,6 +283,41 @@ impl<K: Kit, N: Net> Lodged<K, N> {
             moment,
         };
         self.kept.refresh(alloc, store, at)
+    }
+
+    /// The id under which it is held.
+    pub(crate) fn id(&self) -> DocId
+        ensures { result.0 ≡ self.now.0 }
+    {
+        self.id
+    }
+
+    /// The answer to one of its works comes, in whatever house, and its frames are given; what is
+    /// held as refused drops it. How many links ended.
+    pub(crate) fn answered(
+        &mut self,
+        alloc: Global,
+        net: &mut N,
+        moment: u64,
+        answer: &Answer<K::Scene>,
+    ) -> Result<u64, Memory>
+        ensures answers { (served : Served) (s : BrokersHeard K.Scene N.Link)
+            (house : BrokersHouse K.Scene N.Link) (front back : BrokersDocs K.Scene N.Link)
+            → house.moment ≡ moment → Rises (front ++ self.old ∷ back)
+            → Does (ways K.rules K.cut served) N.carried
+            (reads (ways K.rules K.cut served) self.old.0 (MailAnswered
+            (answer_in (λ d. record { ticket = d.ticket.0; scene = d.scene }) answer.now)))
+            (in_house house front self.old back house.ended) (with_net s (N.told net.old))
+            (IsOk result) false (in_house house front self.new back (house.ended + count_of result))
+            (with_net s (N.told net.new)) }
+        ensures same { self.new.0 ≡ self.old.0 }
+        ensures takes { N.take_faults net.new ≡ N.take_faults net.old }
+    {
+        let at = At {
+            doc: self.id,
+            moment,
+        };
+        self.kept.answered(alloc, net, at, answer)
     }
 
     /// What is held is made ready to be closed: a document that is done, whose lock is released
