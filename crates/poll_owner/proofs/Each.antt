@@ -15,7 +15,7 @@ use Rattle.poll_machine.specs.Turn.{for_each, ids, is_work, is_fault}
 use Rattle.poll_machine.proofs.Carried.{hears_more}
 use Rattle.poll_machine.proofs.Runs.{runs, follows_is_run}
 use Rattle.poll_owner.specs.Doing.{Does, id_at, in_house, ids_left}
-use Rattle.poll_owner.proofs.Doing.{any_more, does_looks, does_cut}
+use Rattle.poll_owner.proofs.Doing.{any_more, does_looks, does_cut, does_part}
 use Rattle.poll_owner.proofs.Happening.{replaced, placed}
 
 -- a plan for some, and then for one more
@@ -283,3 +283,34 @@ stands_here all docs k i ids same within left =
     let one : length (drop k all) ≡ length all - k = length-drop k all in
     let two : length (drop i ids) ≡ length ids - i = length-drop i ids in
     omega (arith, same, within, behind, one, two)
+
+-- what was done, whatever else is asked
+pub does_fine : {D J P L : Type 0} (w : Ways D J P) (carries : L → List LinkEvent)
+    (plan : Plan (House D J P L) (Happens D J P L)) (old : House D J P L) (s : Heard D J P L)
+    (fine : Type 0) (worked : Bool) (new : House D J P L) (t : Heard D J P L)
+    → Does w carries plan old s (Unit {0}) worked new t → Does w carries plan old s fine worked new t
+does_fine w carries plan old s fine worked new t a = record {
+  carried = record {
+    events = a.carried.events;
+    last = a.carried.last;
+    run = a.carried.run;
+    heard = a.carried.heard;
+    whole = λ f. a.carried.whole tt;
+  };
+  works = λ f. a.works tt;
+  faults = λ f. a.faults tt;
+}
+
+-- what was done so far, and a part of what is next, out of memory
+pub does_broke : {D J P L A E : Type 0} (w : Ways D J P) (carries : L → List LinkEvent)
+    (first later other : Plan (House D J P L) (Happens D J P L)) (old : House D J P L)
+    (s : Heard D J P L) (one : Bool) (mid : House D J P L) (t : Heard D J P L) (fine : Type 0)
+    (result : Result A E) (two told : Bool) (new end : House D J P L) (u : Heard D J P L)
+    → IsErr result → Does w carries first old s (Unit {0}) one mid t
+    → Does w carries later mid t fine two new u
+    → Does w carries other old s (IsOk result) told end u
+does_broke w carries first later other old s one mid t fine (Ok a) two told new end u none done next =
+    cc
+does_broke w carries first later other old s one mid t fine (Err e) two told new end u none done next =
+    does_part w carries first later other old s one mid t fine _ two told new end u
+    (λ f. true≢false (sym f)) done next
