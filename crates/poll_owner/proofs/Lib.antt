@@ -14,3 +14,4 @@ pub mod Housing
 pub mod Joining
 pub mod Answering
 pub mod Tokens
+pub mod Ending

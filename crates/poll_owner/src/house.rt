@@ -253,15 +253,15 @@ impl<K: Kit, N: Net> House<K, N> {
     {
         let lodged = &mut self.docs[i];
         let doc = lodged.id();
-        let Some(unlocked) = lodged.make_ready(alloc, store)? else {
-            return Ok((false, false));
-        };
-        match port.close(doc) {
-            Ok(()) => {
-                self.forget(i)?;
-                Ok((true, true))
-            }
-            Err(_) => Ok((unlocked, false)),
+        match lodged.make_ready(alloc, store)? {
+            Some(unlocked) => match port.close(doc) {
+                Ok(()) => {
+                    self.forget(i)?;
+                    Ok((true, true))
+                }
+                Err(_) => Ok((unlocked, false)),
+            },
+            None => Ok((false, false)),
         }
     }
 
