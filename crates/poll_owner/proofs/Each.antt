@@ -242,7 +242,7 @@ plan_at {D} {J} {P} {L} w carries plan house i p q s fine worked n t within is a
     (does_at w carries (plan p.0) house i p q s fine worked n t within is a)
 
 -- what stands at a place is one
-one_there : {A : Type 0} (xs : List A) (i : ℕ) (p q : A) → i < length xs → p ≡ get_or xs i p
+pub one_there : {A : Type 0} (xs : List A) (i : ℕ) (p q : A) → i < length xs → p ≡ get_or xs i p
     → q ≡ get_or xs i q → p ≡ q
 one_there xs i p q within first second = first ∙ get_or_default xs i p q within ∙ sym second
 

@@ -18,8 +18,8 @@ use Rattle.poll_owner.specs.Doing.{Does, id_at, in_house, ids_left}
 use Rattle.poll_owner.specs.Locking.{Readies}
 use Rattle.poll_owner.specs.Outside.{with_store, with_port}
 use Rattle.poll_owner.proofs.Closing.{closed_house, ends_there, is_ok, ready_broke, ready_closes}
-use Rattle.poll_owner.proofs.Closing.{ready_may, ready_stays}
-use Rattle.poll_owner.proofs.Each.{does_at, id_is, ids_stay, rises_at, rises_set}
+use Rattle.poll_owner.proofs.Closing.{ready_may, ready_stays, rises_without}
+use Rattle.poll_owner.proofs.Each.{does_at, id_is, item_at, rises_at, rises_set}
 use Rattle.poll_owner.proofs.Happening.{placed, replaced}
 
 -- what was done from the house with this at its place was done from the house
@@ -150,3 +150,11 @@ ids_without {D} {J} {P} {L} docs i =
     map-append id (take i docs) (drop (i + 1) docs)
     ∙ ap (λ (xs : List ℕ). xs ++ map id (drop (i + 1) docs)) (sym (take-map id i docs))
     ∙ ap (λ (xs : List ℕ). take i (map id docs) ++ xs) (sym (drop-map id (i + 1) docs))
+
+-- the ids still rise once what stands at a place is held no more
+pub rises_out : {D J P L : Type 0} (docs : List (ℕ × Slot D J P L)) (i : ℕ) → i < length docs
+    → Rises docs → Rises (take i docs ++ drop (i + 1) docs)
+rises_out {D} {J} {P} {L} docs i within rises =
+    let there : (p : ℕ × Slot D J P L) × (p ≡ get_or docs i p) = item_at docs i within in
+    rises_without (take i docs) there.0.0 there.0.1 (drop (i + 1) docs)
+    (rises_at docs i there.0 within there.1 rises)
