@@ -36,14 +36,14 @@ use yard_traits::{Answer, Work, Yard};
 /// greatest moment that its clock has given.
 #[derive(Drop)]
 pub(crate) struct House<K: Kit, N: Net> {
-    me: u32,
-    spread: bool,
-    docs: Vec<Lodged<K, N>>,
-    lobby: Lobby,
-    lost: Vec<FileId>,
-    opened: u64,
-    ended: u64,
-    moment: u64,
+    pub(crate) me: u32,
+    pub(crate) spread: bool,
+    pub(crate) docs: Vec<Lodged<K, N>>,
+    pub(crate) lobby: Lobby,
+    pub(crate) lost: Vec<FileId>,
+    pub(crate) opened: u64,
+    pub(crate) ended: u64,
+    pub(crate) moment: u64,
 }
 
 impl<K: Kit, N: Net> Model for House<K, N> {
@@ -70,7 +70,7 @@ impl<K: Kit, N: Net> Model for House<K, N> {
 }
 
 // Releases a link.
-fn let_go<N: Net>(net: &mut N, link: LinkId)
+pub(crate) fn let_go<N: Net>(net: &mut N, link: LinkId)
     ensures told { (gave : Option N.Link) × Tells (λ a b. Releases a link (was_given gave) b)
         (N.told net.old) (N.told net.new) }
     ensures takes { N.take_faults net.new ≡ N.take_faults net.old }
@@ -105,7 +105,7 @@ fn next_place(gone: bool, i: usize) -> usize
 }
 
 // Where the document stands of which the link is a view, and that view; None where it is none's.
-fn place_of<K: Kit, N: Net>(docs: &[Lodged<K, N>], link: LinkId) -> Option<(usize, ViewId)>
+pub(crate) fn place_of<K: Kit, N: Net>(docs: &[Lodged<K, N>], link: LinkId) -> Option<(usize, ViewId)>
     ensures place { IfSome result (λ r. IsPlace docs.now link.0 r.0 r.1.0) }
     ensures none { result ≡ None → view_in docs.now link.0 ≡ None }
 {
@@ -317,7 +317,7 @@ impl<K: Kit, N: Net> House<K, N> {
     }
 
     // The view of a document at this place says a text, and all that comes of it is done.
-    fn say_at<
+    pub(crate) fn say_at<
         H: Store,
         Y: Yard<Work<K::Scene>>,
         P: Port<Parcel<K, N::Link>, Mail<K::Scene, N::Link>>,

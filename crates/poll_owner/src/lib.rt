@@ -7,19 +7,29 @@
 //! - `befalling`: an event comes to a document, and all that is owed for it is done.
 //! - `locks`: the lock of a document, refreshed and released.
 //! - `house`: all that a poll holds.
+//! - `hearing`: what the net gave: a link opened, said something, or left.
+//! - `lobby`: a link of the lobby joins a document, is refused, or is posted to another poll.
+//! - `loads`: a link of the lobby loads a document by its address.
+//! - `places`: under which id what is held stands where, and where something new is held.
+//! - `departing`: a document departs to another poll.
 //! - `lodged`: what a house holds under an id: a document, or a file whose load was refused.
 //! - `works`: the works of a document are offered to the yard, or done at once.
 //! - `Parcel`, `Mail` (`parcels`): what polls send to each other.
 #![tactic(auto)]
 
 mod befalling;
+mod departing;
 mod giving;
+mod hearing;
 mod house;
+mod loads;
+mod lobby;
 mod locks;
 mod lodged;
 mod moving;
 mod owned;
 mod parcels;
+mod places;
 mod works;
 
 pub use owned::{HeldLock, OwnedDocument};
