@@ -4,3 +4,4 @@ pub mod Locking
 pub mod Befalling
 pub mod Doing
 pub mod Lodging
+pub mod Loading

@@ -1,0 +1,72 @@
+-- A link of the lobby loads a document: the parts of its plan that calls of their own carry out.
+use Rattle.std.specs.Prelude.{◌≡◌, ℕ, ◌+◌, Bool, true, false, List, ◌∷◌, ◌++◌, take, drop, get_or}
+use Rattle.std.specs.Prelude.{◌<◌, ◌≤◌, length, Option, None, Some, Result, Ok, Err, ⊤, ⊥}
+use Rattle.cool_base.specs.declared.want.Memory.{Memory}
+use Rattle.document_machine.specs.declared.rights.Rights.{Rights}
+use Rattle.hall_machine.specs.declared.words.CloseFault.{CloseFault}
+use Rattle.hall_machine.specs.declared.words.Entered.{Entered}
+use Rattle.hall_machine.specs.declared.words.HallFault.{HallFault}
+use Rattle.net_traits.specs.Nets.{LinkEvent}
+use Rattle.outside.specs.Stores.{Fetches}
+use Rattle.outside.specs.declared.faults.StoreFault.{StoreFault}
+use Rattle.poll_machine.specs.Words.{Ways}
+use Rattle.poll_machine.specs.Agenda.{HeldDocument, Joins}
+use Rattle.poll_machine.specs.House.{House, Happens, Slot, Live, Calls, Reads, Enters, Adopted}
+use Rattle.poll_machine.specs.House.{Refusal, slot_of, without_link}
+use Rattle.poll_machine.specs.Lobby.{entered, fetched, happens_to, refuses_where}
+use Rattle.poll_machine.specs.Lobby.{post_refusal}
+use Rattle.poll_machine.specs.Plans.{Plan, Makes, Then, Learns}
+use Rattle.poll_machine.specs.Told.{Heard}
+use Rattle.poll_owner.specs.Doing.{Does, in_house}
+
+-- the hall is asked for the file, and the load goes on with its answer
+abbrev pub enters : {D J P L : Type 0} → Ways D J P → ℕ → List ℕ → Rights
+    → Plan (House D J P L) (Happens D J P L)
+enters w link file rights = Learns (λ (answer : Result Entered HallFault).
+    Then (Makes (Calls (Enters file answer))) (entered w link file rights answer))
+
+-- the store is asked for the file's bytes, and the load goes on with its answer
+abbrev pub fetches : {D J P L : Type 0} → Ways D J P → ℕ → ℕ → List ℕ → Rights
+    → Plan (House D J P L) (Happens D J P L)
+fetches w link id file rights = Learns (λ (answer : Result (List ℕ) StoreFault).
+    Then (Makes (Reads (Fetches file rights.token rights.can_write answer)))
+    (fetched w link id file rights answer))
+
+-- a link that the hall gave back is adopted again, and refused for this reason
+abbrev pub comes_again : {D J P L : Type 0} → L → HallFault
+    → Plan (House D J P L) (Happens D J P L)
+comes_again carried why = Learns (λ (link : ℕ). Then (Makes (Adopted carried link))
+    (refuses_where link (post_refusal why)))
+
+-- where what is held under an id stands
+pub record StandsAt {D J P L : Type 0} (docs : List (ℕ × Slot D J P L)) (id i : ℕ) : Type 0 where
+  pub within : i < length docs
+  pub found : (p : ℕ × Slot D J P L) → p ≡ get_or docs i p
+      → (p.0 ≡ id) × (slot_of id docs ≡ Some p.1)
+
+-- nothing was held under the id, and this is held now, at this place
+pub record HeldAt {D J P L : Type 0} (old : House D J P L) (id : ℕ) (slot : Slot D J P L) (i : ℕ)
+    (new : House D J P L) : Type 0 where
+  pub within : i ≤ length old.docs
+  pub free : slot_of id old.docs ≡ None
+  pub is : new ≡ record old { docs = take i old.docs ++ (id, slot) ∷ drop i old.docs }
+
+-- a link of the lobby joined, so it waits there no more; or the document has all the views that it
+-- may have, and nothing happened; or, out of memory, a part of the join was done
+abbrev pub JoinsIn : {D J P L : Type 0} → Ways D J P → (L → List LinkEvent) → House D J P L
+    → ℕ → (link : ℕ) → Rights → List (ℕ × Slot D J P L) → HeldDocument D J P L
+    → List (ℕ × Slot D J P L) → Heard D J P L → Result (Option ℕ) Memory → Slot D J P L
+    → Heard D J P L → Type 0
+JoinsIn w carries house id link rights front old back before (Ok (Some ended)) new after =
+    Does w carries (happens_to id (λ outs. Joins link rights outs))
+    (in_house house front (id, Live old) back house.ended) before ⊤ false
+    (record (in_house house front (id, new) back (house.ended + ended)) {
+      lobby = without_link link house.lobby;
+    })
+    after
+JoinsIn w carries house id link rights front old back before (Ok None) new after =
+    (w.is_full old.doc ≡ true) × (new ≡ Live old) × (after ≡ before)
+JoinsIn w carries house id link rights front old back before (Err memory) new after =
+    Does w carries (happens_to id (λ outs. Joins link rights outs))
+    (in_house house front (id, Live old) back house.ended) before ⊥ false
+    (in_house house front (id, Live old) back house.ended) after
