@@ -10,12 +10,12 @@ use Rattle.net_traits.specs.Nets.{LinkEvent}
 use Rattle.outside.specs.Stores.{Fetches}
 use Rattle.outside.specs.declared.faults.StoreFault.{StoreFault}
 use Rattle.poll_machine.specs.Words.{Ways}
-use Rattle.poll_machine.specs.Agenda.{HeldDocument, Joins}
-use Rattle.poll_machine.specs.House.{House, Happens, Slot, Live, Calls, Reads, Enters, Adopted}
-use Rattle.poll_machine.specs.House.{Refusal, slot_of, without_link}
+use Rattle.poll_machine.specs.Agenda.{HeldDocument, Joins, Releases}
+use Rattle.poll_machine.specs.House.{House, Happens, Slot, Live, Refused, Calls, Reads, Enters}
+use Rattle.poll_machine.specs.House.{Adopted, Refusal, slot_of, without_link}
 use Rattle.poll_machine.specs.Lobby.{entered, fetched, happens_to, refuses_where}
-use Rattle.poll_machine.specs.Lobby.{post_refusal}
-use Rattle.poll_machine.specs.Plans.{Plan, Makes, Then, Learns}
+use Rattle.poll_machine.specs.Lobby.{post_refusal, here_now, settles}
+use Rattle.poll_machine.specs.Plans.{Plan, Makes, Then, Learns, each}
 use Rattle.poll_machine.specs.Told.{Heard}
 use Rattle.poll_owner.specs.Doing.{Does, in_house}
 
@@ -70,3 +70,15 @@ JoinsIn w carries house id link rights front old back before (Err memory) new af
     Does w carries (happens_to id (λ outs. Joins link rights outs))
     (in_house house front (id, Live old) back house.ended) before ⊥ false
     (in_house house front (id, Live old) back house.ended) after
+
+-- the link of each view of a document is released, in order, and a view whose link the net had no
+-- longer leaves
+abbrev pub packs : {D J P L : Type 0} → ℕ → HeldDocument D J P L
+    → Plan (House D J P L) (Happens D J P L)
+packs {D} {J} {P} {L} id h = each (λ s. Learns
+    (λ (gave : Option L). Then (here_now id (Releases s.view s.link gave)) (settles id))) h.views
+
+-- the answer that a refused load keeps
+abbrev pub refusal_of : {D J P L : Type 0} → Slot D J P L → Option Refusal
+refusal_of (Live h) = None
+refusal_of (Refused file refusal) = Some refusal

@@ -65,7 +65,11 @@ impl<K: Kit, N: Net> House<K, N> {
     }
 
     // A link of the lobby says a text: it is answered, or it loads.
-    fn hear<H: Store, Y: Yard<Work<K::Scene>>, P: Port<Parcel<K, N::Link>, Mail<K::Scene, N::Link>>>(
+    fn hear<
+        H: Store,
+        Y: Yard<Work<K::Scene>>,
+        P: Port<Parcel<K, N::Link>, Mail<K::Scene, N::Link>>,
+    >(
         &mut self,
         alloc: Global,
         served: &Served,

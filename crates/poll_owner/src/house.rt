@@ -105,7 +105,10 @@ fn next_place(gone: bool, i: usize) -> usize
 }
 
 // Where the document stands of which the link is a view, and that view; None where it is none's.
-pub(crate) fn place_of<K: Kit, N: Net>(docs: &[Lodged<K, N>], link: LinkId) -> Option<(usize, ViewId)>
+pub(crate) fn place_of<K: Kit, N: Net>(
+    docs: &[Lodged<K, N>],
+    link: LinkId,
+) -> Option<(usize, ViewId)>
     ensures place { IfSome result (λ r. IsPlace docs.now link.0 r.0 r.1.0) }
     ensures none { result ≡ None → view_in docs.now link.0 ≡ None }
 {

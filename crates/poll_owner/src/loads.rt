@@ -103,7 +103,17 @@ impl<K: Kit, N: Net> House<K, N> {
                     can_write: admission.can_write,
                     token: found.token,
                 };
-                self.enter(alloc, served, net, store, yard, port, link, &found.file, rights)
+                self.enter(
+                    alloc,
+                    served,
+                    net,
+                    store,
+                    yard,
+                    port,
+                    link,
+                    &found.file,
+                    rights,
+                )
             }
             Err(StoreFault::Memory) => Err(Memory),
             Err(fault) => self.refuse(alloc, net, link, &fault_refusal(&fault)),
@@ -141,7 +151,9 @@ impl<K: Kit, N: Net> House<K, N> {
                 self.join_there(alloc, net, store, yard, port, link, doc, rights)
             }
             Ok(Entered::Fresh(doc)) => {
-                self.fetch(alloc, served, net, store, yard, port, link, doc, file, rights)
+                self.fetch(
+                    alloc, served, net, store, yard, port, link, doc, file, rights,
+                )
             }
             Err(fault) => match enter_refusal(fault) {
                 Some(refusal) => self.refuse(alloc, net, link, &refusal),
@@ -179,7 +191,9 @@ impl<K: Kit, N: Net> House<K, N> {
     {
         match store.fetch(alloc, file, &rights.token, rights.can_write) {
             Ok(bytes) => {
-                self.open(alloc, served, net, store, yard, port, link, doc, file, bytes, rights)
+                self.open(
+                    alloc, served, net, store, yard, port, link, doc, file, bytes, rights,
+                )
             }
             Err(StoreFault::Memory) => Err(Memory),
             Err(fault) => self.give_up(alloc, net, port, link, doc, file, fault_refusal(&fault)),
@@ -220,7 +234,7 @@ impl<K: Kit, N: Net> House<K, N> {
             Ok(owned) => {
                 let i = self.hold(doc, Kept::Live(owned))?;
                 self.join_at(alloc, net, store, yard, port, i, link, rights)?;
-                self.spread_out(alloc, net, store, yard, port, doc)
+                self.spread_out(alloc, net, port, doc)
             }
             Err(LoadFault::Memory) => Err(Memory),
             Err(LoadFault::BadFile) => {

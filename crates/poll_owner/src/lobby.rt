@@ -1,5 +1,5 @@
-//! A link of the lobby joins a document that is held, is refused, or is posted to the poll that holds
-//! the document.
+//! A link of the lobby joins a document that is held, is refused, or is posted to the poll that
+//! holds the document.
 ghost use Rattle.std.specs.Prelude.{◌≡◌, ◌<◌, ℕ, List, Option, None, true, false, IsOk, length};
 ghost use Rattle.std.specs.Prelude.{slice_index_or};
 ghost use Rattle.load_address.specs.declared.served.Served.{Served};
@@ -48,8 +48,8 @@ impl<K: Kit, N: Net> House<K, N> {
         self.show(alloc, net, link, frame.get())
     }
 
-    /// A link of the lobby joins the document at this place, or is refused: it has all the views that
-    /// it may have, or is held as refused.
+    /// A link of the lobby joins the document at this place, or is refused, where the document has
+    /// all the views that it may have, or is held as refused.
     pub(crate) fn join_at<
         H: Store,
         Y: Yard<Work<K::Scene>>,
@@ -91,8 +91,8 @@ impl<K: Kit, N: Net> House<K, N> {
         }
     }
 
-    /// A link of the lobby joins a document that is open in the hall: here where it is held here, else
-    /// it is posted to the poll that holds it.
+    /// A link of the lobby joins a document that is open in the hall: here where it is held here,
+    /// else it is posted to the poll that holds it.
     pub(crate) fn join_there<
         H: Store,
         Y: Yard<Work<K::Scene>>,
@@ -185,25 +185,17 @@ impl<K: Kit, N: Net> House<K, N> {
     }
 
     /// A new document of a poll that spreads its documents departs to the poll that the hall names.
-    pub(crate) fn spread_out<
-        H: Store,
-        Y: Yard<Work<K::Scene>>,
-        P: Port<Parcel<K, N::Link>, Mail<K::Scene, N::Link>>,
-    >(
+    pub(crate) fn spread_out<P: Port<Parcel<K, N::Link>, Mail<K::Scene, N::Link>>>(
         &mut self,
         alloc: Global,
         net: &mut N,
-        store: &mut H,
-        yard: &mut Y,
         port: &mut P,
         doc: DocId,
     ) -> Result<(), Memory>
-        ensures spreads { (served : Served) (clock : Option (List ℕ))
-            → Does (ways K.rules K.cut served) N.carried
-            (spreads doc.0) self.old
-            (outside (N.told net.old) (P.view port.old) (H.calls store.old) clock (Y.took yard.old))
-            (IsOk result) false self.new
-            (outside (N.told net.new) (P.view port.new) (H.calls store.new) clock (Y.took yard.new)) }
+        ensures spreads { (served : Served) (s : BrokersHeard K.Scene N.Link)
+            → Does (ways K.rules K.cut served) N.carried (spreads doc.0) self.old
+            (with_port (with_net s (N.told net.old)) (P.view port.old)) (IsOk result) false self.new
+            (with_port (with_net s (N.told net.new)) (P.view port.new)) }
         ensures takes { N.take_faults net.new ≡ N.take_faults net.old }
     {
         if !self.spread {
@@ -213,6 +205,6 @@ impl<K: Kit, N: Net> House<K, N> {
         if poll == self.me {
             return Ok(());
         }
-        self.depart(alloc, net, store, yard, port, doc, poll)
+        self.depart(alloc, net, port, doc, poll)
     }
 }

@@ -4,18 +4,23 @@ ghost use Rattle.std.specs.Prelude.{true, false};
 ghost use Rattle.std.specs.Option.{option_map, option_to_list};
 ghost use Rattle.load_address.specs.declared.served.Served.{Served};
 ghost use Rattle.poll_instance.specs.Instance.{ways};
-ghost use Rattle.poll_machine.specs.House.{Answered as MailAnswered, Ends, Rises, lost_by, view_at};
+ghost use Rattle.poll_machine.specs.House.{Answered as MailAnswered, Ends, Live as LiveSlot, Rises};
+ghost use Rattle.poll_machine.specs.House.{is_among, lost_by, view_at};
+ghost use Rattle.poll_machine.specs.Lobby.{adopts};
 ghost use Rattle.poll_machine.specs.Turn.{did, reads, refreshes, turns};
 ghost use Rattle.poll_machine.specs.Words.{Left, Said};
 ghost use Rattle.poll_owner.specs.Doing.{Does, count_of, in_house, worked_in, ended_in, found_in};
+ghost use Rattle.poll_owner.specs.Loading.{JoinsIn, packs, refusal_of};
 ghost use Rattle.poll_owner.specs.Locking.{Readies};
 ghost use Rattle.poll_owner.specs.Lodging.{BrokersHouse, BrokersDocs, is_live_slot, slot_in};
-ghost use Rattle.poll_owner.specs.Outside.{BrokersHeard, answer_in, outside, with_net, with_store};
+ghost use Rattle.poll_owner.specs.Outside.{BrokerHeld, BrokersHeard, answer_in, outside, with_net};
+ghost use Rattle.poll_owner.specs.Outside.{with_store};
 
 use crate::owned::OwnedDocument;
 use crate::parcels::{Mail, Parcel};
 use crate::works::At;
 use cool_base::{DocId, FileId, LinkId, Memory, ViewId};
+use document_machine::Rights;
 use kit_trait::Kit;
 use net_traits::Net;
 use outside::Store;
@@ -175,6 +180,90 @@ impl<K: Kit, N: Net> Kept<OwnedDocument<K, N>, Refusal> {
         match self {
             Kept::Live(owned) => owned.answered(alloc, net, at.moment, answer),
             Kept::Refused(_, _) => Ok(0),
+        }
+    }
+
+    // A view joins from a link of the lobby, and all that comes of it is done. How many links ended;
+    // None where the document has all the views that it may have.
+    fn join<
+        H: Store,
+        Y: Yard<Work<K::Scene>>,
+        P: Port<Parcel<K, N::Link>, Mail<K::Scene, N::Link>>,
+    >(
+        &mut self,
+        alloc: Global,
+        net: &mut N,
+        store: &mut H,
+        yard: &mut Y,
+        port: &mut P,
+        at: At,
+        link: LinkId,
+        rights: Rights,
+    ) -> Result<Option<u64>, Memory>
+        requires { is_live_slot (slot_in self.old) ≡ true }
+        ensures joins { (served : Served) (clock : Option (List ℕ))
+            (house : BrokersHouse K.Scene N.Link) (front back : BrokersDocs K.Scene N.Link)
+            (held : BrokerHeld K.Scene N.Link)
+            → house.moment ≡ at.moment → is_among link.0 house.lobby ≡ true
+            → slot_in self.old ≡ LiveSlot held → Rises (front ++ (at.doc.0, LiveSlot held) ∷ back)
+            → JoinsIn (ways K.rules K.cut served) N.carried house at.doc.0 link.0 rights front held
+            back
+            (outside (N.told net.old) (P.view port.old) (H.calls store.old) clock (Y.took yard.old))
+            result (slot_in self.new)
+            (outside (N.told net.new) (P.view port.new) (H.calls store.new) clock (Y.took yard.new)) }
+        ensures takes { N.take_faults net.new ≡ N.take_faults net.old }
+    {
+        match self {
+            Kept::Live(owned) => owned.join_in(alloc, net, store, yard, port, at, link, rights),
+            Kept::Refused(_, _) => Ok(None),
+        }
+    }
+
+    // The links of its views are released and packed. How many links ended.
+    fn pack(&mut self, net: &mut N) -> Result<u64, Memory>
+        ensures packs { (served : Served) (id : ℕ) (s : BrokersHeard K.Scene N.Link)
+            (house : BrokersHouse K.Scene N.Link) (front back : BrokersDocs K.Scene N.Link)
+            (held : BrokerHeld K.Scene N.Link)
+            → slot_in self.old ≡ LiveSlot held → Rises (front ++ (id, LiveSlot held) ∷ back)
+            → Does (ways K.rules K.cut served) N.carried (packs id held)
+            (in_house house front (id, LiveSlot held) back house.ended)
+            (with_net s (N.told net.old)) (IsOk result) false
+            (in_house house front (id, slot_in self.new) back (house.ended + count_of result))
+            (with_net s (N.told net.new)) }
+        ensures takes { N.take_faults net.new ≡ N.take_faults net.old }
+    {
+        match self {
+            Kept::Live(owned) => owned.pack(net),
+            Kept::Refused(_, _) => Ok(0),
+        }
+    }
+
+    // The packed links are adopted, in order.
+    fn adopt(&mut self, alloc: Global, net: &mut N) -> Result<(), Memory>
+        ensures adopts { (served : Served) (id : ℕ) (s : BrokersHeard K.Scene N.Link)
+            (house : BrokersHouse K.Scene N.Link) (front back : BrokersDocs K.Scene N.Link)
+            (held : BrokerHeld K.Scene N.Link)
+            → slot_in self.old ≡ LiveSlot held → Rises (front ++ (id, LiveSlot held) ∷ back)
+            → Does (ways K.rules K.cut served) N.carried (adopts id held)
+            (in_house house front (id, LiveSlot held) back house.ended)
+            (with_net s (N.told net.old)) (IsOk result) false
+            (in_house house front (id, slot_in self.new) back house.ended)
+            (with_net s (N.told net.new)) }
+        ensures takes { N.take_faults net.new ≡ N.take_faults net.old }
+    {
+        match self {
+            Kept::Live(owned) => owned.adopt(alloc, net),
+            Kept::Refused(_, _) => Ok(()),
+        }
+    }
+
+    // The answer that a refused load keeps; None of a document.
+    fn refusal(&self) -> Option<Refusal>
+        ensures { result ≡ refusal_of (slot_in self.now) }
+    {
+        match self {
+            Kept::Live(_) => None,
+            Kept::Refused(_, refusal) => Some(*refusal),
         }
     }
 
@@ -400,5 +489,84 @@ impl<K: Kit, N: Net> Lodged<K, N> {
         ensures same { self.new.0 ≡ self.old.0 }
     {
         self.kept.part(view)
+    }
+
+    /// A view joins from a link of the lobby, in whatever house, and all that comes of it is done.
+    /// How many links ended; None where the document has all the views that it may have.
+    pub(crate) fn join<
+        H: Store,
+        Y: Yard<Work<K::Scene>>,
+        P: Port<Parcel<K, N::Link>, Mail<K::Scene, N::Link>>,
+    >(
+        &mut self,
+        alloc: Global,
+        net: &mut N,
+        store: &mut H,
+        yard: &mut Y,
+        port: &mut P,
+        moment: u64,
+        link: LinkId,
+        rights: Rights,
+    ) -> Result<Option<u64>, Memory>
+        requires { is_live_slot self.old.1 ≡ true }
+        ensures joins { (served : Served) (clock : Option (List ℕ))
+            (house : BrokersHouse K.Scene N.Link) (front back : BrokersDocs K.Scene N.Link)
+            (held : BrokerHeld K.Scene N.Link)
+            → house.moment ≡ moment → is_among link.0 house.lobby ≡ true
+            → self.old.1 ≡ LiveSlot held → Rises (front ++ self.old ∷ back)
+            → JoinsIn (ways K.rules K.cut served) N.carried house self.old.0 link.0 rights front
+            held back
+            (outside (N.told net.old) (P.view port.old) (H.calls store.old) clock (Y.took yard.old))
+            result self.new.1
+            (outside (N.told net.new) (P.view port.new) (H.calls store.new) clock (Y.took yard.new)) }
+        ensures same { self.new.0 ≡ self.old.0 }
+        ensures takes { N.take_faults net.new ≡ N.take_faults net.old }
+    {
+        let at = At {
+            doc: self.id,
+            moment,
+        };
+        self.kept
+            .join(alloc, net, store, yard, port, at, link, rights)
+    }
+
+    /// The links of its views are released and packed, in whatever house. How many links ended.
+    pub(crate) fn pack(&mut self, net: &mut N) -> Result<u64, Memory>
+        ensures packs { (served : Served) (s : BrokersHeard K.Scene N.Link)
+            (house : BrokersHouse K.Scene N.Link) (front back : BrokersDocs K.Scene N.Link)
+            (held : BrokerHeld K.Scene N.Link)
+            → self.old.1 ≡ LiveSlot held → Rises (front ++ self.old ∷ back)
+            → Does (ways K.rules K.cut served) N.carried (packs self.old.0 held)
+            (in_house house front self.old back house.ended) (with_net s (N.told net.old))
+            (IsOk result) false
+            (in_house house front self.new back (house.ended + count_of result))
+            (with_net s (N.told net.new)) }
+        ensures same { self.new.0 ≡ self.old.0 }
+        ensures takes { N.take_faults net.new ≡ N.take_faults net.old }
+    {
+        self.kept.pack(net)
+    }
+
+    /// Its packed links are adopted, in order, in whatever house.
+    pub(crate) fn adopt(&mut self, alloc: Global, net: &mut N) -> Result<(), Memory>
+        ensures adopts { (served : Served) (s : BrokersHeard K.Scene N.Link)
+            (house : BrokersHouse K.Scene N.Link) (front back : BrokersDocs K.Scene N.Link)
+            (held : BrokerHeld K.Scene N.Link)
+            → self.old.1 ≡ LiveSlot held → Rises (front ++ self.old ∷ back)
+            → Does (ways K.rules K.cut served) N.carried (adopts self.old.0 held)
+            (in_house house front self.old back house.ended) (with_net s (N.told net.old))
+            (IsOk result) false (in_house house front self.new back house.ended)
+            (with_net s (N.told net.new)) }
+        ensures same { self.new.0 ≡ self.old.0 }
+        ensures takes { N.take_faults net.new ≡ N.take_faults net.old }
+    {
+        self.kept.adopt(alloc, net)
+    }
+
+    /// The answer that a refused load keeps; None of a document.
+    pub(crate) fn refusal(&self) -> Option<Refusal>
+        ensures { result ≡ refusal_of self.now.1 }
+    {
+        self.kept.refusal()
     }
 }
