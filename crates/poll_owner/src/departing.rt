@@ -9,7 +9,7 @@ ghost use Rattle.poll_machine.specs.Lobby.{adopts, departs, for_live, goes};
 ghost use Rattle.poll_machine.specs.Plans.{Learns};
 ghost use Rattle.poll_machine.specs.Turn.{arrives, ids};
 ghost use Rattle.poll_owner.specs.Doing.{Does, count_of, found_in, id_at, in_house};
-ghost use Rattle.poll_owner.specs.Loading.{JoinsIn, packs};
+ghost use Rattle.poll_owner.specs.Loading.{JoinsIn, PacksFirst, TakesIn, packs};
 ghost use Rattle.poll_owner.specs.Lodging.{BrokersDocs, BrokersHouse, BrokersSlot};
 ghost use Rattle.poll_owner.specs.Outside.{BrokerHeld, BrokersHeard, outside, with_net, with_port};
 
@@ -73,7 +73,12 @@ impl<K: Kit, N: Net> OwnedDocument<K, N> {
     // The link of the view that came first is released and packed; a view whose link the net had no
     // longer leaves. How many links ended. Each view stands once; a document of which that isn't so
     // goes no further.
-    fn pack_first(&mut self, net: &mut N) -> Result<u64, Memory> {
+    fn pack_first(&mut self, net: &mut N) -> Result<u64, Memory>
+        ensures packs { (served : Served) (id moment : ℕ) (s : BrokersHeard K.Scene N.Link)
+            → PacksFirst (ways K.rules K.cut served) N.carried id moment self.old
+            (with_net s (N.told net.old)) result self.new (with_net s (N.told net.new)) }
+        ensures takes { N.take_faults net.new ≡ N.take_faults net.old }
+    {
         let Some(first) = self.links.first() else {
             return Err(Memory);
         };
@@ -192,7 +197,12 @@ impl<K: Kit, N: Net> House<K, N> {
         net: &mut N,
         doc: DocId,
         parcel: Parcel<K, N::Link>,
-    ) -> Result<(), Memory> {
+    ) -> Result<(), Memory>
+        ensures comes { (served : Served) (s : BrokersHeard K.Scene N.Link)
+            → TakesIn (ways K.rules K.cut served) N.carried self.old doc.0 parcel
+            (with_net s (N.told net.old)) result self.new (with_net s (N.told net.new)) }
+        ensures takes { N.take_faults net.new ≡ N.take_faults net.old }
+    {
         let owned = OwnedDocument::unpacked(alloc, parcel);
         let i = self.hold(doc, Kept::Live(owned))?;
         let lodged = &mut self.docs[i];

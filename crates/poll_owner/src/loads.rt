@@ -223,7 +223,8 @@ impl<K: Kit, N: Net> House<K, N> {
         requires { is_among link.0 self.old.lobby ≡ true }
         ensures opens { (clock : Option (List ℕ))
             → Does (ways K.rules K.cut served.now) N.carried
-            (opens (ways K.rules K.cut served.now) link.0 doc.0 file.now bytes rights (opened K.rules file.now bytes)) self.old
+            (opens (ways K.rules K.cut served.now) link.0 doc.0 file.now bytes rights
+            (opened K.rules file.now bytes)) self.old
             (outside (N.told net.old) (P.view port.old) (H.calls store.old) clock (Y.took yard.old))
             (IsOk result) false self.new
             (outside (N.told net.new) (P.view port.new) (H.calls store.new) clock (Y.took yard.new)) }
