@@ -5,3 +5,4 @@ pub mod Befalling
 pub mod Doing
 pub mod Lodging
 pub mod Loading
+pub mod Mailing

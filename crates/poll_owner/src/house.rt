@@ -79,7 +79,7 @@ pub(crate) fn let_go<N: Net>(net: &mut N, link: LinkId)
 }
 
 // Whether one of the two is so.
-fn either(one: bool, other: bool) -> bool
+pub(crate) fn either(one: bool, other: bool) -> bool
     ensures { result ≡ (one || other) }
 {
     one || other
@@ -97,7 +97,7 @@ fn note(files: &mut Vec<FileId>, more: Option<FileId>) -> Result<(), Memory>
 }
 
 // The place of what comes next: the same once what stood here is held no more.
-fn next_place(gone: bool, i: usize) -> usize
+pub(crate) fn next_place(gone: bool, i: usize) -> usize
     requires { i + 1 < 2 ^ 64 }
     ensures { result ≡ if gone then i else i + 1 }
 {

@@ -14,6 +14,7 @@
 //! - `departing`: a document departs to another poll.
 //! - `lodged`: what a house holds under an id: a document, or a file whose load was refused.
 //! - `works`: the works of a document are offered to the yard, or done at once.
+//! - `mails`: the mails of a document are collected and read.
 //! - `Parcel`, `Mail` (`parcels`): what polls send to each other.
 #![tactic(auto)]
 
@@ -26,6 +27,7 @@ mod loads;
 mod lobby;
 mod locks;
 mod lodged;
+mod mails;
 mod moving;
 mod owned;
 mod parcels;
