@@ -7,6 +7,7 @@ use Rattle.httparse.specs.Grammar.{RequestHead, ReadsRequest, HasNoRequest}
 use Rattle.httparse.specs.Spans.{name_and_value, RequestExceeds}
 use Rattle.http_message.specs.declared.Method.{Method}
 use Rattle.http_message.specs.declared.Method.TheVariants.{Get, Post, Other}
+use Rattle.http_head.specs.declared.TheConstants.{MOST_LINES}
 use Rattle.http_head.specs.declared.framing.Framing.{Framing}
 use Rattle.http_head.specs.declared.parts.RequestParts.{RequestParts}
 use Rattle.http_head.specs.declared.parts.Scan.{Scan}
@@ -49,10 +50,10 @@ is_plain target = list_all is_ascii_graphic target
 abbrev pub ReadsPlain : List ℕ → RequestHead → List ℕ → Type 0
 ReadsPlain bytes h rest = ReadsRequest bytes h rest × (is_plain h.target ≡ true)
 
--- the bytes are a whole head of at most 64 lines that says this, and then rest
+-- the bytes are a whole head of at most `MOST_LINES` lines that says this, and then rest
 abbrev pub ReadsRequestHead : List ℕ → RequestParts → List ℕ → Type 0
 ReadsRequestHead bytes parts rest =
-    (h : RequestHead) × ReadsPlain bytes h rest × (length h.fields ≤ 64) × (request_said h ≡ Some parts)
+    (h : RequestHead) × ReadsPlain bytes h rest × (length h.fields ≤ MOST_LINES) × (request_said h ≡ Some parts)
 
 -- some bytes can follow with which they are a head
 abbrev pub CanEndRequest : List ℕ → Type 0
@@ -63,20 +64,20 @@ abbrev pub NeverRequest : List ℕ → Type 0
 NeverRequest bytes = (more : List ℕ) (h : RequestHead) (rest : List ℕ) → ReadsPlain (bytes ++ more) h rest → ⊥
 
 -- the bytes begin a head and hold none whole: more can follow that make one, and no front of them
--- with an empty line behind it is a head of more than 64 lines
+-- with an empty line behind it is a head of more than `MOST_LINES` lines
 pub record BeginsRequest (bytes : List ℕ) : Type 0 where
   pub not_whole : HasNoRequest bytes
   pub can_end : CanEndRequest bytes
-  pub few_lines : RequestExceeds 64 bytes → ⊥
+  pub few_lines : RequestExceeds MOST_LINES bytes → ⊥
 
 -- a whole head is there, and what it says of the body is wrong
 abbrev pub IsWrongRequest : List ℕ → Type 0
 IsWrongRequest bytes =
     (h : RequestHead) × (rest : List ℕ) × ReadsPlain bytes h rest × (request_said h ≡ None)
 
--- the bytes begin no head, or more than 64 lines of one, or are one that is wrong
+-- the bytes begin no head, or more than `MOST_LINES` lines of one, or are one that is wrong
 abbrev pub IsNoRequest : List ℕ → Type 0
-IsNoRequest bytes = NeverRequest bytes ⊎ (RequestExceeds 64 bytes ⊎ IsWrongRequest bytes)
+IsNoRequest bytes = NeverRequest bytes ⊎ (RequestExceeds MOST_LINES bytes ⊎ IsWrongRequest bytes)
 
 -- what a scan of the bytes answers
 abbrev pub ScansRequest : List ℕ → Scan RequestParts → Type 0

@@ -3,6 +3,7 @@ ghost use Rattle.std.specs.Prelude.{◌≡◌, ◌≤◌, ◌<◌, ◌≢◌, tr
 ghost use Rattle.httparse.specs.Grammar.{HasNoRequest, MayBecomeRequest, NeverHasRequest};
 ghost use Rattle.httparse.specs.Spans.{IsRequestAt, IsRequestWithin, RequestExceeds, IsHeaderWithin, header_bytes, span_bytes};
 ghost use Rattle.http_head.specs.Requests.{method_named, is_plain, request_with, request_by, request_judged, IsNoRequest, ScansRequest};
+ghost use Rattle.http_head.specs.declared.TheConstants.{MOST_LINES};
 
 use crate::MOST_LINES;
 use crate::corners::is_request_fine;
@@ -128,7 +129,7 @@ fn open(bytes: &[u8]) -> Scan<RequestParts>
 
 fn refused(bytes: &[u8], error: Error) -> Scan<RequestParts>
     requires never { error ≢ Error.TooManyHeaders → NeverHasRequest bytes.now }
-    requires many { error ≡ Error.TooManyHeaders → RequestExceeds 64 bytes.now }
+    requires many { error ≡ Error.TooManyHeaders → RequestExceeds MOST_LINES bytes.now }
     ensures { ScansRequest bytes.now result }
 {
     let _bytes = bytes.len();

@@ -4,6 +4,7 @@ ghost use Rattle.httparse.specs.Grammar.{HasNoResponse, MayBecomeResponse, Never
 ghost use Rattle.httparse.specs.Spans.{IsResponseWithin, ResponseExceeds, IsHeaderWithin, header_bytes};
 ghost use Rattle.http_head.specs.Requests.{scan_said};
 ghost use Rattle.http_head.specs.Responses.{response_with, response_by, ScansResponse};
+ghost use Rattle.http_head.specs.declared.TheConstants.{MOST_LINES};
 
 use crate::MOST_LINES;
 use crate::corners::is_response_fine;
@@ -79,7 +80,7 @@ fn open(bytes: &[u8]) -> Scan<ResponseParts>
 
 fn refused(bytes: &[u8], error: Error) -> Scan<ResponseParts>
     requires never { error ≢ Error.TooManyHeaders → NeverHasResponse bytes.now }
-    requires many { error ≡ Error.TooManyHeaders → ResponseExceeds 64 bytes.now }
+    requires many { error ≡ Error.TooManyHeaders → ResponseExceeds MOST_LINES bytes.now }
     ensures { ScansResponse bytes.now result }
 {
     let _bytes = bytes.len();
