@@ -13,5 +13,4 @@ pub mod Leaving
 pub mod Housing
 pub mod Joining
 pub mod Answering
-pub mod Tokens
 pub mod Ending
