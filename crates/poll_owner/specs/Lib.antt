@@ -6,3 +6,4 @@ pub mod Doing
 pub mod Lodging
 pub mod Loading
 pub mod Mailing
+pub mod Polling

@@ -13,6 +13,7 @@
 //! - `places`: under which id what is held stands where, and where something new is held.
 //! - `departing`: a document departs to another poll.
 //! - `lodged`: what a house holds under an id: a document, or a file whose load was refused.
+//! - `Poll`, `PollTurn`, `PollEnd` (`turning`): turns of a poll.
 //! - `works`: the works of a document are offered to the yard, or done at once.
 //! - `mails`: the mails of a document are collected and read.
 //! - `Parcel`, `Mail` (`parcels`): what polls send to each other.
@@ -32,7 +33,9 @@ mod moving;
 mod owned;
 mod parcels;
 mod places;
+mod turning;
 mod works;
 
 pub use owned::{HeldLock, OwnedDocument};
 pub use parcels::{Letter, Mail, Parcel};
+pub use turning::{Poll, PollEnd, PollTurn};
