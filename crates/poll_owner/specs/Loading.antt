@@ -1,6 +1,6 @@
 -- A link of the lobby loads a document: the parts of its plan that calls of their own carry out.
 use Rattle.std.specs.Prelude.{◌≡◌, ℕ, ◌+◌, Bool, true, false, List, ◌∷◌, ◌++◌, take, drop, get_or}
-use Rattle.std.specs.Prelude.{◌<◌, ◌≤◌, [], length, Option, None, Some, Result, Ok, Err, ⊤, ⊥}
+use Rattle.std.specs.Prelude.{◌<◌, ◌≤◌, ◌==◌, [], filter, not, length, Option, None, Some, Result, Ok, Err, ⊤, ⊥}
 use Rattle.cool_base.specs.declared.want.Memory.{Memory}
 use Rattle.document_machine.specs.declared.rights.Rights.{Rights}
 use Rattle.hall_machine.specs.declared.words.CloseFault.{CloseFault}
@@ -127,3 +127,12 @@ PacksFirst {D} {J} {P} {L} w carries id moment old before (Err memory) new after
     (heres : List (Here J P L)) × (last : HeldDocument D J P L)
     × Run (HeldMove w) old (timed moment heres) last
     × Hears w carries before (at_house id moment heres) after
+
+-- the ids of what is held are the same where something is still held under this id, and the others
+-- where nothing is
+abbrev pub without_id : ℕ → List ℕ → List ℕ
+without_id id ids = filter (λ x. not (x == id)) ids
+
+abbrev pub ids_after : {D J P L : Type 0} → ℕ → Option (Slot D J P L) → List ℕ → List ℕ
+ids_after id (Some slot) ids = ids
+ids_after id None ids = without_id id ids

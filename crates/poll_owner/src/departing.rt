@@ -1,15 +1,16 @@
 //! A document departs to another poll, or comes in from one.
 ghost use Rattle.std.specs.Prelude.{◌≡◌, ◌<◌, ◌≤◌, ◌+◌, ◌∷◌, ◌++◌, ℕ, List, Option, Some, length};
-ghost use Rattle.std.specs.Prelude.{true, false, IsOk, IsSome, IfOk, drop, slice_index_or};
+ghost use Rattle.std.specs.Prelude.{true, false, IsOk, IsSome, IfOk, OnOk, slice_index_or};
 ghost use Rattle.load_address.specs.declared.served.Served.{Served};
 ghost use Rattle.poll_instance.specs.Instance.{ways};
 ghost use Rattle.poll_machine.specs.Agenda.{HeldStep, link_of};
 ghost use Rattle.poll_machine.specs.House.{Live as LiveSlot, Rises, come_in, is_among, parcel_of};
+ghost use Rattle.poll_machine.specs.House.{slot_of};
 ghost use Rattle.poll_machine.specs.Lobby.{adopts, departs, for_live, goes};
 ghost use Rattle.poll_machine.specs.Plans.{Learns};
 ghost use Rattle.poll_machine.specs.Turn.{arrives, ids};
 ghost use Rattle.poll_owner.specs.Doing.{Does, count_of, found_in, id_at, in_house};
-ghost use Rattle.poll_owner.specs.Loading.{JoinsIn, PacksFirst, TakesIn, packs};
+ghost use Rattle.poll_owner.specs.Loading.{JoinsIn, PacksFirst, TakesIn, ids_after, packs};
 ghost use Rattle.poll_owner.specs.Lodging.{BrokersDocs, BrokersHouse, BrokersSlot};
 ghost use Rattle.poll_owner.specs.Outside.{BrokerHeld, BrokersHeard, outside, with_net, with_port};
 
@@ -226,6 +227,8 @@ impl<K: Kit, N: Net> House<K, N> {
             (for_live (id_at self.old i) (goes (id_at self.old i) to)) self.old
             (with_port (with_net s (N.told net.old)) (P.view port.old)) (IsOk result) false self.new
             (with_port (with_net s (N.told net.new)) (P.view port.new)) }
+        ensures left { (id : ℕ) → id ≡ id_at self.old i → OnOk result
+            (ids self.new ≡ ids_after id (slot_of id self.new.docs) (ids self.old)) }
         ensures takes { N.take_faults net.new ≡ N.take_faults net.old }
     {
         let lodged = self.docs.remove(i);
@@ -253,6 +256,8 @@ impl<K: Kit, N: Net> House<K, N> {
             → Does (ways K.rules K.cut served) N.carried (for_live doc.0 (departs doc.0 to)) self.old
             (with_port (with_net s (N.told net.old)) (P.view port.old)) (IsOk result) false self.new
             (with_port (with_net s (N.told net.new)) (P.view port.new)) }
+        ensures left { OnOk result
+            (ids self.new ≡ ids_after doc.0 (slot_of doc.0 self.new.docs) (ids self.old)) }
         ensures takes { N.take_faults net.new ≡ N.take_faults net.old }
     {
         let Some(i) = self.stands_at(doc) else {

@@ -393,6 +393,7 @@ impl<K: Kit, N: Net> House<K, N> {
             → Does (ways K.rules K.cut served) N.carried (shows link.0 frame.now) self.old
             (with_net s (N.told net.old)) (IsOk result) false self.new
             (with_net s (N.told net.new)) }
+        ensures same { ids self.new ≡ ids self.old }
         ensures takes { N.take_faults net.new ≡ N.take_faults net.old }
     {
         match net.give(alloc, link, frame)? {

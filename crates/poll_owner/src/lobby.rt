@@ -1,16 +1,15 @@
 //! A link of the lobby joins a document that is held, is refused, or is posted to the poll that
 //! holds the document.
 ghost use Rattle.std.specs.Prelude.{◌≡◌, ◌<◌, ℕ, List, Option, None, true, false, IsOk, length};
-ghost use Rattle.std.specs.Prelude.{slice_index_or};
+ghost use Rattle.std.specs.Prelude.{OnOk};
 ghost use Rattle.load_address.specs.declared.served.Served.{Served};
 ghost use Rattle.poll_instance.specs.Instance.{ways};
 ghost use Rattle.poll_machine.specs.House.{is_among, slot_of};
 ghost use Rattle.poll_machine.specs.Lobby.{refuses, spreads, there};
 ghost use Rattle.poll_machine.specs.Plans.{Looks};
-ghost use Rattle.poll_machine.specs.Turn.{welcomes};
+ghost use Rattle.poll_machine.specs.Turn.{ids, welcomes};
 ghost use Rattle.poll_owner.specs.Doing.{Does, id_at};
-ghost use Rattle.poll_owner.specs.Lodging.{BrokersSlot};
-ghost use Rattle.poll_owner.specs.Loading.{comes_again};
+ghost use Rattle.poll_owner.specs.Loading.{comes_again, ids_after};
 ghost use Rattle.poll_owner.specs.Outside.{BrokersHeard, outside, with_net, with_port};
 
 use crate::house::House;
@@ -42,6 +41,7 @@ impl<K: Kit, N: Net> House<K, N> {
             → Does (ways K.rules K.cut served) N.carried (refuses link.0 refusal.now) self.old
             (with_net s (N.told net.old)) (IsOk result) false self.new
             (with_net s (N.told net.new)) }
+        ensures same { ids self.new ≡ ids self.old }
         ensures takes { N.take_faults net.new ≡ N.take_faults net.old }
     {
         let frame = refusal.frame(alloc)?;
@@ -74,6 +74,7 @@ impl<K: Kit, N: Net> House<K, N> {
             (outside (N.told net.old) (P.view port.old) (H.calls store.old) clock (Y.took yard.old))
             (IsOk result) false self.new
             (outside (N.told net.new) (P.view port.new) (H.calls store.new) clock (Y.took yard.new)) }
+        ensures same { ids self.new ≡ ids self.old }
         ensures takes { N.take_faults net.new ≡ N.take_faults net.old }
     {
         let moment = self.moment;
@@ -174,6 +175,7 @@ impl<K: Kit, N: Net> House<K, N> {
             → Does (ways K.rules K.cut served) N.carried (comes_again carried why) self.old
             (with_net s (N.told net.old)) (IsOk result) false self.new
             (with_net s (N.told net.new)) }
+        ensures same { ids self.new ≡ ids self.old }
         ensures takes { N.take_faults net.new ≡ N.take_faults net.old }
     {
         let Some(refusal) = post_refusal(why) else {
@@ -196,6 +198,8 @@ impl<K: Kit, N: Net> House<K, N> {
             → Does (ways K.rules K.cut served) N.carried (spreads doc.0) self.old
             (with_port (with_net s (N.told net.old)) (P.view port.old)) (IsOk result) false self.new
             (with_port (with_net s (N.told net.new)) (P.view port.new)) }
+        ensures left { OnOk result
+            (ids self.new ≡ ids_after doc.0 (slot_of doc.0 self.new.docs) (ids self.old)) }
         ensures takes { N.take_faults net.new ≡ N.take_faults net.old }
     {
         if !self.spread {

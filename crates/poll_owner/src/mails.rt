@@ -1,11 +1,12 @@
 //! The mails of a document: links that join, answers to its works, and where it is to move.
-ghost use Rattle.std.specs.Prelude.{◌≡◌, ◌<◌, ℕ, List, Option, true, false, IsOk, IfOk, length};
+ghost use Rattle.std.specs.Prelude.{◌≡◌, ◌<◌, ℕ, List, Option, true, false, IsOk, IfOk, OnOk, length};
 ghost use Rattle.load_address.specs.declared.served.Served.{Served};
 ghost use Rattle.poll_instance.specs.Instance.{ways};
-ghost use Rattle.poll_machine.specs.House.{Join};
+ghost use Rattle.poll_machine.specs.House.{Join, slot_of};
 ghost use Rattle.poll_machine.specs.Plans.{each};
 ghost use Rattle.poll_machine.specs.Turn.{collects, for_each, ids, last_move, moves, reads};
 ghost use Rattle.poll_owner.specs.Doing.{Does, first_in, found_in, id_at, ids_left};
+ghost use Rattle.poll_owner.specs.Loading.{ids_after};
 ghost use Rattle.poll_owner.specs.Mailing.{noted};
 ghost use Rattle.poll_owner.specs.Outside.{BrokersHeard, outside, with_net, with_port};
 
@@ -152,6 +153,8 @@ impl<K: Kit, N: Net> House<K, N> {
             → Does (ways K.rules K.cut served) N.carried (moves doc.0 to) self.old
             (with_port (with_net s (N.told net.old)) (P.view port.old)) (IsOk result) false self.new
             (with_port (with_net s (N.told net.new)) (P.view port.new)) }
+        ensures left { OnOk result
+            (ids self.new ≡ ids_after doc.0 (slot_of doc.0 self.new.docs) (ids self.old)) }
         ensures takes { N.take_faults net.new ≡ N.take_faults net.old }
     {
         let Some(to) = to else {
