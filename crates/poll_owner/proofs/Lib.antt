@@ -15,3 +15,4 @@ pub mod Joining
 pub mod Answering
 pub mod Tokens
 pub mod Ending
+pub mod Loading
