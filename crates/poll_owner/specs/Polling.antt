@@ -11,10 +11,10 @@ use Rattle.poll_machine.specs.Told.{Heard, Hears}
 use Rattle.poll_machine.specs.Turn.{IsTurn, Outcome, outcome, End, PollsOn}
 use Rattle.poll_machine.specs.Turn.{Budget, Rested, Fault, OutOfMemory}
 use Rattle.poll_machine.specs.Turn as turn
-use Rattle.poll_owner.specs.declared.turning.PollEnd.{PollEnd}
-use Rattle.poll_owner.specs.declared.turning.PollEnd.TheVariants as ended
-use Rattle.poll_owner.specs.declared.turning.PollTurn.{PollTurn}
-use Rattle.poll_owner.specs.declared.turning.PollTurn.TheVariants as made
+use Rattle.poll_owner.specs.declared.rounds.PollEnd.{PollEnd}
+use Rattle.poll_owner.specs.declared.rounds.PollEnd.TheVariants as ended
+use Rattle.poll_owner.specs.declared.rounds.PollTurn.{PollTurn}
+use Rattle.poll_owner.specs.declared.rounds.PollTurn.TheVariants as made
 
 -- what the outside tells, with another history of the clock
 abbrev pub with_clock : {D J P L : Type 0} → Heard D J P L → Option (List ℕ) → Heard D J P L

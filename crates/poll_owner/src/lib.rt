@@ -10,10 +10,10 @@
 //! - `hearing`: what the net gave: a link opened, said something, or left.
 //! - `lobby`: a link of the lobby joins a document, is refused, or is posted to another poll.
 //! - `loads`: a link of the lobby loads a document by its address.
-//! - `places`: under which id what is held stands where, and where something new is held.
+//! - `holding`: under which id what is held stands where, and where something new is held.
 //! - `departing`: a document departs to another poll.
 //! - `lodged`: what a house holds under an id: a document, or a file whose load was refused.
-//! - `Poll`, `PollTurn`, `PollEnd` (`turning`): turns of a poll.
+//! - `Poll`, `PollTurn`, `PollEnd` (`rounds`): turns of a poll.
 //! - `works`: the works of a document are offered to the yard, or done at once.
 //! - `mails`: the mails of a document are collected and read.
 //! - `Parcel`, `Mail` (`parcels`): what polls send to each other.
@@ -23,6 +23,7 @@ mod befalling;
 mod departing;
 mod giving;
 mod hearing;
+mod holding;
 mod house;
 mod loads;
 mod lobby;
@@ -32,10 +33,9 @@ mod mails;
 mod moving;
 mod owned;
 mod parcels;
-mod places;
-mod turning;
+mod rounds;
 mod works;
 
 pub use owned::{HeldLock, OwnedDocument};
 pub use parcels::{Letter, Mail, Parcel};
-pub use turning::{Poll, PollEnd, PollTurn};
+pub use rounds::{Poll, PollEnd, PollTurn};
