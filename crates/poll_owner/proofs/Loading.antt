@@ -1,6 +1,6 @@
 -- A load goes on call by call: what one call tells, and then the rest of its plan.
-use Rattle.std.proofs.Common.{◌≡◌, ℕ, Bool, false, List, [], ◌∷◌, ◌++◌, Option, None, Some}
-use Rattle.std.proofs.Common.{Result, Ok, Err, refl}
+use Rattle.std.proofs.Common.{ℕ, Bool, false, List, [], ◌∷◌, ◌++◌, Option, Some}
+use Rattle.std.proofs.Common.{Result, refl}
 use Rattle.hall_machine.specs.declared.words.Entered.{Entered}
 use Rattle.hall_machine.specs.declared.words.HallFault.{HallFault}
 use Rattle.document_machine.specs.declared.rights.Rights.{Rights}

@@ -1,9 +1,8 @@
 -- A link of the lobby loads a document: the parts of its plan that calls of their own carry out.
-use Rattle.std.specs.Prelude.{◌≡◌, ℕ, ◌+◌, Bool, true, false, List, ◌∷◌, ◌++◌, take, drop, get_or}
+use Rattle.std.specs.Prelude.{◌≡◌, ℕ, ◌+◌, true, false, List, ◌∷◌, ◌++◌, take, drop, get_or}
 use Rattle.std.specs.Prelude.{◌<◌, ◌≤◌, ◌==◌, [], filter, not, length, Option, None, Some, Result, Ok, Err, ⊤, ⊥}
 use Rattle.cool_base.specs.declared.want.Memory.{Memory}
 use Rattle.document_machine.specs.declared.rights.Rights.{Rights}
-use Rattle.hall_machine.specs.declared.words.CloseFault.{CloseFault}
 use Rattle.hall_machine.specs.declared.words.Entered.{Entered}
 use Rattle.hall_machine.specs.declared.words.HallFault.{HallFault}
 use Rattle.net_traits.specs.Nets.{LinkEvent}

@@ -41,7 +41,7 @@ pub record MakesTurn {D J P L : Type 0} (w : Ways D J P) (carries : L → List L
     (old : House D J P L) (before : Heard D J P L) (answer : PollTurn) (new : House D J P L)
     (after : Heard D J P L) : Type 0 where
   pub events : List (Happens D J P L)
-  pub turn : IsTurn w old events new
+  pub is_turn : IsTurn w old events new
   pub answered : outcome events ≡ outcome_of answer
   pub heard : Hears w carries before events after
 

@@ -1,9 +1,8 @@
 //! A document departs to another poll, or comes in from one.
 ghost use Rattle.std.specs.Prelude.{◌≡◌, ◌<◌, ◌≤◌, ◌+◌, ◌∷◌, ◌++◌, ℕ, List, Option, Some, length};
-ghost use Rattle.std.specs.Prelude.{true, false, IsOk, IsSome, IfOk, OnOk, slice_index_or};
+ghost use Rattle.std.specs.Prelude.{true, false, IsOk, OnOk, slice_index_or};
 ghost use Rattle.load_address.specs.declared.served.Served.{Served};
 ghost use Rattle.poll_instance.specs.Instance.{ways};
-ghost use Rattle.poll_machine.specs.Agenda.{HeldStep, link_of};
 ghost use Rattle.poll_machine.specs.House.{Live as LiveSlot, Rises, come_in, is_among, parcel_of};
 ghost use Rattle.poll_machine.specs.House.{slot_of};
 ghost use Rattle.poll_machine.specs.Lobby.{adopts, departs, for_live, goes};

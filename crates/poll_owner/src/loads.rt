@@ -3,7 +3,6 @@
 ghost use Rattle.std.specs.Prelude.{◌≡◌, ℕ, List, Option, Some, true, false, IfOk, IsOk};
 ghost use Rattle.load_address.specs.Addresses.{address};
 ghost use Rattle.load_address.specs.Named.{named};
-ghost use Rattle.outside.specs.declared.faults.StoreFault.TheVariants.{Memory as NoMemory};
 ghost use Rattle.poll_instance.specs.Instance.{opened, ways};
 ghost use Rattle.poll_machine.specs.House.{is_among};
 ghost use Rattle.poll_machine.specs.Lobby.{gives_up, loads, lock_where, opens, unlocks_where};

@@ -1,5 +1,5 @@
 //! The mails of a document: links that join, answers to its works, and where it is to move.
-ghost use Rattle.std.specs.Prelude.{◌≡◌, ◌<◌, ℕ, List, Option, true, false, IsOk, IfOk, OnOk, length};
+ghost use Rattle.std.specs.Prelude.{◌≡◌, ◌<◌, ℕ, List, Option, false, IsOk, IfOk, OnOk, length};
 ghost use Rattle.load_address.specs.declared.served.Served.{Served};
 ghost use Rattle.poll_instance.specs.Instance.{ways};
 ghost use Rattle.poll_machine.specs.House.{Join, slot_of};

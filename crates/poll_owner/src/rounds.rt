@@ -1,6 +1,6 @@
 //! Turns of a poll.
 ghost use Rattle.std.specs.Prelude.{◌≡◌, ◌≢◌, ◌||◌, ℕ, List, Option, Some, Ok, IsOk, MatchResult};
-ghost use Rattle.std.specs.Prelude.{true, false, ⊤, ⊥, if◌then◌else◌};
+ghost use Rattle.std.specs.Prelude.{false, ⊤, ⊥, if◌then◌else◌};
 ghost use Rattle.load_address.specs.declared.served.Served.{Served as Host};
 ghost use Rattle.net_traits.specs.declared.nets.Taken.TheVariants.{Failed};
 ghost use Rattle.outside.specs.Causes.{HasCause};
