@@ -1,6 +1,6 @@
 -- A view that a broker hasn't leaves it as it is.
 use Rattle.std.proofs.Common.{◌≡◌, ℕ, Bool, true, false, ◌&&◌, cond, List, [], ◌∷◌, Option, None}
-use Rattle.std.proofs.Common.{Some, nat_eq, refl, ap, ◌∙◌, sym, true≢false}
+use Rattle.std.proofs.Common.{Some, Result, Ok, Err, IfOk, OnOk, nat_eq, refl, ap, ◌∙◌, sym, true≢false}
 use Rattle.std.specs.Option.{is_some, option_map_or}
 use Rattle.kit_trait.specs.Rules.{Rules}
 use Rattle.tile_key.specs.Places.{Place}
@@ -76,3 +76,10 @@ pub goes_some : {C B S : Type 0} (rules : Rules C B) (cut : C → Place → S)
 goes_some rules cut (Some old) event outs (Some new) step = refl
 goes_some rules cut (Some old) event outs None step = absurd step
 goes_some rules cut None event outs new step = absurd step
+
+-- the same of a call's answer
+pub alive_on : {C B S E : Type 0} (rules : Rules C B) (cut : C → Place → S)
+    (old : Option (Held S)) (event : Event S) (new : Option (Held S)) (result : Result (Given S) E)
+    → IfOk result (λ outs. Goes rules cut old event outs new) → OnOk result (is_some new ≡ true)
+alive_on rules cut old event new (Ok outs) step = goes_some rules cut old event outs new step
+alive_on rules cut old event new (Err e) step = tt

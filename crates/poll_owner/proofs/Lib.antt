@@ -13,7 +13,6 @@ pub mod Leaving
 pub mod Housing
 pub mod Joining
 pub mod Answering
-pub mod Tokens
 pub mod Ending
 pub mod Loading
 pub mod Heeding

@@ -117,7 +117,7 @@ impl<K: Kit, N: Net> OwnedDocument<K, N> {
     }
 
     // The lock that an answer of the store gives the document, at this moment.
-    #[tactic(auto, using(crate::proofs::Tokens::lock_is))]
+    #[tactic(auto, using(crate::proofs::Working::same_lock))]
     fn lock_given(
         &self,
         alloc: Global,
