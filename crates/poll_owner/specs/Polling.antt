@@ -69,8 +69,8 @@ pub record RunsTurns {D J P L : Type 0} (w : Ways D J P) (carries : L → List L
   pub headline : (house : House D J P L) → old ≡ Some house
       → Headline w carries house before (all_events turns ++ rest) last after
 
--- one turn of a poll that may be spent: a spent one is out of memory, calls nothing and stays spent;
--- another is spent once it was out of memory
+-- one turn of a poll that may be spent: a spent one is out of memory, calls nothing and stays
+-- spent; another is spent once it was out of memory
 abbrev pub TurnsOnce : {D J P L : Type 0} → Ways D J P → (L → List LinkEvent)
     → Option (House D J P L) → Heard D J P L → Result PollTurn Memory → Option (House D J P L)
     → Heard D J P L → Type 0

@@ -112,7 +112,8 @@ impl<K: Kit, N: Net> House<K, N> {
         requires { is_among link.0 self.old.lobby ≡ true }
         ensures joins { (served : Served) (clock : Option (List ℕ))
             → Does (ways K.rules K.cut served) N.carried
-            (Looks (λ h. there (ways K.rules K.cut served) link.0 doc.0 rights (slot_of doc.0 h.docs))) self.old
+            (Looks (λ h. there (ways K.rules K.cut served) link.0 doc.0 rights
+            (slot_of doc.0 h.docs))) self.old
             (outside (N.told net.old) (P.view port.old) (H.calls store.old) clock (Y.took yard.old))
             (IsOk result) false self.new
             (outside (N.told net.new) (P.view port.new) (H.calls store.new) clock (Y.took yard.new)) }

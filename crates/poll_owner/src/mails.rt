@@ -33,8 +33,8 @@ fn moved<S: Scene, L: Drop>(mail: &Mail<S, L>, last: Option<u32>) -> Option<u32>
 }
 
 impl<K: Kit, N: Net> House<K, N> {
-    // A link comes by mail: it is adopted into the lobby, and joins the document at this place, or is
-    // refused.
+    // A link comes by mail: it is adopted into the lobby, and joins the document at this place, or
+    // is refused.
     fn welcome_at<
         H: Store,
         Y: Yard<Work<K::Scene>>,
@@ -53,7 +53,8 @@ impl<K: Kit, N: Net> House<K, N> {
         requires { i < length self.old.docs }
         ensures joins { (served : Served) (clock : Option (List ℕ)) (link : ℕ)
             → Does (ways K.rules K.cut served) N.carried
-            (reads (ways K.rules K.cut served) (id_at self.old i) (Join link carried rights)) self.old
+            (reads (ways K.rules K.cut served) (id_at self.old i)
+            (Join link carried rights)) self.old
             (outside (N.told net.old) (P.view port.old) (H.calls store.old) clock (Y.took yard.old))
             (IsOk result) false self.new
             (outside (N.told net.new) (P.view port.new) (H.calls store.new) clock (Y.took yard.new)) }
@@ -99,8 +100,8 @@ impl<K: Kit, N: Net> House<K, N> {
         }
     }
 
-    // The mails of the document at this place, in order. Where it is to move by the last of them that
-    // says so.
+    // The mails of the document at this place, in order. Where it is to move by the last of them
+    // that says so.
     fn read_all<
         H: Store,
         Y: Yard<Work<K::Scene>>,

@@ -108,7 +108,8 @@ impl<K: Kit, N: Net> House<K, N> {
             (with_net s (N.told net.old)) ⊤ self.new (with_net s (N.told net.new)))
             (λ _. Carries (ways K.rules K.cut served) N.carried Rests self.old
             (with_net s (N.told net.old)) ⊥ self.new (with_net s (N.told net.new))) }
-        ensures cause { HasCause (N.take_faults net.old) (N.take_faults net.new) (result ≡ Ok Failed) }
+        ensures cause { HasCause (N.take_faults net.old) (N.take_faults net.new)
+            (result ≡ Ok Failed) }
     {
         let taken = net.take(alloc)?;
         self.meet(&taken)?;
@@ -163,9 +164,12 @@ impl<K: Kit, N: Net> House<K, N> {
         clock: &mut C,
     ) -> Result<PollTurn, Memory>
         ensures turn { TriesTurn (ways K.rules K.cut served.now) N.carried self.old
-            (outside (N.told net.old) (P.view port.old) (H.calls store.old) (C.moments clock.old) (Y.took yard.old)) result self.new
-            (outside (N.told net.new) (P.view port.new) (H.calls store.new) (C.moments clock.new) (Y.took yard.new)) }
-        ensures cause { HasCause (N.take_faults net.old) (N.take_faults net.new) (result ≡ Ok PollTurn.NetFault) }
+            (outside (N.told net.old) (P.view port.old) (H.calls store.old)
+            (C.moments clock.old) (Y.took yard.old)) result self.new
+            (outside (N.told net.new) (P.view port.new) (H.calls store.new)
+            (C.moments clock.new) (Y.took yard.new)) }
+        ensures cause { HasCause (N.take_faults net.old) (N.take_faults net.new)
+            (result ≡ Ok PollTurn.NetFault) }
     {
         self.tick(clock);
         let arrived = self.arrive(alloc, net, port)?;
@@ -196,10 +200,15 @@ impl<K: Kit, N: Net> House<K, N> {
         clock: &mut C,
         turns: u64,
     ) -> Result<PollEnd, Memory>
-        ensures runs { RunsTurns (ways K.rules K.cut served.now) N.carried turns (end_of result) (Some self.old)
-            (outside (N.told net.old) (P.view port.old) (H.calls store.old) (C.moments clock.old) (Y.took yard.old)) (left_by (end_of result) self.new)
-            (outside (N.told net.new) (P.view port.new) (H.calls store.new) (C.moments clock.new) (Y.took yard.new)) }
-        ensures cause { HasCause (N.take_faults net.old) (N.take_faults net.new) (result ≡ Ok PollEnd.NetFault) }
+        ensures runs { RunsTurns (ways K.rules K.cut served.now) N.carried turns
+            (end_of result) (Some self.old)
+            (outside (N.told net.old) (P.view port.old) (H.calls store.old)
+            (C.moments clock.old) (Y.took yard.old))
+            (left_by (end_of result) self.new)
+            (outside (N.told net.new) (P.view port.new) (H.calls store.new)
+            (C.moments clock.new) (Y.took yard.new)) }
+        ensures cause { HasCause (N.take_faults net.old) (N.take_faults net.new)
+            (result ≡ Ok PollEnd.NetFault) }
     {
         for _ in 0..turns {
             match self.turn(alloc, served, net, store, yard, port, clock)? {
@@ -248,9 +257,12 @@ impl<K: Kit, N: Net> Poll<K, N> {
         clock: &mut C,
     ) -> Result<PollTurn, Memory>
         ensures turn { TurnsOnce (ways K.rules K.cut served.now) N.carried self.old
-            (outside (N.told net.old) (P.view port.old) (H.calls store.old) (C.moments clock.old) (Y.took yard.old)) result self.new
-            (outside (N.told net.new) (P.view port.new) (H.calls store.new) (C.moments clock.new) (Y.took yard.new)) }
-        ensures cause { HasCause (N.take_faults net.old) (N.take_faults net.new) (result ≡ Ok PollTurn.NetFault) }
+            (outside (N.told net.old) (P.view port.old) (H.calls store.old)
+            (C.moments clock.old) (Y.took yard.old)) result self.new
+            (outside (N.told net.new) (P.view port.new) (H.calls store.new)
+            (C.moments clock.new) (Y.took yard.new)) }
+        ensures cause { HasCause (N.take_faults net.old) (N.take_faults net.new)
+            (result ≡ Ok PollTurn.NetFault) }
     {
         let Some(mut house) = self.house.take() else {
             return Err(Memory);
@@ -277,10 +289,14 @@ impl<K: Kit, N: Net> Poll<K, N> {
         clock: &mut C,
         turns: u64,
     ) -> Result<PollEnd, Memory>
-        ensures runs { RunsTurns (ways K.rules K.cut served.now) N.carried turns (end_of result) self.old
-            (outside (N.told net.old) (P.view port.old) (H.calls store.old) (C.moments clock.old) (Y.took yard.old)) self.new
-            (outside (N.told net.new) (P.view port.new) (H.calls store.new) (C.moments clock.new) (Y.took yard.new)) }
-        ensures cause { HasCause (N.take_faults net.old) (N.take_faults net.new) (result ≡ Ok PollEnd.NetFault) }
+        ensures runs { RunsTurns (ways K.rules K.cut served.now) N.carried turns
+            (end_of result) self.old
+            (outside (N.told net.old) (P.view port.old) (H.calls store.old)
+            (C.moments clock.old) (Y.took yard.old)) self.new
+            (outside (N.told net.new) (P.view port.new) (H.calls store.new)
+            (C.moments clock.new) (Y.took yard.new)) }
+        ensures cause { HasCause (N.take_faults net.old) (N.take_faults net.new)
+            (result ≡ Ok PollEnd.NetFault) }
     {
         let Some(mut house) = self.house.take() else {
             return Err(Memory);
