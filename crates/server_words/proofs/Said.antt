@@ -21,7 +21,7 @@ pub only_refused : (fault : WordsFault) → answer_for fault ≡ answer_for Refu
 only_refused Refused is = refl
 only_refused Memory is = cc
 
-faulty : (kinds : Kinds) (e : Error) (said : Option HostWords) → HasKind kinds e → (kind_of e ≡ OutOfMemory → ⊥) → unless_faulty kinds said ≡ None
+pub faulty : {A : Type 0} (kinds : Kinds) (e : Error) (said : Option A) → HasKind kinds e → (kind_of e ≡ OutOfMemory → ⊥) → unless_faulty kinds said ≡ None
 faulty [] e said (inl memory) other = absurd (other memory)
 faulty [] e said (inr none) other = absurd none
 faulty (kind ∷ kinds) e said has other = refl
@@ -31,7 +31,7 @@ pub refused_by_parser : (words : List Text) (e : Error) → HasKind (fault_of ho
 unfolding host_said
 refused_by_parser words e has other = faulty (fault_of host_app words) e (rows_say (matches_of host_app words)) has other
 
-value_is : (found : Found) (rows : List Row) (id : Text) (value : Option (Bor Text)) → rows_of found ≡ rows → option_copied value ≡ first_value found id → first_of id rows ≡ option_copied value
+pub value_is : (found : Found) (rows : List Row) (id : Text) (value : Option (Bor Text)) → rows_of found ≡ rows → option_copied value ≡ first_value found id → first_of id rows ≡ option_copied value
 value_is found rows id value is got = sym (got ∙ first_value-rows found id ∙ ap (λ (rs : List Row). first_of id rs) is)
 
 all_say : (p1 p2 f1 f2 r1 r2 : Option Text) → p1 ≡ p2 → f1 ≡ f2 → r1 ≡ r2 → values_say p1 f1 r1 ≡ values_say p2 f2 r2
