@@ -7,12 +7,12 @@ use Rattle.poll_owner.proofs.owned.OwnedDocument.take.Goals as goal
 -- a painted result
 pub returns-in-Painted-clause-step : goal.returns-in-Painted-clause-step
 returns-in-Painted-clause-step g c =
-    rw c.in-Painted.is
+    rw (← c.self.view_is, c.in-Painted.is)
     (IfOk-weaker c.painted.result _ _ (λ outs step served. (outs, step, refl)) c.painted.ensures.step)
 
 pub returns-in-Painted-clause-rest : goal.returns-in-Painted-clause-rest
 returns-in-Painted-clause-rest g c =
-    rw c.in-Painted.is
+    rw (← c.self.view_is, c.in-Painted.is)
     (IfOk-weaker c.painted.result _ _ (λ outs step served. refl) c.painted.ensures.step)
 
 pub returns-in-Painted-clause-frames : goal.returns-in-Painted-clause-frames
