@@ -1,7 +1,7 @@
 -- A link of the lobby loads a document: the parts of its plan that calls of their own carry out.
 use Rattle.std.specs.Prelude.{◌≡◌, ℕ, ◌+◌, true, false, List, ◌∷◌, ◌++◌, take, drop, get_or}
 use Rattle.std.specs.Prelude.{◌<◌, ◌≤◌, ◌==◌, [], filter, not, length, Option, None, Some, Result}
-use Rattle.std.specs.Prelude.{Ok, Err, ⊤, ⊥}
+use Rattle.std.specs.Prelude.{Ok, Err, ⊤}
 use Rattle.cool_base.specs.declared.want.Memory.{Memory}
 use Rattle.document_machine.specs.declared.rights.Rights.{Rights}
 use Rattle.hall_machine.specs.declared.words.Entered.{Entered}

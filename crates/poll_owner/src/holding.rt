@@ -18,10 +18,11 @@ fn place_before<K: Kit, N: Net>(docs: &[Lodged<K, N>], doc: DocId) -> Option<usi
     ensures within { IfSome result (λ i. i ≤ length docs.now) }
 {
     for i in 0..docs.len() {
-        if docs[i].id.0 == doc.0 {
+        let lodged = &docs[i];
+        if lodged.id.0 == doc.0 {
             return None;
         }
-        if docs[i].id.0 > doc.0 {
+        if lodged.id.0 > doc.0 {
             return Some(i);
         }
     }
@@ -35,7 +36,8 @@ impl<K: Kit, N: Net> House<K, N> {
         ensures none { result ≡ None → slot_of doc.0 self.now.docs ≡ None }
     {
         for i in 0..self.docs.len() {
-            if self.docs[i].id.0 == doc.0 {
+            let lodged = &self.docs[i];
+            if lodged.id.0 == doc.0 {
                 return Some(i);
             }
         }
