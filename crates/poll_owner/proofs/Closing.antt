@@ -26,7 +26,7 @@ use Rattle.poll_owner.proofs.Doing.{does_rests, does_makes, does_then, does_lear
 use Rattle.poll_owner.proofs.Doing.{does_cut}
 use Rattle.poll_owner.proofs.Happening.{here_done}
 
-other_id : (a b : ℕ) → (a ≡ b → ⊥) → nat_eq a b ≡ false
+pub other_id : (a b : ℕ) → (a ≡ b → ⊥) → nat_eq a b ≡ false
 other_id a b differ = grind (arith, differ)
 
 -- nothing stands under an id behind a greater one
@@ -54,7 +54,7 @@ rises_on p [] rises = tt
 rises_on p (q ∷ docs) rises = rises.1
 
 -- once it is taken out nothing stands under its id
-gone : {D J P L : Type 0} (front : List (ℕ × Slot D J P L)) (id : ℕ) (slot : Slot D J P L)
+pub gone : {D J P L : Type 0} (front : List (ℕ × Slot D J P L)) (id : ℕ) (slot : Slot D J P L)
     (back : List (ℕ × Slot D J P L))
     → Rises (front ++ (id, slot) ∷ back) → slot_of id (front ++ back) ≡ None
 gone [] id slot back rises = above id slot back id rises (omega arith)
@@ -64,7 +64,7 @@ gone (q ∷ front) id slot back rises =
     (gone front id slot back (rises_on q (front ++ (id, slot) ∷ back) rises))
 
 -- under each other id stands what stood there
-others_stay : {D J P L : Type 0} (front : List (ℕ × Slot D J P L)) (id : ℕ) (slot : Slot D J P L)
+pub others_stay : {D J P L : Type 0} (front : List (ℕ × Slot D J P L)) (id : ℕ) (slot : Slot D J P L)
     (back : List (ℕ × Slot D J P L)) (x : ℕ) → x ≢ id
     → slot_of x (front ++ back) ≡ slot_of x (front ++ (id, slot) ∷ back)
 others_stay [] id slot back x other = rw (other_id id x (λ same. other (sym same))) refl

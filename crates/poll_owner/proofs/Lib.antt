@@ -16,3 +16,4 @@ pub mod Answering
 pub mod Ending
 pub mod Loading
 pub mod Heeding
+pub mod Standing

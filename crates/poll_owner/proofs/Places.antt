@@ -1,10 +1,14 @@
 -- Where the document of a link stands.
 use Rattle.std.proofs.Common.{◌≡◌, ℕ, ◌+◌, ◌<◌, ◌≤◌, Bool, true, false, List, [], ◌∷◌, ◌++◌, length}
 use Rattle.std.proofs.Common.{take, drop, get_or, Option, None, Some, refl, ap, sym, subst, ◌∙◌}
+use Rattle.std.proofs.Common.{IfSome, is_some}
 use Rattle.std.specs.Option.{option_map}
+use Rattle.cool_base.specs.declared.ids.ViewId.{ViewId}
 use Rattle.std.proofs.lemmas.List.{take_more, get_or_default}
-use Rattle.poll_machine.specs.House.{Slot, Live, Refused, found_or, view_at, view_in}
+use Rattle.poll_machine.specs.House.{House, Slot, Live, Refused, found_or, holds, is_among, view_at}
+use Rattle.poll_machine.specs.House.{view_in}
 use Rattle.poll_owner.specs.Lodging.{IsPlace, is_live_slot}
+use Rattle.poll_owner.proofs.Each.{item_at}
 use Rattle.poll_owner.proofs.Happening.{placed}
 
 -- what the documents in front have no view for is looked for behind them
@@ -54,3 +58,22 @@ none_more {D} {J} {P} {L} docs link i p within is none lacks =
     ∙ ap (λ (q : ℕ × Slot D J P L). take i docs ++ q ∷ []) (sym is))
     ∙ view_behind (take i docs) (p ∷ []) link none
     ∙ ap (λ (v : Option ℕ). found_or p.0 v None) lacks
+
+-- whether a link is held that waits in no lobby: where the document of some view was found
+pub holds_view : {D J P L : Type 0} (h : House D J P L) (docs : List (ℕ × Slot D J P L)) (link : ℕ)
+    (result : Option (ℕ × ViewId))
+    → docs ≡ h.docs → is_among link h.lobby ≡ false
+    → IfSome result (λ r. IsPlace docs link r.0 r.1.0)
+    → (result ≡ None → view_in docs link ≡ None) → is_some result ≡ holds h link
+holds_view {D} {J} {P} {L} h docs link (Some r) same out place none =
+    let there : (d : ℕ × Slot D J P L) × (d ≡ get_or docs r.0 d) = item_at docs r.0 place.within in
+    let seen : view_in h.docs link ≡ Some (there.0.0, r.1.0) =
+    ap (λ (xs : List (ℕ × Slot D J P L)). view_in xs link) (sym same)
+    ∙ (place.found there.0 there.1).0
+    in
+    rw (out, seen) refl
+holds_view {D} {J} {P} {L} h docs link None same out place none =
+    let unseen : view_in h.docs link ≡ None =
+    ap (λ (xs : List (ℕ × Slot D J P L)). view_in xs link) (sym same) ∙ none refl
+    in
+    rw (out, unseen) refl

@@ -2,6 +2,7 @@
 use Rattle.std.specs.Prelude.{◌≡◌, ℕ, ◌+◌, true, false, List, ◌∷◌, ◌++◌, take, drop, get_or}
 use Rattle.std.specs.Prelude.{◌<◌, ◌≤◌, ◌==◌, [], filter, not, length, Option, None, Some, Result}
 use Rattle.std.specs.Prelude.{Ok, Err, ⊤}
+use Rattle.std.specs.List.{AllByRecursion}
 use Rattle.cool_base.specs.declared.want.Memory.{Memory}
 use Rattle.document_machine.specs.declared.rights.Rights.{Rights}
 use Rattle.hall_machine.specs.declared.words.Entered.{Entered}
@@ -47,6 +48,15 @@ pub record StandsAt {D J P L : Type 0} (docs : List (ℕ × Slot D J P L)) (id i
   pub within : i < length docs
   pub found : (p : ℕ × Slot D J P L) → p ≡ get_or docs i p
       → (p.0 ≡ id) × (slot_of id docs ≡ Some p.1)
+
+-- each id is below this one
+abbrev pub AllBelow : {D J P L : Type 0} → ℕ → List (ℕ × Slot D J P L) → Type 0
+AllBelow {D} {J} {P} {L} id docs = AllByRecursion (λ (p : ℕ × Slot D J P L). p.0 < id) docs
+
+-- something new may stand under the id at this place: the ids rise with it
+pub record GoesAt {D J P L : Type 0} (docs : List (ℕ × Slot D J P L)) (id i : ℕ) : Type 0 where
+  pub within : i ≤ length docs
+  pub order : (slot : Slot D J P L) → Rises (take i docs ++ (id, slot) ∷ drop i docs)
 
 -- nothing was held under the id, and this is held now, at this place
 pub record HeldAt {D J P L : Type 0} (old : House D J P L) (id : ℕ) (slot : Slot D J P L) (i : ℕ)

@@ -1,8 +1,8 @@
 //! Under which id what is held stands where, and where something new is held.
-ghost use Rattle.std.specs.Prelude.{◌≡◌, ◌≤◌, None, IfSome, IfOk, length};
-ghost use Rattle.poll_machine.specs.House.{slot_of};
+ghost use Rattle.std.specs.Prelude.{◌≡◌, None, IfSome, IfOk};
+ghost use Rattle.poll_machine.specs.House.{Rises, slot_of};
 ghost use Rattle.poll_owner.specs.Lodging.{slot_in};
-ghost use Rattle.poll_owner.specs.Loading.{HeldAt, StandsAt};
+ghost use Rattle.poll_owner.specs.Loading.{GoesAt, HeldAt, StandsAt};
 
 use crate::house::House;
 use crate::lodged::{Kept, Lodged};
@@ -12,10 +12,10 @@ use kit_trait::Kit;
 use net_traits::Net;
 use poll_lobby::Refusal;
 
-// How many of what is held stand before this id; None where something is held under it.
+// Where something new stands under this id; None where something is held under it.
 fn place_before<K: Kit, N: Net>(docs: &[Lodged<K, N>], doc: DocId) -> Option<usize>
-    ensures free { IfSome result (λ i. slot_of doc.0 docs.now ≡ None) }
-    ensures within { IfSome result (λ i. i ≤ length docs.now) }
+    requires { Rises docs.now }
+    ensures { IfSome result (λ i. GoesAt docs.now doc.0 i) }
 {
     for i in 0..docs.len() {
         let lodged = &docs[i];
