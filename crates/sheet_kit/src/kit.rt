@@ -39,11 +39,10 @@ impl Model for SheetKit {
 impl Kit for SheetKit {
     type Scene = SheetScene;
 
-    ghost use Rattle.std.specs.Prelude.{nat_lt, length};
     ghost use Rattle.sheet_calc.specs.Books.{Parts};
     ghost use Rattle.sheet_rules.specs.Typing.{Sheet};
     ghost use Rattle.sheet_rules.specs.Sheets.{IsSheet};
-    ghost use Rattle.sheet_calc.specs.declared.limits.TheConstants.{FILE_LIMIT};
+    ghost use Rattle.sheet_file.specs.BookFile.{book_of, is_early};
     ghost use Rattle.sheet_kit.specs.SheetKind.{sheet_kind};
     ghost use Rattle.sheet_kit.specs.Seen.{sheet_cut};
 
@@ -59,7 +58,7 @@ impl Kit for SheetKit {
 
     ghost cut = { sheet_cut };
 
-    ghost refuses = { λ file. nat_lt FILE_LIMIT (length file) };
+    ghost refuses = { λ file. is_early (book_of file) };
 
     fn load(alloc: Global, file: &[u8]) -> Result<SheetKit, LoadFault> {
         if file.len() > FILE_LIMIT {
