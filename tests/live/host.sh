@@ -1,7 +1,7 @@
 #!/usr/bin/env bash
 # Runs `coolwsd host` over a folder and real sockets: with curl a file is asked about, read, locked, put and unlocked;
-# the program is killed in the middle of puts; peers that say nothing, too little or nonsense get their answer or
-# none, and the next request is answered.
+# the program is killed in the middle of puts; peers that say nothing, too little or nonsense, or that hang up, get
+# their answer or none, and the next request is answered.
 # The program is the first of those in COOLWSD, paths that blanks divide, else the one that `rt ci` left in
 # crates/coolwsd/out. Without curl or python3 it is skipped. It takes about 32 seconds, of which 26 wait for limits.
 set -u
@@ -103,7 +103,7 @@ served "a byte more than 64 MiB"
 # Peers that say nothing, too little or nonsense. The fixed requests get nothing; drawn ones, cut and damaged at a few
 # bytes, get nothing or a response. After each hundred a request is answered.
 cat > "$work/peers.py" <<'PEERS'
-import random, socket, sys, time
+import random, socket, struct, sys, time
 port = int(sys.argv[1])
 draws = random.Random(17)
 
@@ -158,6 +158,29 @@ put = (b"POST /wopi/files/text/contents?access_token=t-rw HTTP/1.1\r\nHost: a\r\
 for count in range(1, len(put)):
     nothing(f"the first {count} bytes of a put", ask(put[:count]))
 served("the fronts of a put")
+
+# Peers that hang up: at once, in the middle of a request, behind one before its answer, and in the middle of an
+# answer of 64 MiB; by a close, or by a reset, which loses what is still on its way.
+def hang_up(data, reads, reset):
+    wire = socket.create_connection(("127.0.0.1", port), timeout=30)
+    try:
+        wire.sendall(data)
+        for _ in range(reads):
+            wire.recv(1000)
+    except TimeoutError:
+        raise
+    except OSError:  # the host has hung up
+        pass
+    if reset:
+        wire.setsockopt(socket.SOL_SOCKET, socket.SO_LINGER, struct.pack("ii", 1, 0))
+    wire.close()
+
+long_answer = b"GET /wopi/files/empty/contents?access_token=t-rw HTTP/1.1\r\nHost: a\r\n\r\n"
+for reset in (False, True):
+    for data, reads in ((b"", 0), (put[:50], 0), (put[:-4], 0), (put, 0), (put, 1), (long_answer, 0), (long_answer, 9)):
+        for _ in range(3):
+            hang_up(data, reads, reset)
+        served(f"peers that hang up behind {len(data)} bytes and {reads} pieces of an answer")
 
 fixed = [
     b"NONSENSE\r\n\r\n", b"GET /a HTTP/2.0\r\n\r\n", b"GET /\xff HTTP/1.1\r\n\r\n", b"\x16\x03\x01\x02\r\n\r\n",

@@ -13,7 +13,7 @@ use Rattle.http_wire.specs.Messages.{ReadsMessage}
 use Rattle.http_wire.specs.Kinds.{requests}
 use Rattle.http_write.specs.Texts.{response_bytes}
 use Rattle.http_write.specs.Writes.{SaysSome}
-use Rattle.wopi_host.specs.Keepers.{Files}
+use Rattle.wopi_host.specs.Keepers.{Holdings}
 use Rattle.wopi_host.specs.Marks.{unmarked}
 use Rattle.wopi_host.specs.Hosts.{HostAt, HostAnswers, HostStays}
 use Rattle.wopi_host.specs.Kept.{keeper_of, host_at}
@@ -23,8 +23,8 @@ use Rattle.edge.specs.declared.EdgeFault.{EdgeFault}
 use Rattle.edge.specs.declared.EdgeFault.TheVariants.{Net, Memory as EdgeMemory}
 use Rattle.edge.specs.Edges.{EdgeTold, WireEnd, Stock, IsNew, keeper_given, keeper_closed}
 
--- What the host stands on: its files, locks and puts, its keeper's count of faults, and the
--- moments to come of its clock.
+-- What the host stands on: what its keeper holds, the locks and puts, its keeper's count of faults,
+-- and the moments to come of its clock.
 pub record Hosting : Type 0 where
   pub host : HostAt
   pub faults : ℕ
@@ -38,10 +38,10 @@ pub record Responds (a : Hosting) (request : Request) (now : ℕ) (response : Re
   pub cause : HasCause a.faults b.faults (nat_eq response.status 500 ≡ true)
 
 -- The same of a host and a clock.
-abbrev pub hosting : {Q C : Type 0} → (Q → Option Files) → (Q → ℕ) → (C → Option (List ℕ))
+abbrev pub hosting : {Q C : Type 0} → (Q → Holdings) → (Q → ℕ) → (C → Option (List ℕ))
     → Host Q → C → Hosting
-hosting files faults moments host clock =
-    record { host = host_at files host; faults = faults (keeper_of host); moments = moments clock }
+hosting holds faults moments host clock =
+    record { host = host_at holds host; faults = faults (keeper_of host); moments = moments clock }
 
 -- What a wire tells when it is closed.
 abbrev pub wire_end : {W : Type 0} → (W → Option Talk) → (W → ℕ) → W → WireEnd
@@ -129,6 +129,10 @@ pub record ServesWires (wanted : ℕ) (t1 : EdgeTold) (a : Hosting) (status : �
   pub most : 0 < wanted → length ends ≤ wanted
   pub ended : Ends wanted status a ends b
 
+-- The host stands on this stock: what its keeper holds and its count of faults are those.
+abbrev pub IsStock : Hosting → Stock → Type 0
+IsStock a stock = (a.host.held ≡ stock.held) × (a.faults ≡ stock.faults)
+
 -- The keeper that the edge gave, as it was then and when it was closed, and the wires in between.
 -- At first no file has a lock or a put, and the clock is the edge's.
 pub record Hosts (said : HostWords) (t1 : EdgeTold) (status : ℕ) (t2 : EdgeTold) : Type 0 where
@@ -137,10 +141,10 @@ pub record Hosts (said : HostWords) (t1 : EdgeTold) (status : ℕ) (t2 : EdgeTol
   pub start : Hosting
   pub end : Hosting
   pub between : EdgeTold
-  pub stocked : (start.host.files ≡ first.files) × (start.faults ≡ first.faults)
+  pub stocked : IsStock start first
   pub unlocked : (id : List ℕ) → start.host.pages id ≡ unmarked
   pub clock : start.moments ≡ t1.moments
-  pub kept : (last.files ≡ end.host.files) × (last.faults ≡ end.faults)
+  pub kept : IsStock end last
   pub served : ServesWires said.requests (keeper_given first t1) start status between end
   pub closed : t2 ≡ keeper_closed last between
 

@@ -23,8 +23,8 @@ fn serve_next<E: Edge>(
     clock: &mut E::Clock,
     port: u16,
 ) -> Result<(), EdgeFault>
-    ensures served { let before = hosting E.Keeper.files E.Keeper.faults E.Clock.moments host.old clock.old in
-        let after = hosting E.Keeper.files E.Keeper.faults E.Clock.moments host.new clock.new in
+    ensures served { let before = hosting E.Keeper.holds E.Keeper.faults E.Clock.moments host.old clock.old in
+        let after = hosting E.Keeper.holds E.Keeper.faults E.Clock.moments host.new clock.new in
         ServesNext (E.told edge.old) before result (E.told edge.new) after }
     ensures cause { HasCause (E.faults edge.old) (E.faults edge.new) (edge_failed result ≡ true) }
 {
@@ -60,8 +60,8 @@ fn serve_wires<R: Wait, E: Edge>(
     port: u16,
     requests: u64,
 ) -> u8
-    ensures served { let before = hosting E.Keeper.files E.Keeper.faults E.Clock.moments host.old clock.old in
-        let after = hosting E.Keeper.files E.Keeper.faults E.Clock.moments host.new clock.new in
+    ensures served { let before = hosting E.Keeper.holds E.Keeper.faults E.Clock.moments host.old clock.old in
+        let after = hosting E.Keeper.holds E.Keeper.faults E.Clock.moments host.new clock.new in
         ServesWires requests (E.told edge.old) before result (E.told edge.new) after }
     ensures cause { HasCause (E.faults edge.old) (E.faults edge.new) (result ≡ 8) }
 {

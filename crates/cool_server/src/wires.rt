@@ -21,8 +21,8 @@ pub(crate) fn serve_wire<W: Wire, Q: Keeper + Drop, C: Clock>(
 ) -> Result<(), Memory>
     requires new { IsNew (W.talk wire.old) }
     requires sound { W.faults wire.old ≡ 0 }
-    ensures served { let before = hosting Q.files Q.faults C.moments host.old clock.old in
-        let after = hosting Q.files Q.faults C.moments host.new clock.new in
+    ensures served { let before = hosting Q.holds Q.faults C.moments host.old clock.old in
+        let after = hosting Q.holds Q.faults C.moments host.new clock.new in
         let end = wire_end W.talk W.faults wire.new in
         MatchResult result (λ _. Serves before end after) (λ _. RunsOut before end after) }
 {

@@ -4,7 +4,7 @@ use Rattle.std.specs.Option.{option_map, IfSome}
 use Rattle.outside.specs.Wires.{Talk, silence}
 use Rattle.net_traits.specs.Nets.{NetTold}
 use Rattle.outside.specs.Stores.{StoreCall}
-use Rattle.wopi_host.specs.Keepers.{Files}
+use Rattle.wopi_host.specs.Keepers.{Holdings}
 use Rattle.edge.specs.declared.EdgeFault.{EdgeFault}
 use Rattle.edge.specs.declared.EdgeFault.TheVariants.{Net, Memory as NoMemory}
 
@@ -18,10 +18,14 @@ pub record WireEnd : Type 0 where
   pub talk : Option Talk
   pub faults : ℕ
 
--- What a keeper holds, where it tells it, and how many of its calls failed.
+-- A keeper as it stands: what it holds, and how many of its calls failed.
 pub record Stock : Type 0 where
-  pub files : Option Files
+  pub held : Holdings
   pub faults : ℕ
+
+-- The stock of a keeper.
+abbrev pub stock_of : {Q : Type 0} → (Q → Holdings) → (Q → ℕ) → Q → Stock
+stock_of holds faults keeper = record { held = holds keeper; faults = faults keeper }
 
 -- What an edge tells. Nets, wires, stores and keepers are told as they were when they were closed, in
 -- order, keepers also as they were when they were given. The moments are those that its clocks give.

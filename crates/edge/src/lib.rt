@@ -9,7 +9,7 @@ ghost use Rattle.std.specs.Prelude.{◌≡◌, ◌<◌, ◌+◌, ℕ, List, [], 
 ghost use Rattle.std.specs.Option.{IfSome};
 ghost use Rattle.outside.specs.Causes.{HasCause, Rose};
 ghost use Rattle.net_traits.specs.Nets.{IsQuiet};
-ghost use Rattle.edge.specs.Edges.{EdgeTold, NetEnd, WireEnd, Stock, net_given, wire_given, store_given, keeper_given, net_closed, wire_closed, store_closed, keeper_closed, IsNew, room_for, edge_failed};
+ghost use Rattle.edge.specs.Edges.{EdgeTold, NetEnd, WireEnd, Stock, stock_of, net_given, wire_given, store_given, keeper_given, net_closed, wire_closed, store_closed, keeper_closed, IsNew, room_for, edge_failed};
 
 use net_traits::{Clock, Gate, Net};
 use outside::{Store, Wire};
@@ -79,7 +79,7 @@ pub trait Edge {
     /// A keeper of the files in this folder.
     fn keeper(&mut self, alloc: Global, folder: &str) -> Result<Self::Keeper, EdgeFault>
         ensures told { MatchResult result
-            (λ keeper. told self.new ≡ keeper_given (record { files = Self.Keeper.files keeper; faults = Self.Keeper.faults keeper }) (told self.old))
+            (λ keeper. told self.new ≡ keeper_given (stock_of Self.Keeper.holds Self.Keeper.faults keeper) (told self.old))
             (λ _. told self.new ≡ told self.old) }
         ensures cause { HasCause (faults self.old) (faults self.new) (edge_failed result ≡ true) };
 
@@ -104,7 +104,7 @@ pub trait Edge {
     /// Closes a keeper.
     fn close_keeper(&mut self, keeper: Self::Keeper)
         requires { 0 < (told self.old).keepers_out }
-        ensures told { told self.new ≡ keeper_closed (record { files = Self.Keeper.files keeper; faults = Self.Keeper.faults keeper }) (told self.old) }
+        ensures told { told self.new ≡ keeper_closed (stock_of Self.Keeper.holds Self.Keeper.faults keeper) (told self.old) }
         ensures faults { faults self.new ≡ faults self.old };
 
     /// The next wire of the WOPI host, which listens on this port.

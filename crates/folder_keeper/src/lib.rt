@@ -2,7 +2,8 @@
 //!
 //! A content is written beside the old one, synced, and renamed onto it, so a crash at any byte leaves
 //! the old content or the new one. A name that is no plain file, such as a link, and a file above
-//! 67,108,864 bytes are refused. The keeper is trusted: it tells no contents.
+//! 67,108,864 bytes are refused. The keeper is trusted: it tells no contents, and counts the keeps that
+//! it accepted.
 #![tactic(auto)]
 
 mod steps;
@@ -21,6 +22,7 @@ use wopi_host::{Keeper, KeeperFault};
 pub struct FolderKeeper<'a, R> {
     rt: &'a R,
     folder: String,
+    accepted: u64,
     faults: u64,
 }
 
@@ -29,7 +31,7 @@ impl<'a, R: Files> FolderKeeper<'a, R> {
 
     /// A keeper of the files in the folder, which must be there.
     pub fn open(rt: &'a R, alloc: Global, folder: &str) -> Result<FolderKeeper<'a, R>, KeeperFault>
-        ensures { IfOk result (λ keeper. keeper.faults ≡ 0) }
+        ensures { IfOk result (λ keeper. (keeper.faults ≡ 0) × (keeper.accepted ≡ 0)) }
     {
         match fs::metadata(rt, folder) {
             Ok(found) if found.is_dir() => {}
@@ -41,6 +43,7 @@ impl<'a, R: Files> FolderKeeper<'a, R> {
         Ok(FolderKeeper {
             rt,
             folder,
+            accepted: 0,
             faults: 0,
         })
     }
@@ -49,11 +52,11 @@ impl<'a, R: Files> FolderKeeper<'a, R> {
 impl<'a, R: Files> Keeper for FolderKeeper<'a, R> {
     ghost use Rattle.std.specs.Prelude.{None};
 
-    ghost files = { λ _. None };
+    ghost holds = { λ keeper. record { files = None; accepted = keeper.accepted } };
 
     ghost faults = { λ keeper. keeper.faults };
 
-    #[tactic(auto, unfolding(wopi_host::specs::Keepers::IsKept, wopi_host::specs::Keepers::SameFiles))]
+    #[tactic(auto, unfolding(wopi_host::specs::Keepers::IsIn, wopi_host::specs::Keepers::SameFiles))]
     fn find(&mut self, alloc: Global, file: &FileId) -> Result<Option<Bytes>, KeeperFault> {
         match read_file(self.rt, alloc, self.folder.as_str(), file.text()) {
             Ok(content) => Ok(content),
@@ -65,7 +68,7 @@ impl<'a, R: Files> Keeper for FolderKeeper<'a, R> {
         }
     }
 
-    #[tactic(auto, unfolding(wopi_host::specs::Keepers::Keeps, wopi_host::specs::Keepers::SameFiles))]
+    #[tactic(auto, unfolding(wopi_host::specs::Keepers::Puts, wopi_host::specs::Keepers::SameFiles))]
     fn keep(&mut self, alloc: Global, file: &FileId, content: &Bytes) -> Result<(), KeeperFault> {
         match replace_file(
             self.rt,
@@ -74,7 +77,10 @@ impl<'a, R: Files> Keeper for FolderKeeper<'a, R> {
             file.text(),
             content.as_slice(),
         ) {
-            Ok(()) => Ok(()),
+            Ok(()) => {
+                self.accepted = self.accepted.saturating_add(1);
+                Ok(())
+            }
             Err(Trouble::Failed) => {
                 self.faults = self.faults.saturating_add(1);
                 Err(KeeperFault::Failed)

@@ -3,3 +3,4 @@ pub mod Kept
 pub mod Rising
 pub mod Owners
 pub mod Steps
+pub mod Lacks

@@ -65,11 +65,18 @@ pub record Answers {R : Type 0} (g : Ground) (found : List Entry) (says : R) (wr
   pub answer : result ≡ says
   pub book : left ≡ writes
 
--- the same of a call that takes memory: or it answers that it is out of memory, and the book stays
-pub record AnswersOrMemory {R : Type 0} (g : Ground) (found : List Entry) (says : R)
+-- the book that a call writes has one entry more than the one that it found
+abbrev pub AddsEntry : List Entry → List Entry → Type 0
+AddsEntry found writes = (e : Entry) × (writes ≡ found ++ e ∷ [])
+
+-- the same of a call that takes memory: or it answers that it is out of memory, and the book stays. That
+-- is only where the machine writes an entry: what the machine refuses, and what it answers without an
+-- entry, is never answered so
+pub record AnswersOrLacks {R : Type 0} (g : Ground) (found : List Entry) (says : R)
     (writes : List Entry) (no_memory : R) (result : R) (left : List Entry) : Type 0 where
   pub legal : IsLegal g found
   pub call : ((result ≡ says) × (left ≡ writes)) ⊎ ((result ≡ no_memory) × (left ≡ found))
+  pub lacks : result ≡ no_memory → AddsEntry found writes
 
 -- a refusal with the value that was handed in
 abbrev pub refused : {X : Type 0} → HallFault → X → Refused X

@@ -1,5 +1,6 @@
 //! What the machine answers, decided over the open documents.
-ghost use Rattle.std.specs.Prelude.{◌≡◌, ℕ, ◌+◌, ◌-◌, ◌≤◌, ◌<◌, ◌^◌, Option, None, Some, Result};
+ghost use Rattle.std.specs.Prelude.{◌≡◌, ◌≢◌, ℕ, ◌+◌, ◌-◌, ◌≤◌, ◌<◌, ◌^◌, Option, None, Some};
+ghost use Rattle.std.specs.Prelude.{Result, IfErr};
 ghost use Rattle.std.specs.Prelude.{Ok, Err, length, min, IfOk, IfSome, MatchOption, MatchResult};
 ghost use Rattle.std.specs.List.{position};
 ghost use Rattle.std.specs.Cmp.Lexicographic.{pointwise};
@@ -114,7 +115,7 @@ pub fn check_enter<P: Drop, M: Labelled>(
 ) -> Result<Option<DocId>, HallFault>
     requires due { due ≡ owed (sights M.tag opens.now) }
     requires room { (entries + due ≤ ground.room) × (16384 ≤ ground.room) }
-    ensures { MatchResult result
+    ensures answer { MatchResult result
         (λ o. MatchOption o
         ((enter_answer ground (staged M.tag next opens.now entries) file.now
         ≡ Ok (Entered.Fresh (record { 0 = next }))) × (length opens.now < 64)
@@ -122,6 +123,7 @@ pub fn check_enter<P: Drop, M: Labelled>(
         (λ doc. enter_answer ground (staged M.tag next opens.now entries) file.now
         ≡ Ok (Entered.There doc)))
         (λ why. enter_answer ground (staged M.tag next opens.now entries) file.now ≡ Err why) }
+    ensures memory { IfErr result (λ why. why ≢ HallFault.Memory) }
 {
     match place_of_file(opens, file) {
         Some(at) => Ok(Some(DocId(see(opens, at, 0).doc))),
@@ -149,11 +151,12 @@ pub fn check_post<P: Drop, M: Labelled>(
 ) -> Result<usize, HallFault>
     requires due { due ≡ owed (sights M.tag opens.now) }
     requires room { (entries + due ≤ ground.room) × (16384 ≤ ground.room) }
-    ensures { MatchResult result
+    ensures answer { MatchResult result
         (λ i. (post_answer ground (staged M.tag next opens.now entries) doc urgent ≡ Ok tt)
         × (place_of doc (sights M.tag opens.now) ≡ Some i) × (i < length opens.now)
         × ((entries + due) + 2 ≤ ground.room))
         (λ why. post_answer ground (staged M.tag next opens.now entries) doc urgent ≡ Err why) }
+    ensures memory { IfErr result (λ why. why ≢ HallFault.Memory) }
 {
     let Some(at) = place_of(opens, doc) else {
         return Err(HallFault::Gone);

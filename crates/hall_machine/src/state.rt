@@ -3,7 +3,7 @@ ghost use Rattle.std.specs.Prelude.{◌≡◌, ℕ, ◌≤◌, ◌<◌, [], IfOk
 ghost use Rattle.cool_base.specs.declared.ids.DocId.{DocId};
 ghost use Rattle.hall_machine.specs.Machine.{enter_answer, post_answer};
 ghost use Rattle.hall_machine.specs.Entries.{stage_of, IsLegal, entry, written, entered};
-ghost use Rattle.hall_machine.specs.States.{AnswersOrMemory, refused, with_value, EntersOne, Posts};
+ghost use Rattle.hall_machine.specs.States.{AnswersOrLacks, refused, with_value, EntersOne, Posts};
 
 mod handover;
 mod mails;
@@ -86,11 +86,11 @@ impl<P: Drop, M: Labelled> HallState<P, M> {
 
     /// Opens the file for the poll: `There` exactly where it is open; else `HallFull` exactly where
     /// 64 documents are open; else
-    /// `BookFull` exactly where the book is full; else `Fresh` with the next id. After a refusal
-    /// the state is unchanged.
+    /// `BookFull` exactly where the book is full; else `Fresh` with the next id, or `Memory`. After a
+    /// refusal the state is unchanged.
     pub fn enter(&mut self, who: u32, file: &FileId) -> Result<Entered, HallFault>
         ensures ground { self.new.ground_of ≡ self.old.ground_of }
-        ensures answers { AnswersOrMemory self.old.ground_of self.old.book
+        ensures answers { AnswersOrLacks self.old.ground_of self.old.book
             (enter_answer self.old.ground_of (stage_of self.old.book) file.now)
             (entered who file.now
             (enter_answer self.old.ground_of (stage_of self.old.book) file.now) self.old.book)
@@ -136,11 +136,11 @@ impl<P: Drop, M: Labelled> HallState<P, M> {
 
     /// Posts a mail to the document: `Gone` exactly where it isn't open; else `MailFull` exactly
     /// where 2,048 mails of it wait, 4,096 for an urgent one; else `BookFull` exactly where the
-    /// book is full for it. After a refusal the mail comes back, and the state is unchanged. Who
-    /// posts is only recorded.
+    /// book is full for it; and `Memory` only where none of these applies. After a refusal the mail
+    /// comes back, and the state is unchanged. Who posts is only recorded.
     pub fn post(&mut self, who: u32, doc: DocId, mail: M, urgent: bool) -> Result<(), Refused<M>>
         ensures ground { self.new.ground_of ≡ self.old.ground_of }
-        ensures answers { AnswersOrMemory self.old.ground_of self.old.book
+        ensures answers { AnswersOrLacks self.old.ground_of self.old.book
             (with_value mail (post_answer self.old.ground_of
             (stage_of self.old.book) doc.0 urgent))
             (written (post_answer self.old.ground_of (stage_of self.old.book) doc.0 urgent)

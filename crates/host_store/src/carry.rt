@@ -6,6 +6,7 @@ ghost use Rattle.http_write.specs.Texts.{request_bytes, response_bytes};
 ghost use Rattle.wopi_client.specs.Asks.{request_for};
 ghost use Rattle.wopi_limits.specs.Sound.{IsNamed, IsSound};
 ghost use Rattle.host_store.specs.Exchanges.{host_name, is_loss, IsReadOf};
+ghost use Rattle.host_store.specs.declared.loops.TheConstants.{WIRE_ROOM};
 
 use crate::loops::LoopWire;
 use cool_base::{FileId, Token};
@@ -41,7 +42,7 @@ fn names_are_sound(file: &FileId, token: &Token)
 
 // What is asked is sound where its body is within the limit.
 fn ask_is_sound(ask: &Ask)
-    requires { length (request_for ask.now).body ≤ 4194304 }
+    requires { length (request_for ask.now).body ≤ WIRE_ROOM }
     ensures { IsSound ask.now }
 {
     match ask {

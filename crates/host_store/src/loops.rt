@@ -10,7 +10,7 @@ use std::marker::Model;
 pub const WIRE_ROOM: usize = 4_194_304;
 
 /// A wire in memory that gives what was sent over it, and its end after the last byte. A send that
-/// goes beyond 4,194,304 bytes in all, or that comes after the end, fails and sends nothing. No
+/// goes beyond `WIRE_ROOM` bytes in all, or that comes after the end, fails and sends nothing. No
 /// receive fails.
 #[derive(Drop)]
 pub struct LoopWire {
@@ -23,6 +23,7 @@ pub struct LoopWire {
 impl Model for LoopWire {
     ghost use Rattle.std.specs.Prelude.{◌≡◌, ◌≤◌, length, take, true, vec_capacity};
     ghost use Rattle.host_store.specs.Loops.{LoopSeen};
+    ghost use Rattle.host_store.specs.declared.loops.TheConstants.{WIRE_ROOM};
 
     ghost Value = { LoopSeen };
 
@@ -35,14 +36,15 @@ impl Model for LoopWire {
       faults = w.faults;
     } };
 
-    ghost invariant = { λ w. (w.given ≤ length w.bytes.items) × (length w.bytes.items ≤ 4194304)
-        × (4194304 ≤ vec_capacity w.bytes) × (w.ended ≡ true → w.given ≡ length w.bytes.items) };
+    ghost invariant = { λ w. (w.given ≤ length w.bytes.items) × (length w.bytes.items ≤ WIRE_ROOM)
+        × (WIRE_ROOM ≤ vec_capacity w.bytes) × (w.ended ≡ true → w.given ≡ length w.bytes.items) };
 }
 
 impl LoopWire {
     ghost use Rattle.std.specs.Prelude.{◌≡◌, ◌≤◌, length, IfOk};
     ghost use Rattle.outside.specs.Wires.{silence};
     ghost use Rattle.host_store.specs.Loops.{IsLoop};
+    ghost use Rattle.host_store.specs.declared.loops.TheConstants.{WIRE_ROOM};
 
     /// A wire over which nothing was said. Its whole room is taken.
     pub fn new(alloc: Global) -> Result<LoopWire, Memory>
@@ -66,10 +68,10 @@ impl LoopWire {
         self.ended = false;
     }
 
-    /// What was received is a front of what was sent, which is at most 4,194,304 bytes.
+    /// What was received is a front of what was sent, which is at most `WIRE_ROOM` bytes.
     pub fn is_loop(&self)
         ensures front { IsLoop self.now.talk }
-        ensures room { length self.now.talk.sent ≤ 4194304 }
+        ensures room { length self.now.talk.sent ≤ WIRE_ROOM }
     {
         let _given = self.given;
     }

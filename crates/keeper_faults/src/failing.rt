@@ -9,6 +9,7 @@ use wopi_host::{Keeper, KeeperFault, MemoryKeeper};
 pub(crate) struct FailingKeeper {
     pub(crate) inner: MemoryKeeper,
     pub(crate) calls: u64,
+    pub(crate) accepted: u64,
     pub(crate) fails_at: u64,
     pub(crate) faults: u64,
 }
@@ -18,7 +19,8 @@ impl FailingKeeper {
 
     // Whether this call fails.
     fn fails(&mut self) -> bool
-        ensures { self.new.faults ≡ self.old.faults }
+        ensures faults { self.new.faults ≡ self.old.faults }
+        ensures accepted { self.new.accepted ≡ self.old.accepted }
     {
         self.calls = self.calls.saturating_add(1);
         self.calls == self.fails_at
@@ -28,11 +30,11 @@ impl FailingKeeper {
 impl Keeper for FailingKeeper {
     ghost use Rattle.std.specs.Prelude.{None};
 
-    ghost files = { λ _. None };
+    ghost holds = { λ k. record { files = None; accepted = k.accepted } };
 
     ghost faults = { λ k. k.faults };
 
-    #[tactic(auto, unfolding(wopi_host::specs::Keepers::IsKept, wopi_host::specs::Keepers::SameFiles))]
+    #[tactic(auto, unfolding(wopi_host::specs::Keepers::IsIn, wopi_host::specs::Keepers::SameFiles))]
     fn find(&mut self, alloc: Global, file: &FileId) -> Result<Option<Bytes>, KeeperFault> {
         if self.fails() {
             self.faults = self.faults.saturating_add(1);
@@ -44,14 +46,17 @@ impl Keeper for FailingKeeper {
         }
     }
 
-    #[tactic(auto, unfolding(wopi_host::specs::Keepers::Keeps, wopi_host::specs::Keepers::SameFiles))]
+    #[tactic(auto, unfolding(wopi_host::specs::Keepers::Puts, wopi_host::specs::Keepers::SameFiles))]
     fn keep(&mut self, alloc: Global, file: &FileId, content: &Bytes) -> Result<(), KeeperFault> {
         if self.fails() {
             self.faults = self.faults.saturating_add(1);
             return Err(KeeperFault::Failed);
         }
         match self.inner.keep(alloc, file, content) {
-            Ok(()) => Ok(()),
+            Ok(()) => {
+                self.accepted = self.accepted.saturating_add(1);
+                Ok(())
+            }
             Err(_) => Err(KeeperFault::Memory),
         }
     }

@@ -32,6 +32,7 @@ fn host_over(rt: &impl Abort, alloc: Global, fails_at: u64) -> Result<Host<Faili
     let keeper = FailingKeeper {
         inner,
         calls: 0,
+        accepted: 0,
         fails_at,
         faults: 0,
     };
@@ -40,7 +41,7 @@ fn host_over(rt: &impl Abort, alloc: Global, fails_at: u64) -> Result<Host<Faili
 
 // Each row is the call that fails, what a put and a get after it are answered, how many calls of
 // the keeper they made, and how many bytes it has then: a put asks for the file and keeps it, a get
-// asks for it.
+// asks for it. The keeper accepted one keep exactly where the put was answered 200.
 #[test]
 fn the_answer_is_500_where_the_keeper_fails(rt: HostRuntime) -> Result<(), Fail> {
     let alloc = rt.alloc();
@@ -62,6 +63,7 @@ fn the_answer_is_500_where_the_keeper_fails(rt: HostRuntime) -> Result<(), Fail>
         assert_eq!(rt; answer.body.len(), if second == 500 { 0 } else { kept });
         let keeper = host.into_keeper();
         assert_eq!(rt; keeper.calls, calls);
+        assert_eq!(rt; keeper.accepted, if first == 200 { 1 } else { 0 });
         let content = keeper.inner.content(&file).expect(&rt, "a file");
         assert_eq!(rt; content.len(), kept);
     }

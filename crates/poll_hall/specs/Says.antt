@@ -20,11 +20,11 @@ use Rattle.hall_machine.specs.Machine.{IsLeast}
 use Rattle.hall_machine.specs.Entries.{stage_of, IsLegal, entry, written, entered, collected}
 use Rattle.hall_machine.specs.Entries.{arrived}
 use Rattle.hall_laws.specs.History.{mails_in}
-use Rattle.hall_machine.specs.States.{Answers, AnswersOrMemory, with_value, refused}
+use Rattle.hall_machine.specs.States.{Answers, AnswersOrLacks, with_value, refused}
 
 abbrev pub EnterSays : ℕ → List ℕ → Ground → List Entry → Result Entered HallFault → List Entry
     → Type 0
-EnterSays who file g found result left = AnswersOrMemory g found
+EnterSays who file g found result left = AnswersOrLacks g found
     (enter_answer g (stage_of found) file)
     (entered who file (enter_answer g (stage_of found) file) found) (Err Memory) result left
 
@@ -32,7 +32,7 @@ EnterSays who file g found result left = AnswersOrMemory g found
 abbrev pub PostSays : {M : Type 0} → (M → Label) → ℕ → ℕ → M → Bool → Ground → List Entry
     → Result (Unit {0}) (Refused M) → List Entry → Type 0
 PostSays {M} tag who doc mail urgent g found result left =
-    AnswersOrMemory g found (with_value mail (post_answer g (stage_of found) doc urgent))
+    AnswersOrLacks g found (with_value mail (post_answer g (stage_of found) doc urgent))
     (written (post_answer g (stage_of found) doc urgent)
     (entry who doc (Post (tag mail) urgent)) found) (Err (refused Memory mail)) result left
 

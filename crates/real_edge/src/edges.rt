@@ -2,12 +2,14 @@
 ghost use Rattle.std.specs.Prelude.{◌≡◌, IfOk};
 
 use crate::clocks::{MachineClock, OpenGate};
-use crate::none::{NoNet, NoStore};
+use crate::stores::TcpStore;
+use cool_base::Memory;
 use edge::{Edge, EdgeFault};
 use folder_keeper::FolderKeeper;
+use net_edge::EdgeNet;
 use std::alloc::Global;
-use std::io;
-use std::net::{self, Ipv4Addr, SocketAddr, TcpListener, TcpStream};
+use std::io::{self, ErrorKind};
+use std::net::{self, TcpListener, TcpStream};
 use std::rt::{Clock, Files};
 use std::time::Duration;
 use tcp_wire::TimedWire;
@@ -22,7 +24,7 @@ const WIRE_SECONDS: u64 = 20;
 /// How many streams in a row may be lost before an accept fails.
 const MOST_LOST: u32 = 1_000;
 
-/// The edge of this machine. The host listens on the loopback address alone.
+/// The edge of this machine. The host and the nets listen on the loopback address alone.
 #[derive(Drop)]
 pub struct RealEdge<'a, R> {
     rt: &'a R,
@@ -76,6 +78,21 @@ fn accepted<'a, R: Clock>(rt: &'a R, listener: &TcpListener) -> io::Result<Timed
     )
 }
 
+// A net that listens on the port, or on none.
+fn net_of<'a, R: net::Net + Clock>(
+    rt: &'a R,
+    alloc: Global,
+    port: Option<u16>,
+    sessions: u64,
+) -> io::Result<EdgeNet<'a, R>>
+    ensures { IfOk result (λ net. (net.take_faults ≡ 0) × (net.give_faults ≡ 0)) }
+{
+    match port {
+        Some(port) => EdgeNet::listen(alloc, rt, rt, port, sessions),
+        None => EdgeNet::quiet(alloc, rt, rt),
+    }
+}
+
 impl<'a, R> RealEdge<'a, R>
 where
     R: net::Net<Stream = TcpStream, Listener = TcpListener> + Clock,
@@ -104,9 +121,9 @@ impl<'a, R> Edge for RealEdge<'a, R>
 where
     R: net::Net<Stream = TcpStream, Listener = TcpListener> + Clock + Files + Sync,
 {
-    type Net = NoNet;
+    type Net = EdgeNet<'a, R>;
 
-    type Store = NoStore;
+    type Store = TcpStore<'a, R>;
 
     type Gate = OpenGate;
 
@@ -135,17 +152,37 @@ where
 
     fn net(
         &mut self,
-        _alloc: Global,
-        _port: Option<u16>,
-        _sessions: u64,
-    ) -> Result<NoNet, EdgeFault> {
-        self.faults = self.faults.saturating_add(1);
-        Err(EdgeFault::Net)
+        alloc: Global,
+        port: Option<u16>,
+        sessions: u64,
+    ) -> Result<EdgeNet<'a, R>, EdgeFault> {
+        if self.nets == u64::MAX {
+            return Err(EdgeFault::Memory);
+        }
+        match net_of(self.rt, alloc, port, sessions) {
+            Ok(net) => {
+                self.nets += 1;
+                Ok(net)
+            }
+            Err(error) if error.kind() == ErrorKind::OutOfMemory => Err(EdgeFault::Memory),
+            Err(_) => {
+                self.faults = self.faults.saturating_add(1);
+                Err(EdgeFault::Net)
+            }
+        }
     }
 
-    fn store(&mut self, _alloc: Global, _host: &str) -> Result<NoStore, EdgeFault> {
-        self.faults = self.faults.saturating_add(1);
-        Err(EdgeFault::Net)
+    fn store(&mut self, alloc: Global, host: &str) -> Result<TcpStore<'a, R>, EdgeFault> {
+        if self.stores == u64::MAX {
+            return Err(EdgeFault::Memory);
+        }
+        match TcpStore::new(self.rt, alloc, host) {
+            Ok(store) => {
+                self.stores += 1;
+                Ok(store)
+            }
+            Err(Memory) => Err(EdgeFault::Memory),
+        }
     }
 
     fn gate(&mut self) -> OpenGate {
@@ -173,15 +210,18 @@ where
         }
     }
 
-    fn close_net(&mut self, _net: NoNet) {
+    fn close_net(&mut self, net: EdgeNet<'a, R>) {
         self.nets -= 1;
+        if net.take_faults() > 0 {
+            self.faults = self.faults.saturating_add(1);
+        }
     }
 
     fn close_wire(&mut self, _wire: TimedWire<'a, R>) {
         self.wires -= 1;
     }
 
-    fn close_store(&mut self, _store: NoStore) {
+    fn close_store(&mut self, _store: TcpStore<'a, R>) {
         self.stores -= 1;
     }
 

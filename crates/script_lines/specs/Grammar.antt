@@ -112,6 +112,18 @@ line_of text =
     (if bytes_eq text (codes "end") then Some End
     else (if bytes_eq text (codes "settle") then Some Settle else worded (split_word text)))
 
+-- whether a line says a message or characters, which are copied; no other line takes memory to be read
+abbrev pub is_copied : Option ScriptLine → Bool
+is_copied None = false
+is_copied (Some Blank) = false
+is_copied (Some End) = false
+is_copied (Some Settle) = false
+is_copied (Some (Turn count)) = false
+is_copied (Some (Say link message)) = true
+is_copied (Some (Keys link typed)) = true
+is_copied (Some (Leave link)) = false
+is_copied (Some (Open link file writes)) = false
+
 -- whether the link is among these
 abbrev pub has_link : List ℕ → ℕ → Bool
 has_link links link = list_any (is_at (nat_cmp link)) links
@@ -157,6 +169,20 @@ role_of position (Some (Leave link)) = if_live position link (Leave link) (recor
 role_of position (Some (Open link file writes)) =
     if may_open position link file then Acts (Open link file writes) (record position { file = Some file; used = with_link position.used link })
     else Refused
+
+-- whether a line takes memory where it stands: what it says is copied, or its link becomes one of those
+-- that were dropped or used. No other line does, so one that ends the script, one out of form, a drop of a
+-- link that isn't live and an open that no script has there are judged without memory
+abbrev pub takes_memory : Position → Option ScriptLine → Bool
+takes_memory position None = false
+takes_memory position (Some Blank) = false
+takes_memory position (Some End) = false
+takes_memory position (Some Settle) = false
+takes_memory position (Some (Turn count)) = false
+takes_memory position (Some (Say link message)) = true
+takes_memory position (Some (Keys link typed)) = true
+takes_memory position (Some (Leave link)) = is_live position link
+takes_memory position (Some (Open link file writes)) = may_open position link file
 
 abbrev pub role : Position → List ℕ → Role
 role position text = role_of position (line_of text)

@@ -30,13 +30,14 @@ pub enum LineStep {
 
 /// Reads one line into `line`, without its newline, and lowers `room` by the bytes read. Nothing
 /// behind the line is read. It takes one byte at a time, so it doesn't matter in what pieces the
-/// source gives them.
+/// source gives them. There may be no memory for a byte that was read, never before one.
 #[tactic(auto, using(crate::proofs::Moves::moves))]
 pub fn next_line<S: Source>(source: &mut S, line: &mut Vec<u8>, room: &mut u64) -> LineStep
     ensures read { (read : List ℕ) × Takes (S.left source.old) read (S.left source.new) × (room.new + length read ≡ room.old) × Gave result line.new.items read }
     ensures ended { IfEnded result (IsAtEnd (S.left source.new) × (0 < room.new)) }
     ensures spent { result ≡ LineStep.Spent → room.new ≡ 0 }
     ensures less { result ≡ LineStep.Whole → room.new < room.old }
+    ensures lacks { result ≡ LineStep.Memory → room.new < room.old }
     ensures cause { HasCause (S.faults source.old) (S.faults source.new) (result ≡ LineStep.Failed) }
 {
     line.clear();

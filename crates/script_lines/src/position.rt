@@ -37,8 +37,8 @@ pub enum LineRole {
 }
 
 impl Position {
-    ghost use Rattle.std.specs.Prelude.{◌≡◌, IfOk, OnErr, Some, if◌then◌else◌};
-    ghost use Rattle.script_lines.specs.Grammar.{start, is_live, may_open, role_of, role};
+    ghost use Rattle.std.specs.Prelude.{◌≡◌, true, IfOk, OnErr, Some, if◌then◌else◌};
+    ghost use Rattle.script_lines.specs.Grammar.{start, is_live, may_open, role_of, role, line_of, takes_memory};
     ghost use Rattle.script_lines.specs.Advances.{Advances};
 
     /// A script before its first line.
@@ -53,10 +53,13 @@ impl Position {
     }
 
     /// What the line does here; where it acts, the script then stands after it. After `Memory` the position
-    /// is unchanged.
+    /// is unchanged. `Memory` may come only for a line that says or types something, that drops a live
+    /// link or that opens one which may be opened: any other line is judged without memory.
+    #[tactic(auto, using(crate::proofs::Lacks::copied_takes))]
     pub fn advance(&mut self, alloc: Global, line: &[u8]) -> Result<LineRole, Memory>
         ensures ok { IfOk result (λ j. Advances j (role self.old line.now) self.old self.new) }
         ensures err { OnErr result (self.new ≡ self.old) }
+        ensures lacks { OnErr result (takes_memory self.old (line_of line.now) ≡ true) }
     {
         let Some(said) = read_line(alloc, line)? else {
             return Ok(LineRole::Refused);
@@ -68,6 +71,7 @@ impl Position {
     fn advance_by(&mut self, said: ScriptLine) -> Result<LineRole, Memory>
         ensures ok { IfOk result (λ j. Advances j (role_of self.old (Some said)) self.old self.new) }
         ensures err { OnErr result (self.new ≡ self.old) }
+        ensures lacks { OnErr result (takes_memory self.old (Some said) ≡ true) }
     {
         match said {
             ScriptLine::End => Ok(LineRole::Ends),
@@ -106,6 +110,7 @@ impl Position {
     fn leave(&mut self, link: u32) -> Result<LineRole, Memory>
         ensures ok { IfOk result (λ j. Advances j (role_of self.old (Some (ScriptLine.Leave link))) self.old self.new) }
         ensures err { OnErr result (self.new ≡ self.old) }
+        ensures lacks { OnErr result (takes_memory self.old (Some (ScriptLine.Leave link)) ≡ true) }
     {
         if !self.is_live(link) {
             return Ok(LineRole::Refused);
@@ -125,6 +130,7 @@ impl Position {
     fn open(&mut self, link: u32, file: FileId, writes: bool) -> Result<LineRole, Memory>
         ensures ok { IfOk result (λ j. Advances j (role_of self.old (Some (ScriptLine.Open link file writes))) self.old self.new) }
         ensures err { OnErr result (self.new ≡ self.old) }
+        ensures lacks { OnErr result (takes_memory self.old (Some (ScriptLine.Open link file writes)) ≡ true) }
     {
         if !self.may_open(link, &file) {
             return Ok(LineRole::Refused);

@@ -1,9 +1,9 @@
 //! What a script's line says.
-ghost use Rattle.std.specs.Prelude.{◌≡◌, ◌==◌, ◌||◌, IfOk, IfSome, is_some, length};
+ghost use Rattle.std.specs.Prelude.{◌≡◌, ◌==◌, ◌||◌, true, IfOk, OnErr, IfSome, is_some, length};
 ghost use Rattle.std.specs.Option.{option_map};
 ghost use Rattle.std.specs.Str.{chars, is_utf8};
 ghost use Rattle.cool_base.specs.Words.{file_id};
-ghost use Rattle.script_lines.specs.Grammar.{split_word, counted, link_of, linked, rights_of, file_part, open_part, say_part, keys_part, leave_part, turn_part, worded_by, line_of, is_comment};
+ghost use Rattle.script_lines.specs.Grammar.{split_word, counted, link_of, linked, rights_of, file_part, open_part, say_part, keys_part, leave_part, turn_part, worded_by, line_of, is_comment, is_copied};
 
 use cool_base::{FileId, ListOf, Memory, read_number};
 use cool_words::split_once;
@@ -30,10 +30,12 @@ pub enum ScriptLine {
     End,
 }
 
-/// What the line says, if anything.
+/// What the line says, if anything. `Memory` may come only where it says a message or characters: any
+/// other line is judged without memory.
 #[tactic(auto, unfolding(crate::specs::Grammar::line_of))]
 pub fn read_line(alloc: Global, line: &[u8]) -> Result<Option<ScriptLine>, Memory>
-    ensures { IfOk result (λ said. said ≡ line_of line.now) }
+    ensures ok { IfOk result (λ said. said ≡ line_of line.now) }
+    ensures lacks { OnErr result (is_copied (line_of line.now) ≡ true) }
 {
     if is_blank(line) {
         return Ok(Some(ScriptLine::Blank));
@@ -52,7 +54,8 @@ pub fn read_line(alloc: Global, line: &[u8]) -> Result<Option<ScriptLine>, Memor
 
 // What a line of this first word and this rest says.
 fn worded(alloc: Global, word: &[u8], rest: &[u8]) -> Result<Option<ScriptLine>, Memory>
-    ensures { IfOk result (λ said. said ≡ worded_by word.now rest.now) }
+    ensures ok { IfOk result (λ said. said ≡ worded_by word.now rest.now) }
+    ensures lacks { OnErr result (is_copied (worded_by word.now rest.now) ≡ true) }
 {
     if word == b"say".as_slice() {
         return say_part(alloc, rest);
@@ -103,7 +106,8 @@ fn linked(rest: &[u8]) -> Option<(u32, &[u8])>
 }
 
 fn say_part(alloc: Global, rest: &[u8]) -> Result<Option<ScriptLine>, Memory>
-    ensures { IfOk result (λ said. said ≡ say_part (linked rest.now)) }
+    ensures ok { IfOk result (λ said. said ≡ say_part (linked rest.now)) }
+    ensures lacks { OnErr result (is_copied (say_part (linked rest.now)) ≡ true) }
 {
     let Some((link, message)) = linked(rest) else {
         return Ok(None);
@@ -113,7 +117,8 @@ fn say_part(alloc: Global, rest: &[u8]) -> Result<Option<ScriptLine>, Memory>
 }
 
 fn keys_part(alloc: Global, rest: &[u8]) -> Result<Option<ScriptLine>, Memory>
-    ensures { IfOk result (λ said. said ≡ keys_part (linked rest.now)) }
+    ensures ok { IfOk result (λ said. said ≡ keys_part (linked rest.now)) }
+    ensures lacks { OnErr result (is_copied (keys_part (linked rest.now)) ≡ true) }
 {
     let Some((link, typed)) = linked(rest) else {
         return Ok(None);

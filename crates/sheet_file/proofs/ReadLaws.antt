@@ -1,7 +1,7 @@
 -- Reading line by line says what the lines say.
 use Rattle.std.proofs.Common.{◌≡◌, ℕ, ◌+◌, ◌<◌, ◌≤◌, Bool, true, false, cond, List, [], ◌∷◌, ◌++◌, length, map, Option, Some, None, Ok, Err, refl, ap, sym, ◌∙◌, arith}
 use Rattle.std.proofs.Math.ListN.{length-set}
-use Rattle.std.specs.Prelude.{fold, replicate, codes, nat_le}
+use Rattle.std.specs.Prelude.{fold, replicate, codes, nat_le, Result, IfErr}
 use Rattle.std.specs.Str.{bytes_eq}
 use Rattle.std.specs.Option.{option_map, option_and_then}
 use Rattle.std.proofs.lemmas.Bool.{both_ways, false_from_ne_true, leb-true}
@@ -12,9 +12,10 @@ use Rattle.cool_words.specs.Words.{cut_at}
 use Rattle.sheet_cells.specs.declared.cells.CellRef.{CellRef}
 use Rattle.part_calc.specs.Parts.{with_text}
 use Rattle.sheet_calc.specs.Books.{Parts, position_of, part_at, with_cell}
+use Rattle.sheet_file.specs.declared.fault.BookFault.{BookFault}
 use Rattle.sheet_file.specs.declared.fault.BookFault.TheVariants.{NoHeader, BadLine, OutOfOrder}
 use Rattle.sheet_file.specs.Lines.{Cell, lines_of, plain_number, some_parts, parts_in, parts_of_text, parts_said, cell_of_text, cell_said, first_said}
-use Rattle.sheet_file.specs.BookFile.{comes_after, first_fault, with_said, unless_fault, with_lines, cells_read, parts_read, header_fault, lines_read}
+use Rattle.sheet_file.specs.BookFile.{comes_after, first_fault, with_said, unless_fault, with_lines, cells_read, parts_read, header_fault, lines_read, is_early}
 use Rattle.sheet_file.proofs.CutLaws.{cut_is, cut_join, no_lines, lines_cut, lines_uncut, text_cut, text_uncut}
 use Rattle.sheet_file.proofs.LineLaws.{number_small, plain_is}
 
@@ -185,3 +186,32 @@ count_bad bytes text behind cut parts = parts_cut bytes text behind (sym cut) �
 pub none_read : (bytes : List ℕ) (draft : Parts) → length bytes ≡ 0 → draft ≡ replicate 1 [] → lines_read (lines_of bytes) ≡ Ok draft
 none_read [] draft none empty = ap lines_read no_lines ∙ ap (λ (d : Parts). Ok d) (sym empty)
 none_read (c ∷ bytes) draft none empty = absurd (omega arith)
+
+-- ---- what is judged before memory is taken
+
+no_early_line : (k : ℕ) → 3 ≤ k → nat_le k 2 ≡ false
+no_early_line k h = grind (arith, h)
+
+late_turn : (b : Bool) (k : ℕ) (rest : Option BookFault) (parts : Parts) → is_early (unless_fault rest parts) ≡ false → is_early (unless_fault (cond b rest (Some (OutOfOrder k))) parts) ≡ false
+late_turn true k rest parts h = h
+late_turn false k rest parts h = refl
+
+late_among : (k : ℕ) (last : Option CellRef) (cells : List (Option Cell)) → 3 ≤ k → (parts : Parts) → is_early (unless_fault (first_fault k last cells) parts) ≡ false
+late_among k last [] h parts = refl
+late_among k last (None ∷ cells) h parts = no_early_line k h
+late_among k last (Some cell ∷ cells) h parts =
+    late_turn (comes_after last cell.0) k (first_fault (k + 1) (Some cell.0) cells) parts (late_among (k + 1) (Some cell.0) cells (omega (arith, h)) parts)
+
+-- a fault of a line behind the first two isn't
+pub late_fault : (draft : Parts) (n : ℕ) (before : Option CellRef) (said : List (Option Cell)) → 3 ≤ n → is_early (with_lines draft n before said) ≡ false
+late_fault draft n before said late = late_among n before said late (fold with_said draft said)
+
+-- the lines behind the first, where the second says how many parts there are
+pub cells_late : (bytes text behind : List ℕ) (n : ℕ) → Some (text, behind) ≡ cut_at 10 bytes → Some n ≡ parts_of_text text → is_early (parts_read (lines_of bytes)) ≡ false
+cells_late bytes text behind n cut parts =
+    ap is_early (cells_told bytes text behind n (replicate n []) cut parts refl) ∙ late_fault (replicate n []) 3 None (map (cell_said n) (lines_of behind)) (omega arith)
+
+-- what holds of any fault holds where there is one
+pub of_any_fault : {A E : Type 0} (Q : E → Type 0) (r : Result A E) → ((e : E) → Q e) → IfErr r Q
+of_any_fault Q (Ok a) h = tt
+of_any_fault Q (Err e) h = h e

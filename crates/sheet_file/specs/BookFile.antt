@@ -1,5 +1,5 @@
 -- What the bytes of a book's file say: its parts, or the first thing that is wrong.
-use Rattle.std.specs.Prelude.{ℕ, ◌+◌, Bool, true, nat_lt, List, [], ◌∷◌, length, map, fold, replicate, Option, Some, None, Result, Ok, Err, codes, if◌then◌else◌}
+use Rattle.std.specs.Prelude.{ℕ, ◌+◌, Bool, true, false, nat_lt, nat_le, List, [], ◌∷◌, length, map, fold, replicate, Option, Some, None, Result, Ok, Err, codes, if◌then◌else◌}
 use Rattle.std.specs.Str.{bytes_eq}
 use Rattle.std.specs.Ordering.{is_lt}
 use Rattle.sheet_cells.specs.declared.cells.CellRef.{CellRef}
@@ -7,7 +7,7 @@ use Rattle.sheet_cells.specs.Cells.{cell_cmp}
 use Rattle.sheet_calc.specs.declared.limits.TheConstants.{FILE_LIMIT}
 use Rattle.sheet_calc.specs.Books.{Parts, with_cell}
 use Rattle.sheet_file.specs.declared.fault.BookFault.{BookFault}
-use Rattle.sheet_file.specs.declared.fault.BookFault.TheVariants.{TooLarge, NoHeader, BadLine, OutOfOrder}
+use Rattle.sheet_file.specs.declared.fault.BookFault.TheVariants.{TooLarge, NoHeader, BadLine, OutOfOrder, Memory}
 use Rattle.sheet_file.specs.Lines.{Cell, lines_of, parts_said, cell_said}
 
 -- whether a cell comes after the one on the line before it, if there is one
@@ -56,3 +56,16 @@ lines_read (line ∷ lines) = if bytes_eq line (codes "coolsheet 1\n") then part
 -- what the bytes of a file say
 unfoldable pub book_of : List ℕ → Result Parts BookFault
 book_of bytes = if nat_lt FILE_LIMIT (length bytes) then Err TooLarge else lines_read (lines_of bytes)
+
+-- whether a fault is one of a file's size or of its first two lines, which are judged before memory is taken
+abbrev pub is_early_fault : BookFault → Bool
+is_early_fault TooLarge = true
+is_early_fault NoHeader = true
+is_early_fault (BadLine n) = nat_le n 2
+is_early_fault (OutOfOrder n) = false
+is_early_fault Memory = false
+
+-- whether what is read has such a fault
+abbrev pub is_early : Result Parts BookFault → Bool
+is_early (Ok parts) = false
+is_early (Err fault) = is_early_fault fault

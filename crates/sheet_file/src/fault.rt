@@ -5,7 +5,8 @@ ghost use Rattle.sheet_file.specs.declared.fault.BookFault.TheVariants.{Memory};
 use thiserror::Error;
 
 /// Why a file says no book: the first of these that applies, in this order, and of lines the first one.
-/// Lines are counted from 1. `Memory` may come in place of any answer.
+/// Lines are counted from 1. `Memory` may come in place of a book, and of a fault of a line behind the
+/// first two.
 #[derive(Clone, Copy, Debug, PartialEq, Eq, Error)]
 pub enum BookFault {
     #[error("more than 2,097,152 bytes")]

@@ -1,11 +1,12 @@
 //! `read_book`: the book that the bytes of a file say.
-ghost use Rattle.std.specs.Prelude.{◌≡◌, ◌≢◌, ◌<◌, ◌≤◌, Ok, Err, None, IfOk, IfErr, OnOk, length, map, option_map, codes, if◌then◌else◌};
+ghost use Rattle.std.specs.Prelude.{◌≡◌, ◌≢◌, ◌<◌, ◌≤◌, false, Ok, Err, None, IfOk, IfErr, OnOk, length, map, option_map, codes, if◌then◌else◌};
 ghost use Rattle.std.specs.Str.{bytes_eq};
 ghost use Rattle.sheet_file.specs.declared.fault.BookFault.TheVariants.{NoHeader, Memory};
 ghost use Rattle.std.specs.Option.{IfSome};
 ghost use Rattle.sheet_cells.specs.Cells.{IsCell, IsRaw};
 ghost use Rattle.sheet_file.specs.Lines.{lines_of, cell_said, first_said};
 ghost use Rattle.sheet_file.specs.BookFile.{comes_after, with_lines, parts_read, header_fault, lines_read, book_of};
+ghost use Rattle.sheet_file.specs.BookFile.{is_early};
 
 use crate::fault::BookFault;
 use crate::lines::{cell_of_text, parts_of_text};
@@ -15,11 +16,13 @@ use sheet_cells::CellRef;
 use std::alloc::Global;
 
 /// The book that the bytes of a file say, or the first fault: in time linear in the file's length but
-/// for a logarithm, and that of computing its values once. `Memory` may come in place of any answer.
+/// for a logarithm, and that of computing its values once. `Memory` may come in place of a book, and of a
+/// fault of a line behind the first two: those two and the size are judged before memory is taken.
 #[tactic(auto, unfolding(crate::specs::BookFile::book_of))]
 pub fn read_book(alloc: Global, file: &[u8]) -> Result<Book, BookFault>
     ensures ok { IfOk result (λ book. book_of file.now ≡ Ok book) }
     ensures refused { IfErr result (λ fault. fault ≢ Memory → book_of file.now ≡ Err fault) }
+    ensures early { IfErr result (λ fault. fault ≡ Memory → is_early (book_of file.now) ≡ false) }
 {
     if file.len() > FILE_LIMIT {
         return Err(BookFault::TooLarge);
@@ -32,6 +35,7 @@ fn read_draft(alloc: Global, file: &[u8]) -> Result<BookDraft, BookFault>
     requires { length file.now ≤ FILE_LIMIT }
     ensures ok { IfOk result (λ draft. lines_read (lines_of file.now) ≡ Ok draft) }
     ensures refused { IfErr result (λ fault. fault ≢ Memory → lines_read (lines_of file.now) ≡ Err fault) }
+    ensures early { IfErr result (λ fault. fault ≡ Memory → is_early (lines_read (lines_of file.now)) ≡ false) }
 {
     if file.is_empty() {
         return Ok(BookDraft::new(alloc, 1)?);
@@ -47,6 +51,7 @@ fn behind_header(alloc: Global, first: &[u8], lines: &[u8]) -> Result<BookDraft,
     requires { length lines.now ≤ FILE_LIMIT }
     ensures ok { IfOk result (λ draft. (if bytes_eq first.now (codes "coolsheet 1") then parts_read (lines_of lines.now) else Err NoHeader) ≡ Ok draft) }
     ensures refused { IfErr result (λ fault. fault ≢ Memory → (if bytes_eq first.now (codes "coolsheet 1") then parts_read (lines_of lines.now) else Err NoHeader) ≡ Err fault) }
+    ensures early { IfErr result (λ fault. fault ≡ Memory → is_early (if bytes_eq first.now (codes "coolsheet 1") then parts_read (lines_of lines.now) else Err NoHeader) ≡ false) }
 {
     if first == b"coolsheet 1".as_slice() {
         read_parts(alloc, lines)
@@ -57,7 +62,8 @@ fn behind_header(alloc: Global, first: &[u8], lines: &[u8]) -> Result<BookDraft,
 
 // What is wrong with a first line that has no newline.
 fn cut_off(first: &[u8]) -> BookFault
-    ensures { result ≡ header_fault first.now }
+    ensures fault { result ≡ header_fault first.now }
+    ensures memory { result ≢ Memory }
 {
     if first == b"coolsheet 1".as_slice() {
         BookFault::BadLine(1)
@@ -71,6 +77,7 @@ fn read_parts(alloc: Global, lines: &[u8]) -> Result<BookDraft, BookFault>
     requires { length lines.now ≤ FILE_LIMIT }
     ensures ok { IfOk result (λ draft. parts_read (lines_of lines.now) ≡ Ok draft) }
     ensures refused { IfErr result (λ fault. fault ≢ Memory → parts_read (lines_of lines.now) ≡ Err fault) }
+    ensures early { IfErr result (λ fault. fault ≡ Memory → is_early (parts_read (lines_of lines.now)) ≡ false) }
 {
     let Some((text, behind)) = split_once(lines, b'\n') else {
         return Err(BookFault::BadLine(2));

@@ -11,7 +11,7 @@ use Rattle.wopi_host.specs.declared.marks.Lock.{Lock}
 use Rattle.wopi_host.specs.declared.marks.Marks.{Marks}
 use Rattle.wopi_host.specs.Targets.{Named, Nothing, TheFile, TheContents, named_at, path_of, target_right}
 use Rattle.wopi_host.specs.Table.{operation_of, by_operation}
-use Rattle.wopi_host.specs.Keepers.{Files, IsKept, Keeps, SameFiles}
+use Rattle.wopi_host.specs.Keepers.{Files, Holdings, IsKept, Keeps, SameHoldings}
 use Rattle.wopi_host.specs.Marks.{counting, marks_after}
 
 -- the marks of each file, by its id
@@ -34,18 +34,19 @@ SetsLock old file lock new = WritesPage old file (record (old file) { lock = loc
 abbrev pub CountsPut : Pages → List ℕ → Pages → Type 0
 CountsPut old file new = WritesPage old file (record (old file) { puts = (old file).puts + 1 }) new
 
--- what a host has: the files of its keeper, where they are told, and the marks of each
+-- what a host has: what its keeper holds, and the marks of each file
 pub record HostAt : Type 0 where
-  pub files : Option Files
+  pub held : Holdings
   pub pages : Pages
 
 -- the same, where the files are told
-abbrev pub told_host : Files → Pages → HostAt
-told_host files pages = record { files = Some files; pages = pages }
+abbrev pub told_host : Files → ℕ → Pages → HostAt
+told_host files accepted pages =
+    record { held = record { files = Some files; accepted = accepted }; pages = pages }
 
 -- nothing of it changed
 pub record HostStays (old new : HostAt) : Type 0 where
-  pub files : SameFiles old.files new.files
+  pub held : SameHoldings old.held new.held
   pub pages : SamePages old.pages new.pages
 
 -- what is asked at a moment of a file, or of its contents
@@ -128,16 +129,16 @@ with_content body = record { status = 200; lock = None; body = body }
 abbrev pub with_current : ℕ → Option (List ℕ) → Response
 with_current status current = record { status = status; lock = Some (unwrap_or current []); body = [] }
 
--- the keeper's files after the action: a replaced content, or what they were
-abbrev pub FilesAfter : Action → Option Files → List ℕ → List ℕ → Option Files → Type 0
-FilesAfter (Refused status) old file body new = SameFiles old new
-FilesAfter Info old file body new = SameFiles old new
-FilesAfter Content old file body new = SameFiles old new
-FilesAfter Sets old file body new = SameFiles old new
-FilesAfter Removes old file body new = SameFiles old new
-FilesAfter TellsLock old file body new = SameFiles old new
-FilesAfter Replaces old file body new = Keeps old file body new
-FilesAfter Conflict old file body new = SameFiles old new
+-- what the keeper holds after the action: a replaced content by one keep, or what it held
+abbrev pub HeldAfter : Action → Holdings → List ℕ → List ℕ → Holdings → Type 0
+HeldAfter (Refused status) old file body new = SameHoldings old new
+HeldAfter Info old file body new = SameHoldings old new
+HeldAfter Content old file body new = SameHoldings old new
+HeldAfter Sets old file body new = SameHoldings old new
+HeldAfter Removes old file body new = SameHoldings old new
+HeldAfter TellsLock old file body new = SameHoldings old new
+HeldAfter Replaces old file body new = Keeps old file body new
+HeldAfter Conflict old file body new = SameHoldings old new
 
 -- what the host does at a file with this content, or without one
 abbrev pub chosen_action : Option Bool → Asking → Option (List ℕ) → HostAt → Action
@@ -156,7 +157,7 @@ MarksAfter a old action new =
 
 -- what the host has after it
 pub record ActsAt (a : Asking) (old : HostAt) (action : Action) (new : HostAt) : Type 0 where
-  pub filed : FilesAfter action old.files a.file a.request.body new.files
+  pub kept : HeldAfter action old.held a.file a.request.body new.held
   pub marked : MarksAfter a old action new
 
 -- the table's answer at a file, and what the host has after it
@@ -164,7 +165,7 @@ pub record AnswersAt (right : Option Bool) (a : Asking) (old : HostAt) (response
     (new : HostAt) : Type 0 where
   pub content : Option (List ℕ)
   pub action : Action
-  pub kept : IsKept old.files a.file content
+  pub kept : IsKept old.held a.file content
   pub chosen : action ≡ chosen_action right a content old
   pub told : response ≡ told_response right a content old action
   pub acts : ActsAt a old action new

@@ -1,6 +1,7 @@
 -- The locks and counts of puts that a host keeps.
 use Rattle.std.specs.Prelude.{ℕ, ◌+◌, ◌-◌, ◌^◌, min, nat_lt, List, [], Option, Some, None, unwrap_or, if◌then◌else◌, String}
 use Rattle.std.specs.BTreeMap.{BTreeMap, get_by_text}
+use Rattle.wopi_host.specs.declared.hosts.TheConstants.{LOCK_SECONDS}
 use Rattle.wopi_host.specs.declared.marks.Lock.{Lock}
 use Rattle.wopi_host.specs.declared.marks.Marks.{Marks}
 use Rattle.wopi_host.specs.declared.table.Action.{Action}
@@ -19,9 +20,9 @@ abbrev pub counting : Option Lock → ℕ → Option (List ℕ)
 counting None now = None
 counting (Some lock) now = if nat_lt now lock.end then Some lock.id else None
 
--- a lock that is set or refreshed ends 1,800 seconds later
+-- a lock that is set or refreshed ends so many seconds later
 abbrev pub lock_end : ℕ → ℕ
-lock_end now = min (now + 1800) (2 ^ 64 - 1)
+lock_end now = min (now + LOCK_SECONDS) (2 ^ 64 - 1)
 
 -- the lock of this id, set at this moment
 abbrev pub lock_of : List ℕ → ℕ → Lock

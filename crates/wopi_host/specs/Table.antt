@@ -3,6 +3,7 @@ use Rattle.std.specs.Prelude.{ℕ, Bool, true, false, ◌&&◌, not, nat_le, Lis
 use Rattle.std.specs.List.{list_all}
 use Rattle.http_message.specs.declared.Method.{Method}
 use Rattle.http_message.specs.declared.Method.TheVariants.{Get, Post, Other}
+use Rattle.wopi_host.specs.declared.table.TheConstants.{LOCK_LIMIT}
 use Rattle.wopi_host.specs.declared.table.Operation.{Operation}
 use Rattle.wopi_host.specs.declared.table.Operation.TheVariants as Asks
 use Rattle.wopi_host.specs.declared.table.Held.{Held}
@@ -62,9 +63,9 @@ wants_id Asks.PutFile = false
 abbrev pub is_printable : ℕ → Bool
 is_printable b = nat_le 32 b && nat_le b 126
 
--- the id of a lock is 1 to 1,024 printable ASCII characters
+-- the id of a lock is 1 to `LOCK_LIMIT` printable ASCII characters
 unfoldable pub is_lock_text : List ℕ → Bool
-is_lock_text id = nat_le 1 (length id) && nat_le (length id) 1024 && list_all is_printable id
+is_lock_text id = nat_le 1 (length id) && nat_le (length id) LOCK_LIMIT && list_all is_printable id
 
 -- there is one
 abbrev pub is_lock_id : Option (List ℕ) → Bool

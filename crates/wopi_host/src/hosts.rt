@@ -4,7 +4,7 @@ ghost use Rattle.std.specs.Prelude.{unwrap_or};
 ghost use Rattle.std.specs.Option.{option_copied};
 ghost use Rattle.wopi_host.specs.Targets.{named_at, path_of, target_right};
 ghost use Rattle.wopi_host.specs.Table.{is_lock_text};
-ghost use Rattle.wopi_host.specs.Keepers.{IsKept, Keeps, SameFiles};
+ghost use Rattle.wopi_host.specs.Keepers.{IsKept, Keeps, SameHoldings};
 ghost use Rattle.wopi_host.specs.Marks.{marks_in, lock_end, lock_of, unmarked};
 ghost use Rattle.wopi_host.specs.Hosts.{SamePages, SetsLock, action_at};
 ghost use Rattle.wopi_host.specs.Kept.{asking};
@@ -119,17 +119,17 @@ fn drop_lock(alloc: Global, book: &mut Book, file: &FileId) -> Result<(), Memory
 impl<Q: Keeper + Drop> Host<Q> {
     ghost use Rattle.std.specs.Prelude.{◌≡◌, ℕ, List, [], Some, None, IfOk, OnOk, OnErr};
     ghost use Rattle.wopi_host.specs.Hosts.{CountsPut, ActsAt, AnswersAt, TableAnswers, IsOrdinary};
-    ghost use Rattle.wopi_host.specs.Kept.{files_of, pages_of, host_at, StaysAt, FailsByKeeper};
+    ghost use Rattle.wopi_host.specs.Kept.{held_of, pages_of, host_at, StaysAt, FailsByKeeper};
     ghost use Rattle.wopi_host.specs.Kept.{asking};
 
     // Replaces the content and counts the put. There is an entry for the count before the keeper is
     // asked.
-    #[tactic(auto, using(crate::proofs::Same::same_files))]
+    #[tactic(auto, using(crate::proofs::Same::same_holdings))]
     fn replace(&mut self, file: &FileId, content: &Bytes) -> Result<(), KeeperFault>
-        ensures keeps { let before = files_of Q.files self.old in
-            OnOk result (Keeps before file.now content.now (files_of Q.files self.new)) }
+        ensures keeps { let before = held_of Q.holds self.old in
+            OnOk result (Keeps before file.now content.now (held_of Q.holds self.new)) }
         ensures counts { OnOk result (CountsPut (pages_of self.old) file.now (pages_of self.new)) }
-        ensures err { OnErr result (StaysAt Q.files self.old self.new) }
+        ensures err { OnErr result (StaysAt Q.holds self.old self.new) }
         ensures cause { FailsByKeeper Q.faults self.old self.new result }
     {
         if puts_of(&self.book, file) == u64::MAX {
@@ -144,11 +144,11 @@ impl<Q: Keeper + Drop> Host<Q> {
     }
 
     // Does the action.
-    #[tactic(auto, using(crate::proofs::Same::same_files))]
+    #[tactic(auto, using(crate::proofs::Same::same_holdings))]
     fn carry_out(&mut self, asked: &Asked<'_>, action: Action) -> Result<(), KeeperFault>
-        ensures ok { let before = host_at Q.files self.old in
-            OnOk result (ActsAt (asking asked.now) before action (host_at Q.files self.new)) }
-        ensures err { OnErr result (StaysAt Q.files self.old self.new) }
+        ensures ok { let before = host_at Q.holds self.old in
+            OnOk result (ActsAt (asking asked.now) before action (host_at Q.holds self.new)) }
+        ensures err { OnErr result (StaysAt Q.holds self.old self.new) }
         ensures cause { FailsByKeeper Q.faults self.old self.new result }
     {
         match action {
@@ -179,11 +179,11 @@ impl<Q: Keeper + Drop> Host<Q> {
         writer: bool,
         content: &Bytes,
     ) -> Result<Response, KeeperFault>
-        ensures ok { let before = host_at Q.files self.old in
-            let after = host_at Q.files self.new in
-            IfOk result (λ r. IsKept before.files asked.now.file.now (Some content.now)
+        ensures ok { let before = host_at Q.holds self.old in
+            let after = host_at Q.holds self.new in
+            IfOk result (λ r. IsKept before.held asked.now.file.now (Some content.now)
             → AnswersAt (Some writer) (asking asked.now) before r after) }
-        ensures err { OnErr result (StaysAt Q.files self.old self.new) }
+        ensures err { OnErr result (StaysAt Q.holds self.old self.new) }
         ensures cause { FailsByKeeper Q.faults self.old self.new result }
     {
         let current = lock_at(&self.book, asked.file, asked.moment);
@@ -202,10 +202,10 @@ impl<Q: Keeper + Drop> Host<Q> {
 
     // The answer at a file, where the token is known.
     fn answer_file(&mut self, asked: &Asked<'_>, writer: bool) -> Result<Response, KeeperFault>
-        ensures ok { let before = host_at Q.files self.old in
-            let after = host_at Q.files self.new in
+        ensures ok { let before = host_at Q.holds self.old in
+            let after = host_at Q.holds self.new in
             IfOk result (λ r. AnswersAt (Some writer) (asking asked.now) before r after) }
-        ensures err { OnErr result (StaysAt Q.files self.old self.new) }
+        ensures err { OnErr result (StaysAt Q.holds self.old self.new) }
         ensures cause { FailsByKeeper Q.faults self.old self.new result }
     {
         match self.keeper.find(self.alloc, asked.file) {
@@ -216,12 +216,12 @@ impl<Q: Keeper + Drop> Host<Q> {
     }
 
     // The answer at a file.
-    #[tactic(auto, using(crate::proofs::Same::same_files))]
+    #[tactic(auto, using(crate::proofs::Same::same_holdings))]
     fn answer_at(&mut self, asked: &Asked<'_>, right: Option<bool>) -> Result<Response, KeeperFault>
-        ensures ok { let before = host_at Q.files self.old in
-            let after = host_at Q.files self.new in
+        ensures ok { let before = host_at Q.holds self.old in
+            let after = host_at Q.holds self.new in
             IfOk result (λ r. AnswersAt right (asking asked.now) before r after) }
-        ensures err { OnErr result (StaysAt Q.files self.old self.new) }
+        ensures err { OnErr result (StaysAt Q.holds self.old self.new) }
         ensures cause { FailsByKeeper Q.faults self.old self.new result }
     {
         match right {
@@ -232,10 +232,10 @@ impl<Q: Keeper + Drop> Host<Q> {
 
     // The answer to a request at this moment, but for the keeper's faults.
     fn answer_request(&mut self, request: &Request, moment: u64) -> Result<Response, KeeperFault>
-        ensures ok { let before = host_at Q.files self.old in
-            let after = host_at Q.files self.new in
+        ensures ok { let before = host_at Q.holds self.old in
+            let after = host_at Q.holds self.new in
             IfOk result (λ r. TableAnswers before request.now moment r after) }
-        ensures err { OnErr result (StaysAt Q.files self.old self.new) }
+        ensures err { OnErr result (StaysAt Q.holds self.old self.new) }
         ensures ordinary { IfOk result IsOrdinary }
         ensures cause { FailsByKeeper Q.faults self.old self.new result }
     {
@@ -261,7 +261,7 @@ impl<Q: Keeper + Drop> Host<Q> {
     ghost use Rattle.outside.specs.Causes.{HasCause};
     ghost use Rattle.http_message.specs.Statuses.{HasDueBody};
     ghost use Rattle.wopi_host.specs.Hosts.{HostAnswers, host_failed};
-    ghost use Rattle.wopi_host.specs.Kept.{keeper_of, files_of, pages_of, host_at, StaysAt};
+    ghost use Rattle.wopi_host.specs.Kept.{keeper_of, held_of, pages_of, host_at, StaysAt};
     ghost use Rattle.wopi_host.specs.Kept.{FailsByKeeper};
 
     /// A host over the keeper: no file has a lock and each has 0 puts. Later calls take their
@@ -279,13 +279,15 @@ impl<Q: Keeper + Drop> Host<Q> {
 
     /// The response to a request at this moment, in seconds. Where the keeper fails it is a bare
     /// 500 and nothing changes; no other answer has that status. There is a body only where the
-    /// status has one. Where no memory is left, no content, lock or count of puts changes.
+    /// status has one. A put that is answered with 200 is one keep that the keeper accepted, and no
+    /// other answer keeps anything. Where no memory is left, no content, lock or count of puts
+    /// changes.
     #[tactic(auto, using(crate::proofs::Statuses::ordinary_cause, crate::proofs::Statuses::ordinary_body))]
     pub fn answer(&mut self, request: &Request, now: u64) -> Result<Response, Memory>
-        ensures ok { let before = host_at Q.files self.old in
-            let after = host_at Q.files self.new in
+        ensures ok { let before = host_at Q.holds self.old in
+            let after = host_at Q.holds self.new in
             IfOk result (λ r. HostAnswers before request.now now r after) }
-        ensures err { OnErr result (StaysAt Q.files self.old self.new) }
+        ensures err { OnErr result (StaysAt Q.holds self.old self.new) }
 
         // The status is 500 exactly where the keeper failed.
         ensures cause { let before = Q.faults (keeper_of self.old) in
@@ -299,12 +301,12 @@ impl<Q: Keeper + Drop> Host<Q> {
         }
     }
 
-    /// Keeps the file with this content. A refused keep keeps nothing.
+    /// Keeps the file with this content, by one keep. A refused keep keeps nothing.
     pub fn add(&mut self, file: &FileId, content: &Bytes) -> Result<(), KeeperFault>
-        ensures keeps { let before = files_of Q.files self.old in
-            OnOk result (Keeps before file.now content.now (files_of Q.files self.new)) }
-        ensures stays { let before = files_of Q.files self.old in
-            OnErr result (SameFiles before (files_of Q.files self.new)) }
+        ensures keeps { let before = held_of Q.holds self.old in
+            OnOk result (Keeps before file.now content.now (held_of Q.holds self.new)) }
+        ensures stays { let before = held_of Q.holds self.old in
+            OnErr result (SameHoldings before (held_of Q.holds self.new)) }
         ensures pages { pages_of self.new ≡ pages_of self.old }
         ensures cause { FailsByKeeper Q.faults self.old self.new result }
     {
@@ -313,8 +315,8 @@ impl<Q: Keeper + Drop> Host<Q> {
 
     /// The file's content; None exactly where the keeper lacks the file.
     pub fn content(&mut self, file: &FileId) -> Result<Option<Bytes>, KeeperFault>
-        ensures finds { IfOk result (IsKept (files_of Q.files self.old) file.now) }
-        ensures stays { SameFiles (files_of Q.files self.old) (files_of Q.files self.new) }
+        ensures finds { IfOk result (IsKept (held_of Q.holds self.old) file.now) }
+        ensures stays { SameHoldings (held_of Q.holds self.old) (held_of Q.holds self.new) }
         ensures pages { pages_of self.new ≡ pages_of self.old }
         ensures cause { FailsByKeeper Q.faults self.old self.new result }
     {

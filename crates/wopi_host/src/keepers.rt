@@ -4,7 +4,7 @@ ghost use Rattle.std.specs.Prelude.{false};
 ghost use Rattle.std.specs.BTreeMap.{get_by_text};
 ghost use Rattle.std.specs.Option.{option_copied};
 ghost use Rattle.outside.specs.Causes.{HasCause};
-ghost use Rattle.wopi_host.specs.Keepers.{Files, IsKept, Keeps, SameFiles, keeper_failed};
+ghost use Rattle.wopi_host.specs.Keepers.{Holdings, IsKept, Keeps, Puts, SameFiles, SameHoldings, keeper_failed, one_more};
 
 use bytes::Bytes;
 use cool_base::FileId;
@@ -23,22 +23,23 @@ pub enum KeeperFault {
 
 /// Files with their contents.
 pub trait Keeper {
-    /// The files with their contents, where the keeper tells them.
-    ghost files: { Self → Option Files };
+    /// The files with their contents, where the keeper tells them, and how many keeps it accepted.
+    /// The count stays at 2^64 - 1 once it is there.
+    ghost holds: { Self → Holdings };
 
     /// How many faults there were. The count stays at 2^64 - 1 once it is there.
     ghost faults: { Self → ℕ };
 
-    /// The file's content; None where there is no such file. No content changes.
+    /// The file's content; None where there is no such file. No content changes, and nothing is kept.
     fn find(&mut self, alloc: Global, file: &FileId) -> Result<Option<Bytes>, KeeperFault>
-        ensures finds { IfOk result (IsKept (files self.old) file.now) }
-        ensures stays { SameFiles (files self.old) (files self.new) }
+        ensures finds { IfOk result (IsKept (holds self.old) file.now) }
+        ensures stays { SameHoldings (holds self.old) (holds self.new) }
         ensures cause { HasCause (faults self.old) (faults self.new) (keeper_failed result ≡ true) };
 
-    /// Gives the file this content. A refused keep keeps nothing.
+    /// Gives the file this content, and counts the keep as accepted. A refused keep keeps nothing.
     fn keep(&mut self, alloc: Global, file: &FileId, content: &Bytes) -> Result<(), KeeperFault>
-        ensures keeps { OnOk result (Keeps (files self.old) file.now content.now (files self.new)) }
-        ensures stays { OnErr result (SameFiles (files self.old) (files self.new)) }
+        ensures keeps { OnOk result (Keeps (holds self.old) file.now content.now (holds self.new)) }
+        ensures stays { OnErr result (SameHoldings (holds self.old) (holds self.new)) }
         ensures cause { HasCause (faults self.old) (faults self.new) (keeper_failed result ≡ true) };
 }
 
@@ -46,19 +47,22 @@ pub trait Keeper {
 #[derive(Drop)]
 pub struct MemoryKeeper {
     files: BTreeMap<String, Bytes>,
+    accepted: u64,
 }
 
 impl MemoryKeeper {
     ghost use Rattle.std.specs.Prelude.{◌≡◌, ℕ, List, None};
     ghost use Rattle.std.specs.Option.{option_copied};
-    ghost use Rattle.wopi_host.specs.Kept.{contents_in};
+    ghost use Rattle.wopi_host.specs.Kept.{contents_in, held_in};
 
     /// A keeper without files.
     pub fn new(alloc: Global) -> MemoryKeeper
-        ensures { (id : List ℕ) → contents_in result id ≡ None }
+        ensures files { (id : List ℕ) → contents_in result id ≡ None }
+        ensures accepted { result.accepted ≡ 0 }
     {
         MemoryKeeper {
             files: BTreeMap::new(alloc),
+            accepted: 0,
         }
     }
 
@@ -68,10 +72,17 @@ impl MemoryKeeper {
     {
         self.files.get(file.text())
     }
+
+    /// How many keeps were accepted; at 2^64 - 1 it stands still.
+    pub fn accepted(&self) -> u64
+        ensures { result ≡ (held_in self.now).accepted }
+    {
+        self.accepted
+    }
 }
 
 // The content gets a place of its own before anything is changed.
-#[tactic(auto, using(std::proofs::lemmas::Map::Text::text_keys), unfolding(crate::specs::Keepers::Keeps, crate::specs::Keepers::SameFiles))]
+#[tactic(auto, using(std::proofs::lemmas::Map::Text::text_keys), unfolding(crate::specs::Keepers::Puts, crate::specs::Keepers::SameFiles))]
 fn store(
     alloc: Global,
     files: &mut BTreeMap<String, Bytes>,
@@ -79,7 +90,7 @@ fn store(
     content: &Bytes,
 ) -> Result<(), KeeperFault>
     ensures keeps { let before = Some (get_by_text files.old) in
-        OnOk result (Keeps before file.now content.now (Some (get_by_text files.new))) }
+        OnOk result (Puts before file.now content.now (Some (get_by_text files.new))) }
     ensures stays { let before = Some (get_by_text files.old) in
         OnErr result (SameFiles before (Some (get_by_text files.new))) }
     ensures memory { keeper_failed result ≡ false }
@@ -116,18 +127,21 @@ fn copied(found: Option<&Bytes>) -> Result<Option<Bytes>, KeeperFault>
 }
 
 impl Keeper for MemoryKeeper {
-    ghost use Rattle.wopi_host.specs.Kept.{contents_in};
+    ghost use Rattle.wopi_host.specs.Kept.{held_in};
 
-    ghost files = { λ k. Some (contents_in k) };
+    ghost holds = { held_in };
 
     ghost faults = { λ _. 0 };
 
-    #[tactic(auto, unfolding(crate::specs::Keepers::IsKept, crate::specs::Keepers::SameFiles))]
+    #[tactic(auto, unfolding(crate::specs::Keepers::IsIn, crate::specs::Keepers::SameFiles))]
     fn find(&mut self, _alloc: Global, file: &FileId) -> Result<Option<Bytes>, KeeperFault> {
         copied(look(&self.files, file))
     }
 
+    #[tactic(auto, unfolding(crate::specs::Keepers::Puts, crate::specs::Keepers::SameFiles))]
     fn keep(&mut self, alloc: Global, file: &FileId, content: &Bytes) -> Result<(), KeeperFault> {
-        store(alloc, &mut self.files, file, content)
+        store(alloc, &mut self.files, file, content)?;
+        self.accepted = self.accepted.saturating_add(1);
+        Ok(())
     }
 }

@@ -5,7 +5,7 @@
 //! - `table`: what each operation does to a file, by its lock.
 //! - `keepers`: what the files are kept in.
 //! - `marks`: the locks and counts of puts.
-//! - `answers`: the response to a action.
+//! - `answers`: the response to an action.
 //! - `hosts`: the host, which joins them.
 //! - `laws`: there is one answer.
 #![tactic(auto)]
@@ -21,3 +21,4 @@ mod targets;
 pub use hosts::{Host, LOCK_SECONDS};
 pub use keepers::{Keeper, KeeperFault, MemoryKeeper};
 pub use laws::answers_are_one;
+pub use table::LOCK_LIMIT;

@@ -144,12 +144,15 @@ fn all_printable(id: &[u8]) -> bool
     id.iter().all(|byte| *byte >= 32 && *byte <= 126)
 }
 
-/// Whether the text may be the id of a lock: 1 to 1,024 printable ASCII characters.
+/// How many bytes the id of a lock has at most.
+pub const LOCK_LIMIT: usize = 1_024;
+
+/// Whether the text may be the id of a lock: 1 to `LOCK_LIMIT` printable ASCII characters.
 #[tactic(auto, unfolding(crate::specs::Table::is_lock_text))]
 pub fn may_be_lock(id: &[u8]) -> bool
     ensures { result ≡ is_lock_text id.now }
 {
-    !id.is_empty() && id.len() <= 1024 && all_printable(id)
+    !id.is_empty() && id.len() <= LOCK_LIMIT && all_printable(id)
 }
 
 fn has_id(asked: Option<&[u8]>) -> bool

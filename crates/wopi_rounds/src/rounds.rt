@@ -2,8 +2,8 @@
 ghost use Rattle.http_message.specs.Statuses.{HasDueBody};
 
 use bytes::Bytes;
-use cool_base::{FileId, Memory, Token};
-use http_message::{Request, Response};
+use cool_base::{FileId, Memory, TextOf, Token};
+use http_message::{Method, Request, Response};
 use http_wire::{HttpFault, read_request, read_response};
 use http_write::{write_request, write_response};
 use outside::MemoryWire;
@@ -98,6 +98,41 @@ fn each_operation_goes_both_ways(rt: HostRuntime) -> Result<(), Fail> {
     ] {
         let ask = ask_of(&rt, alloc, step)?;
         assert_eq!(rt; asked(alloc, &mut host, &ask)?, told);
+    }
+    Ok(())
+}
+
+// The seventh operation, which the client never asks: what lock there is.
+fn get_lock(alloc: Global) -> Result<Request, HttpFault> {
+    let target = "/wopi/files/d?access_token=t-ro";
+    Ok(Request {
+        method: Method::Post,
+        target: TextOf::of(String::from_str(alloc, target)?),
+        lock: None,
+        over: Some(TextOf::of(String::from_str(alloc, "GET_LOCK")?)),
+        old_lock: false,
+        body: Bytes::new(),
+    })
+}
+
+#[test]
+fn the_lock_is_told_both_ways(rt: HostRuntime) -> Result<(), Fail> {
+    let alloc = rt.alloc();
+    let mut host = Host::new(alloc, MemoryKeeper::new(alloc))?;
+    let file = FileId::read("d").expect(&rt, "a file id");
+    host.add(&file, &Bytes::from_static(b"abc"))?;
+    for (step, told) in [
+        (Step::Unlock, ""),
+        (Step::Lock, "cool-d"),
+        (Step::Unlock, ""),
+    ] {
+        let ask = ask_of(&rt, alloc, step)?;
+        asked(alloc, &mut host, &ask)?;
+        let request = carried(alloc, &get_lock(alloc)?)?;
+        let response = answered(alloc, &host.answer(&request, 10)?)?;
+        assert_eq!(rt; response.status, 200);
+        let lock = response.lock.expect(&rt, "a lock line");
+        assert_eq!(rt; lock.get(), told);
     }
     Ok(())
 }

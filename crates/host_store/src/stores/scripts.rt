@@ -1,10 +1,10 @@
 // What a script does to the host, its clock and its wires.
 ghost use Rattle.std.specs.Prelude.{◌≡◌, max, IfOk, IsTrue, OnOk, OnErr, Some, None};
 ghost use Rattle.wopi_host.specs.Hosts.{SamePages, SetsLock};
-ghost use Rattle.wopi_host.specs.Keepers.{IsKept, Keeps, SameFiles};
+ghost use Rattle.wopi_host.specs.Keepers.{IsKept, Keeps, SameHoldings};
 ghost use Rattle.wopi_host.specs.Marks.{lock_of};
 ghost use Rattle.wopi_host.specs.Table.{is_lock_text};
-ghost use Rattle.host_store.specs.Kept.{store_at, files_in, pages_in, StaysBeside};
+ghost use Rattle.host_store.specs.Kept.{store_at, held_by, pages_in, StaysBeside};
 
 use super::HostStore;
 use bytes::Bytes;
@@ -36,11 +36,11 @@ impl HostStore {
         self.failing = self.failing.max(count);
     }
 
-    /// The host keeps the file with this content. A refused keep keeps nothing.
+    /// The host keeps the file with this content, by one keep. A refused keep keeps nothing.
     pub fn add(&mut self, file: &FileId, content: &Bytes) -> Result<(), KeeperFault>
         ensures keeps { OnOk result
-            (Keeps (files_in self.old) file.now content.now (files_in self.new)) }
-        ensures refused { OnErr result (SameFiles (files_in self.old) (files_in self.new)) }
+            (Keeps (held_by self.old) file.now content.now (held_by self.new)) }
+        ensures refused { OnErr result (SameHoldings (held_by self.old) (held_by self.new)) }
         ensures pages { pages_in self.new ≡ pages_in self.old }
         ensures stays { StaysBeside self.old self.new }
     {
@@ -49,8 +49,8 @@ impl HostStore {
 
     /// The file's content; None exactly where the host lacks the file.
     pub fn content(&mut self, file: &FileId) -> Result<Option<Bytes>, KeeperFault>
-        ensures finds { IfOk result (IsKept (files_in self.old) file.now) }
-        ensures files { SameFiles (files_in self.old) (files_in self.new) }
+        ensures finds { IfOk result (IsKept (held_by self.old) file.now) }
+        ensures held { SameHoldings (held_by self.old) (held_by self.new) }
         ensures pages { pages_in self.new ≡ pages_in self.old }
         ensures stays { StaysBeside self.old self.new }
     {
@@ -64,7 +64,7 @@ impl HostStore {
             (SetsLock (pages_in self.old) file.now (Some (lock_of id.now self.old.moment))
             (pages_in self.new)) }
         ensures refused { OnErr result (SamePages (pages_in self.old) (pages_in self.new)) }
-        ensures files { files_in self.new ≡ files_in self.old }
+        ensures held { held_by self.new ≡ held_by self.old }
         ensures stays { StaysBeside self.old self.new }
     {
         self.host.set_lock(file, id, self.moment)
@@ -73,7 +73,7 @@ impl HostStore {
     /// The file has no lock. It takes no memory.
     pub fn clear_lock(&mut self, file: &FileId)
         ensures clears { SetsLock (pages_in self.old) file.now None (pages_in self.new) }
-        ensures files { files_in self.new ≡ files_in self.old }
+        ensures held { held_by self.new ≡ held_by self.old }
         ensures stays { StaysBeside self.old self.new }
     {
         self.host.clear_lock(file);

@@ -1,6 +1,6 @@
 use Rattle.std.proofs.Common.{arith, sym, ◌∙◌}
 use Rattle.sheet_file.proofs.CutLaws.{cut_is, cut_shorter}
-use Rattle.sheet_file.proofs.ReadLaws.{parts_uncut, count_bad, cells_told}
+use Rattle.sheet_file.proofs.ReadLaws.{parts_uncut, count_bad, cells_told, cells_late, of_any_fault}
 use Rattle.sheet_file.proofs.reading.read_parts.Goals as goal
 
 pub returns-in_default-clause-refused : goal.returns-in_default-clause-refused
@@ -23,3 +23,11 @@ pub returns-in-Err-clause-refused : goal.returns-in-Err-clause-refused
 returns-in-Err-clause-refused c =
     λ other. cells_told c.args.lines.now c.in-Some.text.now c.in-Some.behind.now c.in-Some-parts_of_text.parts c.in_ok-draft.draft c.in-Some.ensures c.in-Some-parts_of_text.ensures.parts c.in_ok-draft.ensures
     ∙ c.in-Err.ensures.refused other
+
+pub returns-in-Err-clause-early : goal.returns-in-Err-clause-early
+returns-in-Err-clause-early c =
+    λ lacks. cells_late c.args.lines.now c.in-Some.text.now c.in-Some.behind.now c.in-Some-parts_of_text.parts c.in-Some.ensures c.in-Some-parts_of_text.ensures.parts
+
+pub returns-in_err-draft-clause-early : goal.returns-in_err-draft-clause-early
+returns-in_err-draft-clause-early c =
+    of_any_fault _ c.from_residual.result (λ fault lacks. cells_late c.args.lines.now c.in-Some.text.now c.in-Some.behind.now c.in-Some-parts_of_text.parts c.in-Some.ensures c.in-Some-parts_of_text.ensures.parts)

@@ -1,12 +1,13 @@
 use Rattle.std.proofs.Common.{◌≡◌, ◌∙◌, refl, sym, ap, length, Some}
 use Rattle.std.specs.List.{slice_get}
 use Rattle.hall_machine.proofs.Kept.{whole, posted_at, change}
+use Rattle.hall_machine.proofs.Lacks.{post_lacks}
 use Rattle.hall_machine.proofs.state.HallState.post.Goals as goal
 
 -- what the post did to the state is what the machine does
 pub invariant_of-self-2 : goal.invariant_of-self-2
 invariant_of-self-2 g c =
-    let chk = c.in-Ok.ensures in
+    let chk = c.in-Ok.ensures.answer in
     let put = c.in_default.ensures in
     let there : slice_get c.self.inside.opens.items c.in-Ok.at
     ≡ Some put.0 = ap (λ os. slice_get os c.in-Ok.at) (sym c.as_mut_slice.ensures.value)
@@ -31,7 +32,7 @@ invariant_of-self-2 g c =
 
 pub returns-clause-values : goal.returns-clause-values
 returns-clause-values g c =
-    let chk = c.in-Ok.ensures in
+    let chk = c.in-Ok.ensures.answer in
     let put = c.in_default.ensures in
     let there : slice_get c.self.inside.opens.items c.in-Ok.at
     ≡ Some put.0 = ap (λ os. slice_get os c.in-Ok.at) (sym c.as_mut_slice.ensures.value)
@@ -45,3 +46,16 @@ returns-clause-values g c =
           ∙ rw (put.2, c.as_mut_slice.ensures.value) refl)
           (rw (← c.as_slice.ensures.value) chk.1) there,
     )
+
+-- the machine takes the mail for which there was no memory
+pub returns-in-Err-put_mail-clause-answers : goal.returns-in-Err-put_mail-clause-answers
+returns-in-Err-put_mail-clause-answers g c =
+    let takes = rw (
+      c.as_slice.ensures.value,
+      c.len-entries.ensures,
+      c.self.inside.entries.ok.0,
+    ) at c.in-Ok.ensures.answer.0 in
+    rw (c.in-Err-put_mail.ensures.0, ← c.self.view_is) (post_lacks g.M.Labelled.tag
+    (record { polls = c.self.inside.polls; room = c.self.inside.room }) c.self.inside.next
+    c.self.inside.opens.items c.self.inside.due c.self.inside.entries.items _ c.self.invariant
+    c.args.who c.args.doc.0 c.args.mail c.args.urgent takes)

@@ -1,7 +1,8 @@
-// In the place of nets and stores, which the edge never gives.
+// In the place of nets and stores, which the edge never gives, a gate that is open and a clock that
+// stands still.
 use bytes::Bytes;
 use cool_base::{FileId, LinkId, Memory, Token};
-use net_traits::{Given, Net, Taken};
+use net_traits::{Clock, Gate, Given, Net, Taken};
 use outside::{Admission, Errand, Receipt, Store, StoreFault};
 use std::alloc::Global;
 
@@ -88,5 +89,30 @@ impl Store for NoStore {
 
     fn unlock(&mut self, _alloc: Global, _file: &FileId, _token: &Token) -> Result<(), StoreFault> {
         Err(StoreFault::Missing)
+    }
+}
+
+/// A gate that does nothing.
+#[derive(Drop)]
+pub struct OpenGate;
+
+impl Gate for OpenGate {
+    fn pass(&mut self, _work: u64) {}
+}
+
+/// A clock that gives one moment for ever.
+#[derive(Drop)]
+pub struct StillClock {
+    pub(crate) moment: u64,
+}
+
+impl Clock for StillClock {
+    ghost use Rattle.std.specs.Prelude.{Some, [], ◌∷◌};
+
+    ghost moments = { λ c. Some (c.moment ∷ []) };
+
+    #[tactic(auto, unfolding(net_traits::specs::Clocks::Ticks))]
+    fn now(&mut self) -> u64 {
+        self.moment
     }
 }
