@@ -1,0 +1,11 @@
+pub mod Settling
+pub mod Working
+pub mod Befell
+pub mod Doing
+pub mod Happening
+pub mod Turning
+pub mod Refreshing
+pub mod Leaving
+pub mod Housing
+pub mod Joining
+pub mod Answering

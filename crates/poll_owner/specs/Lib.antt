@@ -1,0 +1,3 @@
+pub mod Loading
+pub mod Mailing
+pub mod Polling
