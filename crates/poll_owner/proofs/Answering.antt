@@ -1,0 +1,64 @@
+-- The answer to a work comes to what is held under an id.
+use Rattle.std.proofs.Common.{◌≡◌, ℕ, ◌+◌, Bool, false, List, ◌∷◌, ◌++◌, Result, IsOk, refl, subst, sym}
+use Rattle.std.proofs.Common.{ap, add-zero}
+use Rattle.cool_base.specs.declared.want.Memory.{Memory}
+use Rattle.net_traits.specs.Nets.{LinkEvent}
+use Rattle.poll_machine.specs.Words.{Answer, PaintDone, PutDone, Outs, Ways, event_of}
+use Rattle.poll_machine.specs.Agenda.{HeldDocument, Did}
+use Rattle.poll_machine.specs.House.{Slot, Live, House, Rises, Answered}
+use Rattle.poll_machine.specs.Told.{Heard}
+use Rattle.poll_machine.specs.Turn.{did, reads, is_done_here}
+use Rattle.poll_machine.proofs.Lifted.{found}
+use Rattle.poll_owner.specs.Befalling.{Befalls}
+use Rattle.poll_owner.specs.Doing.{Does, count_of, in_house}
+use Rattle.poll_owner.proofs.Doing.{does_live}
+use Rattle.poll_owner.proofs.Turning.{befalls_there}
+
+-- an answer is by itself nothing that a turn did
+quiet : {J P L : Type 0} (answer : Answer P) (outs : Outs J)
+    → is_done_here {L = L} (Did (event_of answer) outs) ≡ false
+quiet (PaintDone result) outs = refl
+quiet (PutDone ticket answer) outs = refl
+
+-- it comes to a document that is held
+answered_there : {D J P L : Type 0} (w : Ways D J P) (carries : L → List LinkEvent)
+    (house : House D J P L) (front back : List (ℕ × Slot D J P L)) (id : ℕ)
+    (old : HeldDocument D J P L) (answer : Answer P) (before : Heard D J P L)
+    (result : Result ℕ Memory) (new : HeldDocument D J P L) (after : Heard D J P L)
+    → Rises (front ++ (id, Live old) ∷ back)
+    → Befalls w carries id house.moment old (event_of answer) before result new after
+    → Does w carries (reads w id (Answered answer))
+    (in_house house front (id, Live old) back house.ended) before (IsOk result) false
+    (in_house house front (id, Live new) back (house.ended + count_of result)) after
+answered_there {D} {J} {P} {L} w carries house front back id old answer before result new after rises
+    befell =
+    does_live w carries id (λ held. did id (event_of answer)) old
+    (in_house house front (id, Live old) back house.ended) before (IsOk result) false
+    (in_house house front (id, Live new) back (house.ended + count_of result)) after
+    (found front id (Live old) back rises)
+    (befalls_there w carries house front back id old (event_of answer) before result new after false
+    rises (λ outs. quiet answer outs) befell)
+
+-- the same of what is kept, at the moment of its house
+pub answered_kept : {D J P L : Type 0} (w : Ways D J P) (carries : L → List LinkEvent)
+    (house : House D J P L) (front back : List (ℕ × Slot D J P L)) (id moment : ℕ)
+    (slot : Slot D J P L) (old : HeldDocument D J P L) (answer : Answer P) (before : Heard D J P L)
+    (result : Result ℕ Memory) (new : HeldDocument D J P L) (after : Heard D J P L)
+    → house.moment ≡ moment → slot ≡ Live old → Rises (front ++ (id, slot) ∷ back)
+    → Befalls w carries id moment old (event_of answer) before result new after
+    → Does w carries (reads w id (Answered answer))
+    (in_house house front (id, slot) back house.ended) before (IsOk result) false
+    (in_house house front (id, Live new) back (house.ended + count_of result)) after
+answered_kept {D} {J} {P} {L} w carries house front back id moment slot old answer before result new
+    after same is rises befell =
+    subst
+    (λ (s : Slot D J P L). Rises (front ++ (id, s) ∷ back)
+    → Does w carries (reads w id (Answered answer)) (in_house house front (id, s) back house.ended)
+    before (IsOk result) false
+    (in_house house front (id, Live new) back (house.ended + count_of result)) after)
+    (sym is)
+    (λ (there : Rises (front ++ (id, Live old) ∷ back)).
+    answered_there w carries house front back id old answer before result new after there
+    (subst (λ (m : ℕ). Befalls w carries id m old (event_of answer) before result new after)
+    (sym same) befell))
+    rises

@@ -1,0 +1,160 @@
+-- What stands at a place of a house is closed, or stays.
+use Rattle.std.proofs.Common.{◌≡◌, ℕ, ◌+◌, ◌<◌, Bool, true, false, ◌||◌, List, [], ◌∷◌, ◌++◌, map}
+use Rattle.std.proofs.Common.{Option, None, Some, Result, Ok, Err, refl, ap, subst, sym, ◌∙◌, length}
+use Rattle.std.proofs.Common.{take, drop, set, get_or, arith}
+use Rattle.std.proofs.lemmas.List.{drop-map, drop-set-lt, get_or-set_same, map-append, take-map, take-set}
+use Rattle.cool_base.specs.declared.want.Memory.{Memory}
+use Rattle.hall_machine.specs.declared.words.CloseFault.{CloseFault}
+use Rattle.net_traits.specs.Nets.{LinkEvent}
+use Rattle.outside.specs.Stores.{StoreCall}
+use Rattle.poll_hall.specs.Ports.{PortView}
+use Rattle.poll_machine.specs.Words.{Ways}
+use Rattle.poll_machine.specs.House.{Slot, Ends, Happens, House, Rises, MayEnd, lost_by, Parcel, Mail}
+use Rattle.poll_machine.specs.House.{Closes}
+use Rattle.poll_machine.specs.Plans.{Plan}
+use Rattle.poll_machine.specs.Told.{Heard, PortStep}
+use Rattle.poll_machine.specs.Turn.{closes, ends, ids}
+use Rattle.poll_owner.specs.Doing.{Does, id_at, in_house, ids_left}
+use Rattle.poll_owner.specs.Locking.{Readies}
+use Rattle.poll_owner.specs.Outside.{with_store, with_port}
+use Rattle.poll_owner.proofs.Closing.{closed_house, ends_there, is_ok, ready_broke, ready_closes}
+use Rattle.poll_owner.proofs.Closing.{ready_may, ready_stays, rises_without}
+use Rattle.poll_owner.proofs.Each.{does_at, id_is, item_at, rises_at, rises_set}
+use Rattle.poll_owner.proofs.Happening.{placed, replaced}
+
+-- what was done from the house with this at its place was done from the house
+does_from : {D J P L : Type 0} (w : Ways D J P) (carries : L → List LinkEvent)
+    (plan : ℕ → Plan (House D J P L) (Happens D J P L)) (house : House D J P L) (i : ℕ)
+    (p : ℕ × Slot D J P L) (s : Heard D J P L) (fine : Type 0) (worked : Bool)
+    (new : House D J P L) (t : Heard D J P L)
+    → i < length house.docs → p ≡ get_or house.docs i p
+    → Does w carries (plan p.0)
+    (in_house house (take i house.docs) p (drop (i + 1) house.docs) house.ended) s fine worked new t
+    → Does w carries (plan (id_at house i)) house s fine worked new t
+does_from {D} {J} {P} {L} w carries plan house i p s fine worked new t within is a =
+    subst
+    (λ (id : ℕ). Does w carries (plan id) house s fine worked new t)
+    (id_is house i p within is)
+    (subst
+    (λ (h : House D J P L). Does w carries (plan p.0) h s fine worked new t)
+    (ap (λ (xs : List (ℕ × Slot D J P L)). record house { docs = xs; ended = house.ended })
+    (placed house.docs i p within is)) a)
+
+-- with another state at its place the ids rise in front of it and behind it
+rises_round : {D J P L : Type 0} (docs : List (ℕ × Slot D J P L)) (i : ℕ)
+    (p q : ℕ × Slot D J P L) → i < length docs → p ≡ get_or docs i p → q.0 ≡ p.0 → Rises docs
+    → Rises (take i docs ++ q ∷ drop (i + 1) docs)
+rises_round {D} {J} {P} {L} docs i p q within is same rises =
+    subst (λ (xs : List (ℕ × Slot D J P L)). Rises xs) (replaced docs i q within)
+    (rises_set docs i p q within is same rises)
+
+-- it was made ready, and the hall was asked to close it
+pub closing_there : {D J P L : Type 0} (w : Ways D J P) (carries : L → List LinkEvent)
+    (house : House D J P L) (i : ℕ) (p q : ℕ × Slot D J P L) (s : Heard D J P L)
+    (before after : Option (List StoreCall)) (was now : PortView (Parcel D L) (Mail P L))
+    (unlocked : Bool) (answer : Result (Unit {0}) CloseFault) (fine : Type 0)
+    → i < length house.docs → p ≡ get_or house.docs i p → q.0 ≡ p.0 → Rises house.docs
+    → Readies w p before (Ok (Some unlocked)) q after → PortStep w was (Closes q.0 answer) now
+    → Does w carries (closes w (id_at house i)) house (with_port (with_store s before) was) fine
+    (unlocked || is_ok answer)
+    (closed_house w house (take i house.docs) q.0 q.1 (drop (i + 1) house.docs) answer)
+    (with_port (with_store s after) now)
+closing_there {D} {J} {P} {L} w carries house i p q s before after was now unlocked answer fine within
+    is same rises ready told =
+    let front : List (ℕ × Slot D J P L) = take i house.docs in
+    let back : List (ℕ × Slot D J P L) = drop (i + 1) house.docs in
+    let end : House D J P L = closed_house w house front q.0 q.1 back answer in
+    let asked : Does w carries (ends q.0) (in_house house front q back house.ended)
+    (with_port (with_store s after) was) fine (is_ok answer) end
+    (with_port (with_store s after) now) =
+    ends_there w carries house front q.0 q.1 back answer (with_store s after) was now fine
+    (rises_round house.docs i p q within is same rises)
+    (ready_may w p before unlocked q after ready) told in
+    does_from w carries (λ id. closes w id) house i p (with_port (with_store s before) was) fine
+    (unlocked || is_ok answer) end (with_port (with_store s after) now) within is
+    (ready_closes w carries house front back p q (with_port s was) before after unlocked fine
+    (is_ok answer) end (with_port (with_store s after) now)
+    (rises_at house.docs i p within is rises) ready
+    (subst
+    (λ (id : ℕ). Does w carries (ends id) (in_house house front q back house.ended)
+    (with_port (with_store s after) was) fine (is_ok answer) end
+    (with_port (with_store s after) now)) same asked))
+
+-- it isn't done, and stays
+pub closing_stays : {D J P L : Type 0} (w : Ways D J P) (carries : L → List LinkEvent)
+    (house : House D J P L) (i : ℕ) (p q : ℕ × Slot D J P L) (s : Heard D J P L)
+    (before after : Option (List StoreCall)) (port : PortView (Parcel D L) (Mail P L))
+    (fine : Type 0)
+    → i < length house.docs → p ≡ get_or house.docs i p → Rises house.docs
+    → Readies w p before (Ok None) q after
+    → Does w carries (closes w (id_at house i)) house (with_port (with_store s before) port) fine
+    false (record house { docs = set house.docs i q }) (with_port (with_store s after) port)
+closing_stays {D} {J} {P} {L} w carries house i p q s before after port fine within is rises ready =
+    subst
+    (λ (id : ℕ). Does w carries (closes w id) house (with_port (with_store s before) port) fine
+    false (record house { docs = set house.docs i q }) (with_port (with_store s after) port))
+    (id_is house i p within is)
+    (does_at w carries (closes w p.0) house i p q (with_port (with_store s before) port) fine false
+    house.ended (with_port (with_store s after) port) within is
+    (ready_stays w carries house (take i house.docs) (drop (i + 1) house.docs) p q
+    (with_port s port) before after fine (rises_at house.docs i p within is rises) ready))
+
+-- out of memory
+pub closing_broke : {D J P L : Type 0} (w : Ways D J P) (carries : L → List LinkEvent)
+    (house : House D J P L) (i : ℕ) (p q : ℕ × Slot D J P L) (s : Heard D J P L)
+    (before after : Option (List StoreCall)) (port : PortView (Parcel D L) (Mail P L))
+    (memory : Memory) (fine : Type 0) (worked : Bool) (end : House D J P L)
+    → (fine → ⊥) → i < length house.docs → p ≡ get_or house.docs i p → Rises house.docs
+    → Readies w p before (Err memory) q after
+    → Does w carries (closes w (id_at house i)) house (with_port (with_store s before) port) fine
+    worked end (with_port (with_store s after) port)
+closing_broke {D} {J} {P} {L} w carries house i p q s before after port memory fine worked end never
+    within is rises ready =
+    does_from w carries (λ id. closes w id) house i p (with_port (with_store s before) port) fine
+    worked end (with_port (with_store s after) port) within is
+    (ready_broke w carries house (take i house.docs) (drop (i + 1) house.docs) p q
+    (with_port s port) before after memory fine worked end never
+    (rises_at house.docs i p within is rises) ready)
+
+-- the house without it, where its state was noted before
+pub left_out : {D J P L : Type 0} (w : Ways D J P) (house : House D J P L) (i : ℕ)
+    (q : ℕ × Slot D J P L) (new : House D J P L)
+    → i < length house.docs
+    → ((p : ℕ × Slot D J P L) → p ≡ get_or (set house.docs i q) i p
+    → new ≡ record house {
+      docs = take i (set house.docs i q) ++ drop (i + 1) (set house.docs i q);
+      lost = house.lost ++ lost_by w (Some p.1) (Ends (Ok tt));
+    })
+    → new ≡ closed_house w house (take i house.docs) q.0 q.1 (drop (i + 1) house.docs) (Ok tt)
+left_out {D} {J} {P} {L} w house i q new within all =
+    all q (sym (get_or-set_same house.docs i q q within))
+    ∙ ap
+    (λ (xs : List (ℕ × Slot D J P L)). record house {
+      docs = xs ++ drop (i + 1) (set house.docs i q);
+      lost = house.lost ++ lost_by w (Some q.1) (Ends (Ok tt));
+    })
+    (take-set house.docs i q)
+    ∙ ap
+    (λ (xs : List (ℕ × Slot D J P L)). record house {
+      docs = take i house.docs ++ xs;
+      lost = house.lost ++ lost_by w (Some q.1) (Ends (Ok tt));
+    })
+    (drop-set-lt (i + 1) house.docs i q (omega arith))
+
+-- the ids once it is held no more
+pub ids_without : {D J P L : Type 0} (docs : List (ℕ × Slot D J P L)) (i : ℕ)
+    → map (λ (x : ℕ × Slot D J P L). x.0) (take i docs ++ drop (i + 1) docs)
+    ≡ ids_left true i (map (λ (x : ℕ × Slot D J P L). x.0) docs)
+ids_without {D} {J} {P} {L} docs i =
+    let id : ℕ × Slot D J P L → ℕ = λ x. x.0 in
+    map-append id (take i docs) (drop (i + 1) docs)
+    ∙ ap (λ (xs : List ℕ). xs ++ map id (drop (i + 1) docs)) (sym (take-map id i docs))
+    ∙ ap (λ (xs : List ℕ). take i (map id docs) ++ xs) (sym (drop-map id (i + 1) docs))
+
+-- the ids still rise once what stands at a place is held no more
+pub rises_out : {D J P L : Type 0} (docs : List (ℕ × Slot D J P L)) (i : ℕ) → i < length docs
+    → Rises docs → Rises (take i docs ++ drop (i + 1) docs)
+rises_out {D} {J} {P} {L} docs i within rises =
+    let there : (p : ℕ × Slot D J P L) × (p ≡ get_or docs i p) = item_at docs i within in
+    rises_without (take i docs) there.0.0 there.0.1 (drop (i + 1) docs)
+    (rises_at docs i there.0 within there.1 rises)
