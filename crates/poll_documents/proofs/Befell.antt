@@ -1,6 +1,6 @@
 -- What befalls a document.
-use Rattle.std.proofs.Common.{◌≡◌, ℕ, Bool, true, false, List, [], ◌∷◌, ◌++◌, map, Option, Result, Ok, Err}
-use Rattle.std.proofs.Common.{IsErr, inl, inr, refl, ap, sym, subst, ◌∙◌}
+use Rattle.std.proofs.Common.{◌≡◌, ℕ, Bool, true, false, List, [], map, Result, Ok, Err}
+use Rattle.std.proofs.Common.{IsErr, inr, refl, ap, sym, subst, ◌∙◌}
 use Rattle.cool_base.specs.declared.ids.ViewId.{ViewId}
 use Rattle.cool_base.specs.declared.want.Memory.{Memory}
 use Rattle.cool_frame.specs.declared.frame.Frame.{Frame}
@@ -16,7 +16,7 @@ use Rattle.poll_machine.specs.Words.{Ways, Turned as TurnMade}
 use Rattle.poll_machine.specs.Agenda.{HeldDocument, HeldStep, Did, Todo, lock_after, todo_of}
 use Rattle.poll_machine.specs.Agenda.{without_view}
 use Rattle.poll_machine.specs.Told.{Heard}
-use Rattle.poll_documents.specs.Befalling.{Befell, CutOff, Broke, Befalls, Turns}
+use Rattle.poll_documents.specs.Befalling.{Befell, Broke, Befalls, Turns}
 use Rattle.poll_documents.specs.Settling.{Passes, Stops, Settles, owing, give_of}
 use Rattle.poll_documents.proofs.Settling.{passes_none}
 use Rattle.poll_documents.proofs.Working.{owed_frames}

@@ -1,5 +1,5 @@
 -- A view that a broker hasn't leaves it as it is.
-use Rattle.std.proofs.Common.{◌≡◌, ℕ, Bool, true, false, ◌&&◌, cond, List, [], ◌∷◌, Option, None}
+use Rattle.std.proofs.Common.{◌≡◌, ℕ, Bool, true, false, cond, List, [], ◌∷◌, Option, None}
 use Rattle.std.proofs.Common.{Some, Result, Ok, Err, IfOk, OnOk, nat_eq, refl, ap, ◌∙◌, sym, true≢false}
 use Rattle.std.specs.Option.{is_some, option_map_or}
 use Rattle.kit_trait.specs.Rules.{Rules}
@@ -9,7 +9,7 @@ use Rattle.document_machine.specs.Goes.{Goes}
 use Rattle.document_machine.specs.Held.{Held}
 use Rattle.document_machine.specs.Outputs.{nothing}
 use Rattle.document_machine.specs.declared.outs.Outs.{Outs as Given}
-use Rattle.document_machine.specs.Saves.{saving_left, is_last_view, needs_final_save}
+use Rattle.document_machine.specs.Saves.{saving_left}
 use Rattle.document_machine.specs.State.{Document, View, find_view, is_live, without_view}
 
 -- the views without one that isn't there

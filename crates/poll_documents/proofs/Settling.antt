@@ -18,7 +18,7 @@ use Rattle.poll_machine.specs.Agenda.{Leaves, Frees, link_of, without_view}
 use Rattle.poll_machine.specs.House.{At, Happens, ends_by}
 use Rattle.poll_machine.specs.Project.{HeldMove}
 use Rattle.poll_machine.specs.Runs.{Run}
-use Rattle.poll_machine.specs.Told.{Heard, Hears, link_named, was_given}
+use Rattle.poll_machine.specs.Told.{Heard, link_named, was_given}
 use Rattle.poll_machine.specs.Turn.{is_done_here}
 use Rattle.poll_machine.proofs.Runs.{runs}
 use Rattle.poll_machine.proofs.Carried.{hears_more, hears_none}

@@ -32,7 +32,7 @@ use Rattle.load_address.specs.declared.served.Served.{Served}
 use Rattle.poll_instance.specs.Instance.{Painting, broker_lock, given_out, ways}
 use Rattle.poll_machine.specs.Words.{Ways, Outs, Answer, PaintDone, PutDone, event_of, Paint, Put}
 use Rattle.poll_machine.specs.Words.{Work as PollWork}
-use Rattle.poll_machine.specs.Agenda.{HeldDocument, Todo, Give, Offer, Hand, Do, Take, Here, Asks}
+use Rattle.poll_machine.specs.Agenda.{HeldDocument, Todo, Give, Offer, Hand, Do, Take, Asks}
 use Rattle.poll_machine.specs.Agenda.{Offers, Paints, Puts, Takes, lock_after, todo_of}
 use Rattle.poll_machine.specs.House.{Parcel, Mail}
 use Rattle.poll_machine.specs.Told.{Heard}

@@ -1,4 +1,4 @@
-use Rattle.std.proofs.Common.{◌≡◌, [], refl, rules}
+use Rattle.std.proofs.Common.{refl, rules}
 use Rattle.outside.specs.declared.errands.Errand.{Errand}
 use Rattle.poll_machine.specs.Agenda.{Offer}
 use Rattle.poll_machine.specs.Words.{Put}

@@ -1,4 +1,3 @@
-use Rattle.std.proofs.Common.{◌≡◌, Some}
 use Rattle.poll_documents.specs.Outside.{outside}
 use Rattle.poll_documents.proofs.Working.{passes_on}
 use Rattle.poll_documents.proofs.owned.OwnedDocument.do_work.Goals as goal

@@ -1,4 +1,4 @@
-use Rattle.std.proofs.Common.{◌≡◌, [], ◌∷◌, refl, rules, subst, sym}
+use Rattle.std.proofs.Common.{[], ◌∷◌, refl, rules, subst}
 use Rattle.net_traits.specs.Nets.{NetTold, Tells, Gives as NetGives}
 use Rattle.net_traits.specs.declared.nets.Given.{Given as Answer}
 use Rattle.document_machine.specs.Outputs.{nothing}

@@ -1,4 +1,4 @@
-use Rattle.std.proofs.Common.{inl, inr, refl, rules}
+use Rattle.std.proofs.Common.{inr, rules}
 use Rattle.poll_machine.specs.Words.{Said}
 use Rattle.poll_instance.specs.Instance.{given_out}
 use Rattle.poll_documents.proofs.Befell.{befalls_broke}

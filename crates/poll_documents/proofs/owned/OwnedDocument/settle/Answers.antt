@@ -1,4 +1,4 @@
-use Rattle.std.proofs.Common.{◌≡◌, ◌+◌, rules}
+use Rattle.std.proofs.Common.{◌+◌, rules}
 use Rattle.poll_documents.specs.Outside.{outside}
 use Rattle.poll_documents.proofs.Settling.{settles_stop}
 use Rattle.poll_documents.proofs.Working.{settles_parts, settles_sum, stops_done, stops_frames, stops_jobs}

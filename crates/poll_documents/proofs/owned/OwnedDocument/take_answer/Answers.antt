@@ -1,4 +1,4 @@
-use Rattle.std.proofs.Common.{[], ◌∷◌, refl, rules}
+use Rattle.std.proofs.Common.{refl, rules}
 use Rattle.poll_documents.specs.Outside.{with_net}
 use Rattle.poll_documents.proofs.Settling.{settles_cut}
 use Rattle.poll_documents.proofs.Working.{settles_taken}
