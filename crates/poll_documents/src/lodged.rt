@@ -219,7 +219,8 @@ impl<K: Kit, N: Net> Kept<OwnedDocument<K, N>, Refusal> {
         }
     }
 
-    // The links of its views are released and packed. How many links ended.
+    // The links of its views are released and packed; what is held as refused has none. How many
+    // links ended.
     fn pack(&mut self, net: &mut N) -> Result<u64, Memory>
         ensures packs { (served : Served) (id : ℕ) (s : BrokersHeard K.Scene N.Link)
             (house : BrokersHouse K.Scene N.Link) (front back : BrokersDocs K.Scene N.Link)
@@ -230,6 +231,8 @@ impl<K: Kit, N: Net> Kept<OwnedDocument<K, N>, Refusal> {
             (with_net s (N.told net.old)) (IsOk result) false
             (in_house house front (id, slot_in self.new) back (house.ended + count_of result))
             (with_net s (N.told net.new)) }
+        ensures refused { is_live_slot (slot_in self.old) ≡ false
+            → (result ≡ Ok 0) × (self.new ≡ self.old) × (net.new ≡ net.old) }
         ensures takes { N.take_faults net.new ≡ N.take_faults net.old }
     {
         match self {
@@ -238,7 +241,7 @@ impl<K: Kit, N: Net> Kept<OwnedDocument<K, N>, Refusal> {
         }
     }
 
-    // The packed links are adopted, in order.
+    // The packed links are adopted, in order; what is held as refused has none.
     fn adopt(&mut self, alloc: Global, net: &mut N) -> Result<(), Memory>
         ensures adopts { (served : Served) (id : ℕ) (s : BrokersHeard K.Scene N.Link)
             (house : BrokersHouse K.Scene N.Link) (front back : BrokersDocs K.Scene N.Link)
@@ -249,6 +252,8 @@ impl<K: Kit, N: Net> Kept<OwnedDocument<K, N>, Refusal> {
             (with_net s (N.told net.old)) (IsOk result) false
             (in_house house front (id, slot_in self.new) back house.ended)
             (with_net s (N.told net.new)) }
+        ensures refused { is_live_slot (slot_in self.old) ≡ false
+            → (result ≡ Ok tt) × (self.new ≡ self.old) × (net.new ≡ net.old) }
         ensures takes { N.take_faults net.new ≡ N.take_faults net.old }
     {
         match self {
@@ -530,7 +535,8 @@ impl<K: Kit, N: Net> Lodged<K, N> {
             .join(alloc, net, store, yard, port, at, link, rights)
     }
 
-    /// The links of its views are released and packed, in whatever house. How many links ended.
+    /// The links of its views are released and packed, in whatever house; what is held as refused has
+    /// none. How many links ended.
     pub fn pack(&mut self, net: &mut N) -> Result<u64, Memory>
         ensures packs { (served : Served) (s : BrokersHeard K.Scene N.Link)
             (house : BrokersHouse K.Scene N.Link) (front back : BrokersDocs K.Scene N.Link)
@@ -541,13 +547,16 @@ impl<K: Kit, N: Net> Lodged<K, N> {
             (IsOk result) false
             (in_house house front self.new back (house.ended + count_of result))
             (with_net s (N.told net.new)) }
+        ensures refused { is_live_slot self.old.1 ≡ false
+            → (result ≡ Ok 0) × (self.new ≡ self.old) × (net.new ≡ net.old) }
         ensures same { self.new.0 ≡ self.old.0 }
         ensures takes { N.take_faults net.new ≡ N.take_faults net.old }
     {
         self.kept.pack(net)
     }
 
-    /// Its packed links are adopted, in order, in whatever house.
+    /// Its packed links are adopted, in order, in whatever house; what is held as refused has
+    /// none.
     pub fn adopt(&mut self, alloc: Global, net: &mut N) -> Result<(), Memory>
         ensures adopts { (served : Served) (s : BrokersHeard K.Scene N.Link)
             (house : BrokersHouse K.Scene N.Link) (front back : BrokersDocs K.Scene N.Link)
@@ -557,6 +566,8 @@ impl<K: Kit, N: Net> Lodged<K, N> {
             (in_house house front self.old back house.ended) (with_net s (N.told net.old))
             (IsOk result) false (in_house house front self.new back house.ended)
             (with_net s (N.told net.new)) }
+        ensures refused { is_live_slot self.old.1 ≡ false
+            → (result ≡ Ok tt) × (self.new ≡ self.old) × (net.new ≡ net.old) }
         ensures same { self.new.0 ≡ self.old.0 }
         ensures takes { N.take_faults net.new ≡ N.take_faults net.old }
     {

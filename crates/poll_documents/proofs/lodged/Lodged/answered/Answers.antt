@@ -2,7 +2,7 @@ use Rattle.poll_instance.specs.Instance.{ways}
 use Rattle.poll_machine.specs.House.{Answered as MailAnswered}
 use Rattle.poll_machine.specs.Turn.{reads}
 use Rattle.poll_documents.specs.Outside.{answer_in}
-use Rattle.poll_documents.proofs.Keeping.{does_lodged}
+use Rattle.poll_documents.proofs.Answering.{does_lodged}
 use Rattle.poll_documents.proofs.lodged.Lodged.answered.Goals as goal
 
 pub returns-clause-answers : goal.returns-clause-answers
