@@ -188,7 +188,7 @@ ends_there {D} {J} {P} {L} w carries house front id slot back answer s was now f
     (record { net = refl; port = (now, told, refl); store = refl; clock = refl; yard = refl }) refl)))
   where
     works : (given : Result (Unit {0}) CloseFault)
-        → is_work (OfDoc {D = D} {J = J} {P = P} {L = L} id house.moment (Ends given)) ≡ is_ok given
+        → is_work {D = D} {J = J} {P = P} {L = L} (OfDoc id house.moment (Ends given)) ≡ is_ok given
     works (Ok u) = refl
     works (Err why) = refl
 
@@ -308,7 +308,7 @@ pub ready_may : {D J P L : Type 0} (w : Ways D J P) (p : ℕ × Slot D J P L)
 ready_may {D} {J} {P} {L} w (id, Live old) before true q after (z, is, done, free, r) =
     subst (λ (x : ℕ × Slot D J P L). MayEnd w x.1) (sym is)
     (subst (λ (h : HeldDocument D J P L). MayEnd w (Live h)) (sym r.is) (done, free, refl))
-ready_may {D} {J} {P} {L} w (id, Live old) before false q after (z, is, done, free, none, stays, same) =
+ready_may {D} {J} {P} {L} w (id, Live old) before false q after (z, is, done, free, (none, stays, same)) =
     subst (λ (x : ℕ × Slot D J P L). MayEnd w x.1) (sym is)
     (subst (λ (h : HeldDocument D J P L). MayEnd w (Live h)) (sym stays) (done, free, none))
 ready_may {D} {J} {P} {L} w (id, Refused file refusal) before unlocked q after (none, stays, same) =
@@ -333,7 +333,7 @@ ready_closes {D} {J} {P} {L} w carries house front back (id, Live old) q s befor
     (λ (x : ℕ × Slot D J P L). Does w carries (ends id) (in_house house front x back house.ended)
     (with_store s after) fine closed new u) is ended)
 ready_closes {D} {J} {P} {L} w carries house front back (id, Live old) q s before after false fine
-    closed new u rises (z, is, done, free, none, stays, same) ended =
+    closed new u rises (z, is, done, free, (none, stays, same)) ended =
     closes_done w carries house front back id old (with_store s before) false
     (in_house house front (id, Live old) back house.ended) (with_store s before) fine closed new u
     rises done

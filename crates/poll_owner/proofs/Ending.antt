@@ -1,7 +1,9 @@
 -- What stands at a place of a house is closed, or stays.
 use Rattle.std.proofs.Common.{◌≡◌, ℕ, ◌+◌, ◌<◌, Bool, true, false, ◌||◌, List, [], ◌∷◌, ◌++◌, map}
 use Rattle.std.proofs.Common.{Option, None, Some, Result, Ok, Err, refl, ap, subst, sym, ◌∙◌, length}
-use Rattle.std.proofs.Common.{take, drop, set, get_or, arith}
+use Rattle.std.proofs.Common.{take, drop, set, get_or, arith, add-one}
+use Rattle.std.specs.List.{remove}
+use Rattle.std.specs.Option.{option_to_list}
 use Rattle.std.proofs.lemmas.List.{drop-map, drop-set-lt, get_or-set_same, map-append, take-map, take-set}
 use Rattle.cool_base.specs.declared.want.Memory.{Memory}
 use Rattle.hall_machine.specs.declared.words.CloseFault.{CloseFault}
@@ -19,7 +21,7 @@ use Rattle.poll_owner.specs.Locking.{Readies}
 use Rattle.poll_owner.specs.Outside.{with_store, with_port}
 use Rattle.poll_owner.proofs.Closing.{closed_house, ends_there, is_ok, ready_broke, ready_closes}
 use Rattle.poll_owner.proofs.Closing.{ready_may, ready_stays, rises_without}
-use Rattle.poll_owner.proofs.Each.{does_at, id_is, item_at, rises_at, rises_set}
+use Rattle.poll_owner.proofs.Each.{does_at, id_is, item_at, one_there, rises_at, rises_set}
 use Rattle.poll_owner.proofs.Happening.{placed, replaced}
 
 -- what was done from the house with this at its place was done from the house
@@ -158,3 +160,32 @@ rises_out {D} {J} {P} {L} docs i within rises =
     let there : (p : ℕ × Slot D J P L) × (p ≡ get_or docs i p) = item_at docs i within in
     rises_without (take i docs) there.0.0 there.0.1 (drop (i + 1) docs)
     (rises_at docs i there.0 within there.1 rises)
+
+-- a list without the item at a place
+pub removed : {A : Type 0} (xs : List A) (i : ℕ) → remove xs i ≡ take i xs ++ drop (i + 1) xs
+removed {A} xs i = ap (λ (n : ℕ). take i xs ++ drop n xs) (sym (add-one i))
+
+-- the house without what stands at a place, once its file is noted where it is lost
+pub forgot : {D J P L : Type 0} (w : Ways D J P) (house : House D J P L) (i : ℕ)
+    (p q : ℕ × Slot D J P L) (docs : List (ℕ × Slot D J P L)) (lost : List (List ℕ))
+    (more : Option (List ℕ))
+    → i < length house.docs → q ≡ get_or house.docs i q → p ≡ get_or house.docs i p
+    → docs ≡ remove house.docs i → lost ≡ house.lost ++ option_to_list more
+    → option_to_list more ≡ lost_by w (Some q.1) (Ends (Ok tt))
+    → record house { docs = docs; lost = lost } ≡ record house {
+      docs = take i house.docs ++ drop (i + 1) house.docs;
+      lost = house.lost ++ lost_by w (Some p.1) (Ends (Ok tt));
+    }
+forgot {D} {J} {P} {L} w house i p q docs lost more within first second out noted is =
+    ap (λ (xs : List (ℕ × Slot D J P L)). record house { docs = xs; lost = lost })
+    (out ∙ removed house.docs i)
+    ∙ ap
+    (λ (files : List (List ℕ)). record house {
+      docs = take i house.docs ++ drop (i + 1) house.docs;
+      lost = files;
+    })
+    (noted
+    ∙ ap (λ (files : List (List ℕ)). house.lost ++ files)
+    (is
+    ∙ ap (λ (x : ℕ × Slot D J P L). lost_by w (Some x.1) (Ends (Ok tt)))
+    (one_there house.docs i q p within first second)))

@@ -2,7 +2,7 @@
 use Rattle.std.proofs.Common.{◌≡◌, ◌≢◌, ℕ, ◌+◌, ◌<◌, ◌≤◌, Bool, true, false, List, [], ◌∷◌, ◌++◌, length}
 use Rattle.std.proofs.Common.{take, drop, get_or, zero, suc, Option, None, Some, nat_eq, cond, refl, ap, sym}
 use Rattle.std.proofs.Common.{subst, ◌∙◌, arith}
-use Rattle.std.specs.List.{AllByRecursion}
+use Rattle.std.specs.List.{AllByRecursion, insert}
 use Rattle.std.proofs.lemmas.List.{take_more, take_all, get_or_default, drop_all}
 use Rattle.std.proofs.lemmas.List.{take-append-drop}
 use Rattle.poll_machine.specs.House.{House, Slot, Rises, slot_of}
@@ -149,3 +149,31 @@ held_at {D} {J} {P} {L} old id slot i goes = record {
       ∙ gone (take i old.docs) id slot (drop i old.docs) (goes.order slot);
   is = refl;
 }
+
+-- the same once all were looked at
+pub goes_end : {D J P L : Type 0} (docs : List (ℕ × Slot D J P L)) (id i : ℕ)
+    → length docs ≤ i → Rises docs → AllBelow id (take i docs) → GoesAt docs id (length docs)
+goes_end {D} {J} {P} {L} docs id i past rises all =
+    goes_last docs id (length docs) (omega arith) (omega arith) rises
+    (subst (λ (xs : List (ℕ × Slot D J P L)). AllBelow id xs)
+    (take_all i docs past ∙ sym (take_all (length docs) docs (omega arith))) all)
+
+-- what goes there among the documents of a house is held there
+pub held_so : {D J P L : Type 0} (old : House D J P L) (id : ℕ) (slot : Slot D J P L) (i : ℕ)
+    (found docs : List (ℕ × Slot D J P L))
+    → found ≡ old.docs → GoesAt found id i → docs ≡ insert old.docs i (id, slot)
+    → HeldAt old id slot i (record old { docs = docs })
+held_so {D} {J} {P} {L} old id slot i found docs same goes is =
+    subst (λ (xs : List (ℕ × Slot D J P L)). HeldAt old id slot i (record old { docs = xs }))
+    (sym is)
+    (held_at old id slot i
+    (subst (λ (xs : List (ℕ × Slot D J P L)). GoesAt xs id i) same goes))
+
+-- and the ids rise
+pub rises_held : {D J P L : Type 0} (old found docs : List (ℕ × Slot D J P L)) (id : ℕ)
+    (slot : Slot D J P L) (i : ℕ)
+    → found ≡ old → GoesAt found id i → docs ≡ insert old i (id, slot) → Rises docs
+rises_held {D} {J} {P} {L} old found docs id slot i same goes is =
+    subst (λ (xs : List (ℕ × Slot D J P L)). Rises xs) (sym is)
+    (subst (λ (xs : List (ℕ × Slot D J P L)). Rises (take i xs ++ (id, slot) ∷ drop i xs)) same
+    (goes.order slot))

@@ -1,6 +1,8 @@
 use Rattle.std.proofs.Common.{◌<◌, length, refl, rules, subst, sym}
 use Rattle.poll_machine.specs.House.{Answered as MailAnswered}
+use Rattle.poll_instance.specs.Instance.{ways}
 use Rattle.poll_machine.specs.Turn.{reads}
+use Rattle.poll_owner.specs.Outside.{answer_in}
 use Rattle.poll_owner.proofs.Each.{does_failed, ids_stay, plan_at, rises_at, rises_set}
 use Rattle.poll_owner.proofs.house.House.answer_at.Goals as goal
 
@@ -28,7 +30,9 @@ returns-in_err-ended-clause-answers g c =
     rw (← c.self.view_is)
     (λ served s.
     does_failed _ _ _ _ _ _ c.from_residual.result _ _ _ _ _ (search rules)
-    (plan_at _ _ (λ id. reads _ id (MailAnswered _)) _ c.args.i c.index_mut-lodged.result.now c.answered.new.self _ _ _ _ _
+    (plan_at _ _ (λ id. reads (ways g.K.Kit.rules g.K.Kit.cut served) id
+    (MailAnswered
+    (answer_in (λ d. record { ticket = d.ticket.0; scene = d.scene }) c.args.answer.now))) _ c.args.i c.index_mut-lodged.result.now c.answered.new.self _ _ _ _ _
     (subst (λ (h : _). c.args.i < length h.docs) (sym c.self.view_is) c.requires)
     c.index_mut-lodged.ensures.value
     (c.in_err-ended.ensures.answers served s
@@ -52,7 +56,9 @@ returns-in_err-self-inside-clause-answers g c =
     rw (← c.self.view_is)
     (λ served s.
     does_failed _ _ _ _ _ _ c.from_residual-in_err-self-inside.result _ _ _ _ _ (search rules)
-    (plan_at _ _ (λ id. reads _ id (MailAnswered _)) _ c.args.i c.index_mut-lodged.result.now c.answered.new.self _ _ _ _ _
+    (plan_at _ _ (λ id. reads (ways g.K.Kit.rules g.K.Kit.cut served) id
+    (MailAnswered
+    (answer_in (λ d. record { ticket = d.ticket.0; scene = d.scene }) c.args.answer.now))) _ c.args.i c.index_mut-lodged.result.now c.answered.new.self _ _ _ _ _
     (subst (λ (h : _). c.args.i < length h.docs) (sym c.self.view_is) c.requires)
     c.index_mut-lodged.ensures.value
     (c.in_ok-ended.ensures.answers served s
@@ -75,7 +81,9 @@ pub returns-clause-answers : goal.returns-clause-answers
 returns-clause-answers g c =
     rw (← c.self.view_is, c.in_ok-self-inside.ensures)
     (λ served s.
-    (plan_at _ _ (λ id. reads _ id (MailAnswered _)) _ c.args.i c.index_mut-lodged.result.now c.answered.new.self _ _ _ _ _
+    (plan_at _ _ (λ id. reads (ways g.K.Kit.rules g.K.Kit.cut served) id
+    (MailAnswered
+    (answer_in (λ d. record { ticket = d.ticket.0; scene = d.scene }) c.args.answer.now))) _ c.args.i c.index_mut-lodged.result.now c.answered.new.self _ _ _ _ _
     (subst (λ (h : _). c.args.i < length h.docs) (sym c.self.view_is) c.requires)
     c.index_mut-lodged.ensures.value
     (c.in_ok-ended.ensures.answers served s

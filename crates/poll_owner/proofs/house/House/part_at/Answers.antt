@@ -5,10 +5,20 @@ use Rattle.poll_owner.proofs.Each.{done_at, rises_at, rises_set}
 use Rattle.poll_owner.proofs.house.House.part_at.Goals as goal
 
 pub part-requires : goal.part-requires
-part-requires g c =
-    c.requires.live c.index_mut-lodged.result.now
-    (subst (λ (h : _). c.index_mut-lodged.result.now ≡ get_or h.docs c.args.i c.index_mut-lodged.result.now)
-    c.self.view_is c.index_mut-lodged.ensures.value)
+part-requires g c = (
+  c.type_bounds.send-K,
+  (
+    c.type_bounds.send-K-Scene,
+    (
+      c.type_bounds.send-N-Link,
+      c.requires.live c.index_mut-lodged.result.now
+          (subst
+          (λ (h : _). c.index_mut-lodged.result.now
+          ≡ get_or h.docs c.args.i c.index_mut-lodged.result.now) c.self.view_is
+          c.index_mut-lodged.ensures.value),
+    ),
+  ),
+)
 
 pub invariant_of-self : goal.invariant_of-self
 invariant_of-self g c =
@@ -19,7 +29,7 @@ invariant_of-self g c =
 pub returns : goal.returns
 returns g c =
     rw (← c.self.view_is)
-    (λ served s p is.
+    (record { leaves = λ served s p is.
     done_at _ _ (λ id. did id (Left c.args.view.0)) _ c.args.i c.index_mut-lodged.result.now
     c.part.new.self p _ _ _ _ _
     (subst (λ (h : _). c.args.i < length h.docs) (sym c.self.view_is) c.requires.place)
@@ -37,4 +47,5 @@ returns g c =
     }) _ _
     (rises_at c.self.inside.docs.items c.args.i c.index_mut-lodged.result.now
     (subst (λ (h : _). c.args.i < length h.docs) (sym c.self.view_is) c.requires.place)
-    c.index_mut-lodged.ensures.value c.self.invariant)))
+    c.index_mut-lodged.ensures.value c.self.invariant));
+    })

@@ -1,4 +1,4 @@
-use Rattle.std.proofs.Common.{◌≡◌, ◌<◌, ◌∙◌, ℕ, length, take, refl, rules, subst, sym, arith}
+use Rattle.std.proofs.Common.{◌≡◌, ◌<◌, ◌≤◌, ◌∙◌, ℕ, length, take, refl, rules, subst, sym, arith}
 use Rattle.std.proofs.lemmas.List.{length-map}
 use Rattle.poll_machine.specs.Plans.{each}
 use Rattle.poll_machine.specs.Turn.{ids, refreshes}
@@ -15,20 +15,29 @@ loop-i-init g c = record {
 
 -- the place is one of what was held at first, and the ids are as they were
 pub refresh_at-requires : goal.refresh_at-requires
-refresh_at-requires g c =
-    subst (λ (n : ℕ). c.loop-i.i < n) (length-map c.loop-i.self.docs (λ (x : _). x.0))
-    (subst (λ (l : _). c.loop-i.i < length l) (sym c.loop-i.invariant.same)
-    (subst (λ (n : ℕ). c.loop-i.i < n) (sym (length-map c.args.self.now.docs (λ (x : _). x.0)))
-    (omega arith)))
+refresh_at-requires g c = (
+  c.type_bounds.send-K,
+  (
+    c.type_bounds.send-K-Scene,
+    (
+      c.type_bounds.send-N-Link,
+      subst (λ (n : ℕ). c.loop-i.i < n) (length-map c.loop-i.self.docs (λ (x : _). x.0))
+          (subst (λ (l : _). c.loop-i.i < length l) (sym c.loop-i.invariant.same)
+          (subst (λ (n : ℕ). c.loop-i.i < n)
+          (sym (length-map c.args.self.now.docs (λ (x : _). x.0)))
+          (subst (λ (h : _). c.loop-i.i < length h.docs) c.self.view_is (omega arith)))),
+    ),
+  ),
+)
 
 pub loop-i-preserved : goal.loop-i-preserved
 loop-i-preserved g c = record {
   does = λ served s.
-      rw c.either.ensures
+      rw c.either-refreshed.ensures
       (does_next _ _ refreshes c.args.self.now _ c.loop-i.i c.loop-i.refreshed c.loop-i.self _ _
       c.in_ok-due.due c.refresh_at.new.self _
       (subst (λ (n : ℕ). c.loop-i.i < n) (sym (length-map c.args.self.now.docs (λ (x : _). x.0)))
-      (omega arith))
+      (subst (λ (h : _). c.loop-i.i < length h.docs) c.self.view_is (omega arith)))
       c.loop-i.invariant.same (c.loop-i.invariant.does served s)
       (does_whole _ _ (refreshes (id_at c.loop-i.self c.loop-i.i)) c.loop-i.self _ _
       c.in_ok-due.due c.refresh_at.new.self _ refl (c.in_ok-due.ensures.refreshes served s)));
@@ -36,15 +45,20 @@ loop-i-preserved g c = record {
 }
 
 -- one of them was out of memory
-pub returns-in_err-due-clause-refreshes : goal.returns-in_err-due-clause-refreshes
-returns-in_err-due-clause-refreshes g c = λ served s.
+pub returns-in_err-due : goal.returns-in_err-due
+returns-in_err-due g c = record {
+  refreshes = λ served s.
     does_broke _ _ (each refreshes (take c.loop-i.i (ids c.args.self.now)))
     (refreshes (id_at c.loop-i.self c.loop-i.i)) _ c.args.self.now _ c.loop-i.refreshed c.loop-i.self _ _
     c.from_residual.result _ _ _ _ _ (search rules) (c.loop-i.invariant.does served s)
-    (c.in_err-due.ensures.refreshes served s)
+    (c.in_err-due.ensures.refreshes served s);
+}
 
 -- all of them were done
-pub returns-clause-refreshes : goal.returns-clause-refreshes
-returns-clause-refreshes g c = λ served s.
-    does_all _ _ refreshes c.args.self.now _ c.loop-i.i _ c.loop-i.refreshed c.loop-i.self _ (omega arith)
-    (does_fine _ _ _ _ _ _ _ _ _ (c.loop-i.invariant.does served s))
+pub returns : goal.returns
+returns g c = record {
+  refreshes = λ served s.
+    does_all _ _ refreshes c.args.self.now _ c.loop-i.i _ c.loop-i.refreshed c.loop-i.self _
+    (subst (λ (h : _). length h.docs ≤ c.loop-i.i) c.self.view_is (omega arith))
+    (does_fine _ _ _ _ _ _ _ _ _ (c.loop-i.invariant.does served s));
+}

@@ -94,7 +94,17 @@ returns-clause-says g c =
     c.index_mut-lodged.ensures.value c.self.invariant))))
 
 pub say-requires : goal.say-requires
-say-requires g c =
-    c.requires.live c.index_mut-lodged.result.now
-    (subst (λ (h : _). c.index_mut-lodged.result.now ≡ get_or h.docs c.args.i c.index_mut-lodged.result.now)
-    c.self.view_is c.index_mut-lodged.ensures.value)
+say-requires g c = (
+  c.type_bounds.send-K,
+  (
+    c.type_bounds.send-K-Scene,
+    (
+      c.type_bounds.send-N-Link,
+      c.requires.live c.index_mut-lodged.result.now
+          (subst
+          (λ (h : _). c.index_mut-lodged.result.now
+          ≡ get_or h.docs c.args.i c.index_mut-lodged.result.now) c.self.view_is
+          c.index_mut-lodged.ensures.value),
+    ),
+  ),
+)
