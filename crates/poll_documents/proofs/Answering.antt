@@ -15,10 +15,10 @@ use Rattle.poll_documents.proofs.Doing.{does_live}
 use Rattle.poll_documents.proofs.Turning.{befalls_there}
 
 -- an answer is by itself nothing that a turn did
-quiet : {J P L : Type 0} (answer : Answer P) (outs : Outs J)
+quiet : {J P : Type 0} (L : Type 0) (answer : Answer P) (outs : Outs J)
     → is_done_here {L = L} (Did (event_of answer) outs) ≡ false
-quiet (PaintDone result) outs = refl
-quiet (PutDone ticket answer) outs = refl
+quiet L (PaintDone result) outs = refl
+quiet L (PutDone ticket answer) outs = refl
 
 -- it comes to a document that is held
 answered_there : {D J P L : Type 0} (w : Ways D J P) (carries : L → List LinkEvent)
@@ -37,7 +37,7 @@ answered_there {D} {J} {P} {L} w carries house front back id old answer before r
     (in_house house front (id, Live new) back (house.ended + count_of result)) after
     (found front id (Live old) back rises)
     (befalls_there w carries house front back id old (event_of answer) before result new after false
-    rises (λ outs. quiet answer outs) befell)
+    rises (λ outs. quiet L answer outs) befell)
 
 -- the same of what is kept, at the moment of its house
 pub answered_kept : {D J P L : Type 0} (w : Ways D J P) (carries : L → List LinkEvent)

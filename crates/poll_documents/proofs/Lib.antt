@@ -9,3 +9,4 @@ pub mod Leaving
 pub mod Housing
 pub mod Joining
 pub mod Answering
+pub mod Keeping
