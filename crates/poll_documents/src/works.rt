@@ -1,6 +1,6 @@
 //! The works of a document: each is offered to the yard, and what the yard doesn't take is done at
 //! once, and its answer is taken.
-ghost use Rattle.std.specs.Prelude.{◌≡◌, ◌∷◌, ◌+◌, [], ℕ, List, Option, None, Err, map};
+ghost use Rattle.std.specs.Prelude.{◌≡◌, ◌∷◌, ◌+◌, ◌≤◌, ◌^◌, [], ℕ, List, Option, None, Err, map};
 ghost use Rattle.std.specs.Prelude.{IsSome, IsTrue, IfOk, OnOk, MatchOption, MatchResult, ◌↔◌};
 ghost use Rattle.std.specs.Option.{option_map};
 ghost use Rattle.document_machine.specs.Event.{PutAnswered};
@@ -35,9 +35,9 @@ pub(crate) struct At {
     pub moment: u64,
 }
 
-/// A sum of counts. One beyond 2^64 - 1 is answered as out of memory.
+/// A sum of counts. One beyond 2^64 - 1, and no other, is answered as out of memory.
 pub fn sum_of(count: u64, more: u64) -> Result<u64, Memory>
-    ensures { IfOk result (λ sum. sum ≡ count + more) }
+    ensures { MatchResult result (λ sum. sum ≡ count + more) (λ _. 2 ^ 64 ≤ count + more) }
 {
     match count.checked_add(more) {
         Some(sum) => Ok(sum),
