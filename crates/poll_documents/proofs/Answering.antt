@@ -1,6 +1,5 @@
 -- The answer to a work comes to what is held under an id.
 use Rattle.std.proofs.Common.{◌≡◌, ℕ, ◌+◌, Bool, false, List, ◌∷◌, ◌++◌, Result, IsOk, refl, subst, sym}
-use Rattle.std.proofs.Common.{ap, add-zero}
 use Rattle.cool_base.specs.declared.want.Memory.{Memory}
 use Rattle.net_traits.specs.Nets.{LinkEvent}
 use Rattle.poll_machine.specs.Words.{Answer, PaintDone, PutDone, Outs, Ways, event_of}
