@@ -1,7 +1,8 @@
 -- Where what is held under an id stands, and where something new goes.
 use Rattle.std.proofs.Common.{◌≡◌, ◌≢◌, ℕ, ◌+◌, ◌<◌, ◌≤◌, Bool, true, false, List, [], ◌∷◌, ◌++◌, length}
 use Rattle.std.proofs.Common.{take, drop, get_or, zero, suc, Option, None, Some, nat_eq, cond, refl, ap, sym}
-use Rattle.std.proofs.Common.{subst, ◌∙◌, arith}
+use Rattle.std.proofs.Common.{subst, ◌∙◌, add-one, arith}
+use Rattle.std.proofs.Math.Seq.{drop-cons}
 use Rattle.std.specs.List.{AllByRecursion, insert}
 use Rattle.std.proofs.lemmas.List.{take_more, take_all, get_or_default, drop_all}
 use Rattle.std.proofs.lemmas.List.{take-append-drop}
@@ -85,7 +86,7 @@ rises_before : {D J P L : Type 0} (front : List (ℕ × Slot D J P L)) (id : ℕ
     → Rises (front ++ q ∷ back) → AllBelow id front → id < q.0
     → Rises (front ++ (id, slot) ∷ (q ∷ back))
 rises_before [] id slot q back rises all less = (less, rises)
-rises_before (p ∷ []) id slot q back rises all less = (all.0, less, rises.1)
+rises_before (p ∷ []) id slot q back rises all less = (all.0, (less, rises.1))
 rises_before (p ∷ r ∷ front) id slot q back rises all less =
     (rises.0, rises_before (r ∷ front) id slot q back rises.1 all.1 less)
 
@@ -97,14 +98,11 @@ rises_last (p ∷ []) id slot rises all = (all.0, tt)
 rises_last (p ∷ r ∷ front) id slot rises all =
     (rises.0, rises_last (r ∷ front) id slot rises.1 all.1)
 
-none_below : (n : ℕ) → n < 0 → ⊥
-none_below n less = omega (arith, less)
-
 rest_at : {A : Type 0} (xs : List A) (k : ℕ) (q : A) → k < length xs → q ≡ get_or xs k q
     → drop k xs ≡ q ∷ drop (k + 1) xs
-rest_at [] k q within same = absurd (none_below k within)
-rest_at {A} (x ∷ xs) zero q within same = ap (λ (y : A). y ∷ xs) (sym same)
-rest_at (x ∷ xs) (suc k) q within same = rest_at xs k q (omega (arith, within)) same
+rest_at {A} xs k q within same =
+    drop-cons xs k q within ∙ ap (λ (y : A). y ∷ drop (suc k) xs) (sym same)
+    ∙ ap (λ (n : ℕ). q ∷ drop n xs) (sym (add-one k))
 
 -- in front of a greater one
 pub goes_before : {D J P L : Type 0} (docs : List (ℕ × Slot D J P L)) (id i : ℕ)

@@ -221,13 +221,14 @@ impl<K: Kit, N: Net> House<K, N> {
     // The document at this place is held no more, and where it is lost its file is noted.
     fn forget(&mut self, i: usize) -> Result<(), Memory>
         requires { i < length self.old.docs }
-        ensures { (served : Served) (p : ℕ × BrokersSlot K.Scene N.Link)
+        ensures forgets { (served : Served) (p : ℕ × BrokersSlot K.Scene N.Link)
             → p ≡ slice_index_or self.old.docs i p
             → OnOk result (self.new ≡ record self.old {
               docs = take i self.old.docs ++ drop (i + 1) self.old.docs;
               lost = self.old.lost
                   ++ lost_by (ways K.rules K.cut served) (Some p.1) (Ends (Ok tt));
             }) }
+        ensures left { OnOk result (ids self.new ≡ ids_left true i (ids self.old)) }
     {
         let lodged = &self.docs[i];
         let lost = lodged.lost_file();
