@@ -1,5 +1,5 @@
 -- A view that joined found room, and has the next id.
-use Rattle.std.proofs.Common.{◌≡◌, ℕ, ◌<◌, Bool, true, false, length, nat_le, Option, None, Some, refl}
+use Rattle.std.proofs.Common.{◌≡◌, ℕ, ◌<◌, true, false, length, nat_le, Option, None, Some, refl}
 use Rattle.std.proofs.Common.{arith, ◌+◌, List, [], ◌∷◌, ◌++◌, Result, Ok, Err, IsErr, add-zero, subst}
 use Rattle.std.proofs.Common.{sym}
 use Rattle.std.specs.Option.{option_map_or}

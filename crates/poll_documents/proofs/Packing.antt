@@ -1,28 +1,27 @@
 -- The links of a document's views are released, and those of a document that comes in are adopted.
 use Rattle.std.proofs.Common.{◌≡◌, ℕ, ◌+◌, ◌≤◌, ◌-◌, ◌==◌, Bool, true, false, not, cond, List, [], ◌∷◌}
 use Rattle.std.proofs.Common.{◌++◌, Option, None, Some, Result, Ok, Err, IsErr, IsOk, refl, ap, subst}
-use Rattle.std.proofs.Common.{sym, ◌∙◌, add_assoc, add-zero, length, filter, slice_get, true≢false, arith}
+use Rattle.std.proofs.Common.{sym, ◌∙◌, add_assoc, add-zero, length, filter, slice_get, arith}
 use Rattle.std.specs.List.{AllByRecursion}
 use Rattle.cool_base.specs.declared.ids.LinkId.{LinkId}
 use Rattle.cool_base.specs.declared.want.Memory.{Memory}
 use Rattle.net_traits.specs.Nets.{NetTold, LinkEvent, Tells, Releases as NetReleases}
 use Rattle.net_traits.specs.Nets.{Adopts as NetAdopts}
 use Rattle.poll_machine.specs.Words.{Left, nothing, Ways}
-use Rattle.poll_machine.specs.Agenda.{HeldDocument, HeldStep, Here, Leave, Leaves, Todo, ViewLink}
+use Rattle.poll_machine.specs.Agenda.{HeldDocument, Here, Leave, Leaves, Todo, ViewLink}
 use Rattle.poll_machine.specs.Agenda.{Releases, Adopts, link_of, released, without_view}
-use Rattle.poll_machine.specs.House.{Slot, Live, At, Happens, OfDoc, House, HouseStep, Rises, ends_by}
+use Rattle.poll_machine.specs.House.{Slot, Live, At, Happens, OfDoc, House, HouseStep, Rises}
 use Rattle.poll_machine.specs.House.{slot_of, is_free}
 use Rattle.poll_machine.specs.Lobby.{adopts, here_now, settles}
 use Rattle.poll_machine.specs.Plans.{Plan, Rests, Then, Learns, each}
 use Rattle.poll_machine.specs.Project.{HeldMove}
 use Rattle.poll_machine.specs.Runs.{Run}
-use Rattle.poll_machine.specs.Told.{Heard, Hears, link_named, was_given}
+use Rattle.poll_machine.specs.Told.{Heard, Hears, link_named}
 use Rattle.poll_machine.proofs.Carried.{hears_none}
 use Rattle.poll_machine.proofs.Lifted.{with_held, lifted, found, still_rises}
 use Rattle.poll_documents.specs.Doing.{Does, in_house}
-use Rattle.poll_documents.specs.Links.{AdoptsFirst, CutShort, FirstAdopted, FirstPacked, PacksFirst}
-use Rattle.poll_documents.specs.Links.{PacksView}
-use Rattle.poll_documents.specs.Links.{ViewPacked, packs, release_of}
+use Rattle.poll_documents.specs.Links.{AdoptsFirst, CutShort, FirstAdopted, FirstPacked}
+use Rattle.poll_documents.specs.Links.{PacksView, ViewPacked, packs, release_of}
 use Rattle.poll_documents.specs.Outside.{with_net}
 use Rattle.poll_documents.specs.Settling.{KeepsLobby, at_house, ended_by, timed}
 use Rattle.poll_documents.proofs.Doing.{does_rests, does_then, does_learns, does_cut}
@@ -72,8 +71,11 @@ released_there {D} {J} {P} {L} w carries house front back id ended pair (Some ca
     lifted w house front id old mid back house.lobby ended here rises step refl in
     let end : House D J P L = with_held house front id mid back house.lobby (ended + 0) in
     let free : is_free (slot_of id end.docs) ≡ true =
-    rw (found front id (Live mid) back (still_rises front id (Live old) (Live mid) back rises),
-    step.2, step.0)
+    rw (
+      found front id (Live mid) back (still_rises front id (Live old) (Live mid) back rises),
+      step.2,
+      step.0,
+    )
     refl in
     subst
     (λ (last : HeldDocument D J P L). Does w carries
@@ -116,8 +118,11 @@ released_there {D} {J} {P} {L} w carries house front back id ended pair None old
     let none : rest ≡ [] =
     tail_of pair.view rest (sym (ap (λ (h : HeldDocument D J P L). h.todo) step.2) ∙ owed) in
     let free : is_free (slot_of id end.docs) ≡ true =
-    rw (found front id (Live next) back (still_rises front id (Live mid) (Live next) back still),
-    is_next, none)
+    rw (
+      found front id (Live next) back (still_rises front id (Live mid) (Live next) back still),
+      is_next,
+      none,
+    )
     refl in
     subst
     (λ (last : HeldDocument D J P L). Does w carries
@@ -340,8 +345,7 @@ left_so {D} {J} {P} {L} w carries id moment old new pair s was now free settled 
               views = without_view old.views pair.view;
               todo = todo;
             })
-            free
-        ,
+            free,
       ),
       refl,
     ),
@@ -366,14 +370,6 @@ short_one {D} {J} {P} w carries id moment old new pair n before after p =
     (release_of pair p.gave, new, p.run, p.heard, release_keeps D J P pair p.gave)
 
 -- a call that was out of memory
-pub first_short : {D J P L : Type 0} (w : Ways D J P) (carries : L → List LinkEvent)
-    (id moment : ℕ) (old : HeldDocument D J P L) (before : Heard D J P L) (result : Result ℕ Memory)
-    (new : HeldDocument D J P L) (after : Heard D J P L)
-    → IsErr result → CutShort w carries id moment old before after
-    → PacksFirst w carries id moment old before result new after
-first_short w carries id moment old before (Ok n) new after none cut = cc
-first_short w carries id moment old before (Err memory) new after none cut = cut
-
 pub view_short : {D J P L : Type 0} (w : Ways D J P) (carries : L → List LinkEvent)
     (id moment : ℕ) (old : HeldDocument D J P L) (pair : ViewLink) (before : Heard D J P L)
     (result : Result ℕ Memory) (new : HeldDocument D J P L) (after : Heard D J P L)
@@ -526,8 +522,7 @@ adopted_cut {D} {J} {P} {L} w carries id moment old view carried link rest s was
     let new : HeldDocument D J P L = record old {
       packed = rest;
       views = old.views ++ record { view = view; link = link.0 } ∷ [];
-    } in
-    (
+    } in (
       Adopts view carried link.0 ∷ [],
       new,
       (new, (rest, free, packed, refl), refl),

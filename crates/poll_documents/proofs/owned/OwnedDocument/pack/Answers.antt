@@ -1,4 +1,4 @@
-use Rattle.std.proofs.Common.{◌≡◌, ◌+◌, ℕ, Result, Ok, IsOk, length, ap, refl, rules, arith, ◌∙◌}
+use Rattle.std.proofs.Common.{◌+◌, ℕ, Ok, IsOk, length, ap, refl, rules, arith}
 use Rattle.cool_base.specs.declared.want.Memory.{Memory}
 use Rattle.poll_machine.specs.House.{Live as LiveSlot}
 use Rattle.poll_machine.proofs.Lifted.{still_rises}
