@@ -17,3 +17,5 @@ pub mod Ending
 pub mod Loading
 pub mod Heeding
 pub mod Standing
+pub mod Posting
+pub mod Welcoming
