@@ -1,11 +1,11 @@
 -- The answer to a work comes to what is held under an id.
 use Rattle.std.proofs.Common.{◌≡◌, ℕ, ◌+◌, Bool, false, List, ◌∷◌, ◌++◌, Result, IsOk, refl, subst, sym}
-use Rattle.std.proofs.Common.{ap, add-zero}
 use Rattle.cool_base.specs.declared.want.Memory.{Memory}
 use Rattle.net_traits.specs.Nets.{LinkEvent}
 use Rattle.poll_machine.specs.Words.{Answer, PaintDone, PutDone, Outs, Ways, event_of}
 use Rattle.poll_machine.specs.Agenda.{HeldDocument, Did}
-use Rattle.poll_machine.specs.House.{Slot, Live, House, Rises, Answered}
+use Rattle.poll_machine.specs.House.{Slot, Live, House, Happens, Rises, Answered}
+use Rattle.poll_machine.specs.Plans.{Plan}
 use Rattle.poll_machine.specs.Told.{Heard}
 use Rattle.poll_machine.specs.Turn.{did, reads, is_done_here}
 use Rattle.poll_machine.proofs.Lifted.{found}
@@ -62,3 +62,22 @@ answered_kept {D} {J} {P} {L} w carries house front back id moment slot old answ
     (subst (λ (m : ℕ). Befalls w carries id m old (event_of answer) before result new after)
     (sym same) befell))
     rises
+
+-- a plan for what is held under an id is carried out where that stands by another spelling
+pub does_lodged : {D J P L : Type 0} (w : Ways D J P) (carries : L → List LinkEvent)
+    (plan : ℕ → Plan (House D J P L) (Happens D J P L)) (house : House D J P L)
+    (front back : List (ℕ × Slot D J P L)) (p q : ℕ × Slot D J P L) (before : Heard D J P L)
+    (fine : Type 0) (worked : Bool) (new : House D J P L) (after : Heard D J P L)
+    → p ≡ q
+    → (Rises (front ++ p ∷ back)
+    → Does w carries (plan p.0) (in_house house front p back house.ended) before fine worked new
+    after)
+    → Rises (front ++ q ∷ back)
+    → Does w carries (plan q.0) (in_house house front q back house.ended) before fine worked new
+    after
+does_lodged {D} {J} {P} {L} w carries plan house front back p q before fine worked new after same all =
+    subst
+    (λ (x : ℕ × Slot D J P L). Rises (front ++ x ∷ back)
+    → Does w carries (plan x.0) (in_house house front x back house.ended) before fine worked new
+    after)
+    same all

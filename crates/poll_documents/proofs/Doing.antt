@@ -6,7 +6,7 @@ use Rattle.std.proofs.lemmas.List.Folds.{list_any-append}
 use Rattle.net_traits.specs.Nets.{LinkEvent}
 use Rattle.poll_machine.specs.Words.{Ways}
 use Rattle.poll_machine.specs.Agenda.{HeldDocument}
-use Rattle.poll_machine.specs.House.{House, Happens, HouseStep, Slot, Live, Refused, slot_of}
+use Rattle.poll_machine.specs.House.{House, Happens, HouseStep, Slot, Live, slot_of}
 use Rattle.poll_machine.specs.Lobby.{for_live, live}
 use Rattle.poll_machine.specs.Plans.{Plan, Rests, Makes, Then, Learns, Looks}
 use Rattle.poll_machine.specs.Told.{Heard, Hears}

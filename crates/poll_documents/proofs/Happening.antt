@@ -1,6 +1,6 @@
 -- What happens to a document of a house, with all that is owed for it, carries out the house's plan.
-use Rattle.std.proofs.Common.{◌≡◌, ℕ, ◌+◌, ◌<◌, Bool, true, false, ◌||◌, List, [], ◌∷◌, ◌++◌, map, refl}
-use Rattle.std.proofs.Common.{ap, subst, sym, ◌∙◌, add_assoc, length, take, drop, set, get_or}
+use Rattle.std.proofs.Common.{◌≡◌, ℕ, ◌+◌, ◌<◌, Bool, true, false, ◌||◌, List, [], ◌∷◌, ◌++◌, refl}
+use Rattle.std.proofs.Common.{ap, subst, sym, ◌∙◌, length, take, drop, set, get_or}
 use Rattle.std.proofs.Common.{take-append-drop, ◌==◌, arith}
 use Rattle.std.proofs.lemmas.List.{append-nil, take-set, drop-set, set-get_or}
 use Rattle.std.specs.List.{AllByRecursion, list_any}
@@ -18,7 +18,7 @@ use Rattle.poll_machine.specs.Turn.{is_work, is_fault, is_done_here}
 use Rattle.poll_machine.proofs.Carried.{hears_more}
 use Rattle.poll_machine.proofs.Lifted.{with_held, lifted, found, still_rises}
 use Rattle.poll_documents.specs.Doing.{Does}
-use Rattle.poll_documents.specs.Settling.{Passes, Stops, owing, timed, at_house, ended_by}
+use Rattle.poll_documents.specs.Settling.{Passes, Stops, owing, timed, at_house}
 use Rattle.poll_documents.proofs.Doing.{does_makes, does_looks}
 use Rattle.poll_documents.proofs.Housing.{house_run}
 

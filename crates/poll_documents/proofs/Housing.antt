@@ -1,11 +1,10 @@
 -- What is done to a document is done in its house.
-use Rattle.std.proofs.Common.{◌≡◌, ℕ, ◌+◌, List, [], ◌∷◌, ◌++◌, map, refl, ap, subst, sym, ◌∙◌}
+use Rattle.std.proofs.Common.{◌≡◌, ℕ, ◌+◌, List, [], ◌∷◌, ◌++◌, ap, subst, ◌∙◌}
 use Rattle.std.proofs.Common.{add_assoc, add-zero}
 use Rattle.std.specs.List.{AllByRecursion}
 use Rattle.poll_machine.specs.Words.{Ways}
 use Rattle.poll_machine.specs.Agenda.{HeldDocument, Here}
-use Rattle.poll_machine.specs.House.{Slot, Live, At, Happens, OfDoc, House, HouseStep, Rises, ends_by}
-use Rattle.poll_machine.specs.House.{lobby_after}
+use Rattle.poll_machine.specs.House.{Slot, Live, At, OfDoc, House, HouseStep, Rises, ends_by}
 use Rattle.poll_machine.specs.Project.{HeldMove}
 use Rattle.poll_machine.specs.Runs.{Run}
 use Rattle.poll_machine.proofs.Lifted.{with_held, lifted, still_rises}

@@ -9,4 +9,3 @@ pub mod Leaving
 pub mod Housing
 pub mod Joining
 pub mod Answering
-pub mod Keeping

@@ -1,6 +1,6 @@
 -- What befalls a document of a house carries out the house's plan.
-use Rattle.std.proofs.Common.{◌≡◌, ℕ, ◌+◌, Bool, true, false, List, [], ◌∷◌, ◌++◌, Option, Some}
-use Rattle.std.proofs.Common.{Result, Ok, Err, IsOk, inl, inr, refl, ap, subst, sym, ◌∙◌, add-zero}
+use Rattle.std.proofs.Common.{◌≡◌, ℕ, ◌+◌, Bool, false, List, [], ◌∷◌, ◌++◌, Option}
+use Rattle.std.proofs.Common.{Result, Ok, Err, IsOk, inl, inr, refl, subst, sym, add-zero}
 use Rattle.std.proofs.Common.{OnOk, true≢false}
 use Rattle.cool_base.specs.declared.want.Memory.{Memory}
 use Rattle.net_traits.specs.Nets.{LinkEvent}
@@ -12,7 +12,7 @@ use Rattle.poll_machine.specs.Plans.{Plan, Rests, Learns}
 use Rattle.poll_machine.specs.Told.{Heard}
 use Rattle.poll_machine.specs.Turn.{did, turns, is_done_here}
 use Rattle.poll_machine.proofs.Lifted.{found}
-use Rattle.poll_documents.specs.Befalling.{Befell, CutOff, Broke, Befalls, Turns}
+use Rattle.poll_documents.specs.Befalling.{Befell, Broke, Befalls, Turns}
 use Rattle.poll_documents.specs.Doing.{Does, count_of, in_house, worked_in, ended_in}
 use Rattle.poll_documents.proofs.Doing.{does_rests, does_learns, does_looks, does_cut, does_live}
 use Rattle.poll_documents.proofs.Happening.{happened, happened_in_part}

@@ -1,6 +1,8 @@
 -- What a house of brokers holds.
 use Rattle.std.specs.Prelude.{◌≡◌, ◌<◌, ℕ, Bool, true, false, List, length, get_or, Option, Some}
+use Rattle.std.specs.Option.{option_map_or}
 use Rattle.document_machine.specs.Held.{Held}
+use Rattle.document_machine.specs.State.{is_live}
 use Rattle.kit_trait.specs.declared.jobs.PaintJob.{PaintJob}
 use Rattle.poll_instance.specs.Instance.{Painting}
 use Rattle.poll_machine.specs.Agenda.{HeldDocument}
@@ -33,3 +35,8 @@ pub record IsPlace {D J P L : Type 0} (docs : List (ℕ × Slot D J P L)) (link 
   pub within : i < length docs
   pub found : (p : ℕ × Slot D J P L) → p ≡ get_or docs i p
       → (view_in docs link ≡ Some (p.0, view)) × (is_live_slot p.1 ≡ true)
+
+-- whether a document is held of whose broker this is a view
+abbrev pub has_view : {S J P L : Type 0} → Slot (Option (Held S)) J P L → ℕ → Bool
+has_view (Live h) view = option_map_or (λ held. is_live held.document.views view) h.doc false
+has_view (Refused file refusal) view = false

@@ -1,6 +1,8 @@
 //! An event befalls a document, and all that is owed for it is done: a text, a leave, a turn, an
 //! answer that was posted.
-ghost use Rattle.std.specs.Prelude.{◌≡◌, [], ℕ, List, Option, IsSome, OnOk};
+ghost use Rattle.std.specs.Prelude.{◌≡◌, [], ℕ, List, Option, IsSome, OnOk, OnErr, false};
+ghost use Rattle.std.specs.Option.{option_map_or};
+ghost use Rattle.document_machine.specs.State.{is_live};
 ghost use Rattle.load_address.specs.declared.served.Served.{Served};
 ghost use Rattle.poll_instance.specs.Instance.{ways};
 ghost use Rattle.poll_machine.specs.Words.{Said, Left, event_of};
@@ -79,6 +81,8 @@ impl<K: Kit, N: Net> OwnedDocument<K, N> {
         ensures befalls { OnOk result ((served : Served) (id moment : ℕ)
             (s : BrokersHeard K.Scene N.Link) → Befell (ways K.rules K.cut served) N.carried id
             moment self.old (Left view.0) s 0 self.new s) }
+        ensures missing { OnErr result
+            (option_map_or (λ held. is_live held.document.views view.0) self.old.doc false ≡ false) }
     {
         if !self.broker.is_live(view) {
             return Err(Memory);

@@ -1,6 +1,6 @@
 //! What a house holds under one id.
 ghost use Rattle.std.specs.Prelude.{◌≡◌, ◌∷◌, ◌++◌, ◌+◌, ℕ, List, Option, Some, Ok, IsOk};
-ghost use Rattle.std.specs.Prelude.{true, false};
+ghost use Rattle.std.specs.Prelude.{OnErr, true, false};
 ghost use Rattle.std.specs.Option.{option_map, option_to_list};
 ghost use Rattle.load_address.specs.declared.served.Served.{Served};
 ghost use Rattle.poll_instance.specs.Instance.{ways};
@@ -12,7 +12,8 @@ ghost use Rattle.poll_machine.specs.Words.{Left, Said};
 ghost use Rattle.poll_documents.specs.Doing.{Does, count_of, in_house, worked_in, ended_in, found_in};
 ghost use Rattle.poll_documents.specs.Links.{JoinsIn, packs, refusal_of};
 ghost use Rattle.poll_documents.specs.Locking.{Readies};
-ghost use Rattle.poll_documents.specs.Lodging.{BrokersHouse, BrokersDocs, is_live_slot, slot_in};
+ghost use Rattle.poll_documents.specs.Lodging.{BrokersHouse, BrokersDocs, has_view, is_live_slot};
+ghost use Rattle.poll_documents.specs.Lodging.{slot_in};
 ghost use Rattle.poll_documents.specs.Outside.{BrokerHeld, BrokersHeard, answer_in, outside, with_net};
 ghost use Rattle.poll_documents.specs.Outside.{with_store};
 
@@ -141,7 +142,7 @@ impl<K: Kit, N: Net> Kept<OwnedDocument<K, N>, Refusal> {
         }
     }
 
-    // A view leaves.
+    // A view leaves. Memory is answered only where the broker has no such view.
     fn part(&mut self, view: ViewId) -> Result<(), Memory>
         requires { is_live_slot (slot_in self.old) ≡ true }
         ensures leaves { (served : Served) (id : ℕ) (s : BrokersHeard K.Scene N.Link)
@@ -150,6 +151,7 @@ impl<K: Kit, N: Net> Kept<OwnedDocument<K, N>, Refusal> {
             → Does (ways K.rules K.cut served) N.carried (did id (Left view.0))
             (in_house house front (id, slot_in self.old) back house.ended) s (IsOk result) false
             (in_house house front (id, slot_in self.new) back house.ended) s }
+        ensures missing { OnErr result (has_view (slot_in self.old) view.0 ≡ false) }
     {
         match self {
             Kept::Live(owned) => owned.leave(view),
@@ -219,7 +221,8 @@ impl<K: Kit, N: Net> Kept<OwnedDocument<K, N>, Refusal> {
         }
     }
 
-    // The links of its views are released and packed. How many links ended.
+    // The links of its views are released and packed; what is held as refused has none. How many
+    // links ended.
     fn pack(&mut self, net: &mut N) -> Result<u64, Memory>
         ensures packs { (served : Served) (id : ℕ) (s : BrokersHeard K.Scene N.Link)
             (house : BrokersHouse K.Scene N.Link) (front back : BrokersDocs K.Scene N.Link)
@@ -230,6 +233,8 @@ impl<K: Kit, N: Net> Kept<OwnedDocument<K, N>, Refusal> {
             (with_net s (N.told net.old)) (IsOk result) false
             (in_house house front (id, slot_in self.new) back (house.ended + count_of result))
             (with_net s (N.told net.new)) }
+        ensures refused { is_live_slot (slot_in self.old) ≡ false
+            → (result ≡ Ok 0) × (self.new ≡ self.old) × (net.new ≡ net.old) }
         ensures takes { N.take_faults net.new ≡ N.take_faults net.old }
     {
         match self {
@@ -238,7 +243,7 @@ impl<K: Kit, N: Net> Kept<OwnedDocument<K, N>, Refusal> {
         }
     }
 
-    // The packed links are adopted, in order.
+    // The packed links are adopted, in order; what is held as refused has none.
     fn adopt(&mut self, alloc: Global, net: &mut N) -> Result<(), Memory>
         ensures adopts { (served : Served) (id : ℕ) (s : BrokersHeard K.Scene N.Link)
             (house : BrokersHouse K.Scene N.Link) (front back : BrokersDocs K.Scene N.Link)
@@ -249,6 +254,8 @@ impl<K: Kit, N: Net> Kept<OwnedDocument<K, N>, Refusal> {
             (with_net s (N.told net.old)) (IsOk result) false
             (in_house house front (id, slot_in self.new) back house.ended)
             (with_net s (N.told net.new)) }
+        ensures refused { is_live_slot (slot_in self.old) ≡ false
+            → (result ≡ Ok tt) × (self.new ≡ self.old) × (net.new ≡ net.old) }
         ensures takes { N.take_faults net.new ≡ N.take_faults net.old }
     {
         match self {
@@ -477,7 +484,8 @@ impl<K: Kit, N: Net> Lodged<K, N> {
         self.kept.say(alloc, net, store, yard, port, at, view, text)
     }
 
-    /// A view leaves, in whatever house.
+    /// A view leaves, in whatever house. Memory is answered only where the document's broker has no
+    /// such view.
     pub fn part(&mut self, view: ViewId) -> Result<(), Memory>
         requires { is_live_slot self.old.1 ≡ true }
         ensures leaves { (served : Served) (s : BrokersHeard K.Scene N.Link)
@@ -486,6 +494,7 @@ impl<K: Kit, N: Net> Lodged<K, N> {
             → Does (ways K.rules K.cut served) N.carried (did self.old.0 (Left view.0))
             (in_house house front self.old back house.ended) s (IsOk result) false
             (in_house house front self.new back house.ended) s }
+        ensures missing { OnErr result (has_view self.old.1 view.0 ≡ false) }
         ensures same { self.new.0 ≡ self.old.0 }
     {
         self.kept.part(view)
@@ -530,7 +539,8 @@ impl<K: Kit, N: Net> Lodged<K, N> {
             .join(alloc, net, store, yard, port, at, link, rights)
     }
 
-    /// The links of its views are released and packed, in whatever house. How many links ended.
+    /// The links of its views are released and packed, in whatever house; what is held as refused has
+    /// none. How many links ended.
     pub fn pack(&mut self, net: &mut N) -> Result<u64, Memory>
         ensures packs { (served : Served) (s : BrokersHeard K.Scene N.Link)
             (house : BrokersHouse K.Scene N.Link) (front back : BrokersDocs K.Scene N.Link)
@@ -541,13 +551,16 @@ impl<K: Kit, N: Net> Lodged<K, N> {
             (IsOk result) false
             (in_house house front self.new back (house.ended + count_of result))
             (with_net s (N.told net.new)) }
+        ensures refused { is_live_slot self.old.1 ≡ false
+            → (result ≡ Ok 0) × (self.new ≡ self.old) × (net.new ≡ net.old) }
         ensures same { self.new.0 ≡ self.old.0 }
         ensures takes { N.take_faults net.new ≡ N.take_faults net.old }
     {
         self.kept.pack(net)
     }
 
-    /// Its packed links are adopted, in order, in whatever house.
+    /// Its packed links are adopted, in order, in whatever house; what is held as refused has
+    /// none.
     pub fn adopt(&mut self, alloc: Global, net: &mut N) -> Result<(), Memory>
         ensures adopts { (served : Served) (s : BrokersHeard K.Scene N.Link)
             (house : BrokersHouse K.Scene N.Link) (front back : BrokersDocs K.Scene N.Link)
@@ -557,6 +570,8 @@ impl<K: Kit, N: Net> Lodged<K, N> {
             (in_house house front self.old back house.ended) (with_net s (N.told net.old))
             (IsOk result) false (in_house house front self.new back house.ended)
             (with_net s (N.told net.new)) }
+        ensures refused { is_live_slot self.old.1 ≡ false
+            → (result ≡ Ok tt) × (self.new ≡ self.old) × (net.new ≡ net.old) }
         ensures same { self.new.0 ≡ self.old.0 }
         ensures takes { N.take_faults net.new ≡ N.take_faults net.old }
     {
