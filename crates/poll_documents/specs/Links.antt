@@ -59,8 +59,8 @@ abbrev pub release_of : {J P L : Type 0} → ViewLink → Option L → List (Her
 release_of pair (Some carried) = Releases pair.view pair.link (Some carried) ∷ []
 release_of pair None = Releases pair.view pair.link None ∷ Leaves pair.view ∷ []
 
--- out of memory, at most one release was made, which leaves the lobby, and the document goes no
--- further
+-- out of memory: some steps of the document were made, for exactly which the outside was called and
+-- which leave the lobby, and it goes no further
 abbrev pub CutShort : {D J P L : Type 0} → Ways D J P → (L → List LinkEvent) → (id moment : ℕ)
     → HeldDocument D J P L → Heard D J P L → Heard D J P L → Type 0
 CutShort {D} {J} {P} {L} w carries id moment old before after =
@@ -79,7 +79,7 @@ pub record ViewPacked {D J P L : Type 0} (w : Ways D J P) (carries : L → List 
   pub heard : Hears w carries before (at_house id moment (release_of pair gave)) after
   pub counted : ended_by D {J = J} {P = P} (release_of pair gave) ≡ ended
 
--- the same where the call was fine
+-- the same where the call was fine; out of memory, it was cut short
 abbrev pub PacksView : {D J P L : Type 0} → Ways D J P → (L → List LinkEvent) → (id moment : ℕ)
     → HeldDocument D J P L → ViewLink → Heard D J P L → Result ℕ Memory → HeldDocument D J P L
     → Heard D J P L → Type 0
@@ -100,7 +100,7 @@ pub record FirstPacked {D J P L : Type 0} (w : Ways D J P) (carries : L → List
   pub heard : Hears w carries before (at_house id moment (release_of pair gave)) after
   pub counted : ended_by D {J = J} {P = P} (release_of pair gave) ≡ ended
 
--- the same where the call was fine
+-- the same where the call was fine; out of memory, it was cut short
 abbrev pub PacksFirst : {D J P L : Type 0} → Ways D J P → (L → List LinkEvent) → (id moment : ℕ)
     → HeldDocument D J P L → Heard D J P L → Result ℕ Memory → HeldDocument D J P L
     → Heard D J P L → Type 0
@@ -121,7 +121,7 @@ pub record FirstAdopted {D J P L : Type 0} (w : Ways D J P) (carries : L → Lis
   pub step : HeldStep w moment old (Adopts view carried link) new
   pub heard : Hears w carries before (OfDoc id moment (At (Adopts view carried link)) ∷ []) after
 
--- the same where the call was fine; out of memory, nothing was called, or that was done
+-- the same where the call was fine; out of memory, it was cut short
 abbrev pub AdoptsFirst : {D J P L : Type 0} → Ways D J P → (L → List LinkEvent) → (id moment : ℕ)
     → HeldDocument D J P L → Heard D J P L → Result (Unit {0}) Memory → HeldDocument D J P L
     → Heard D J P L → Type 0
