@@ -1,6 +1,7 @@
 -- A link of the lobby is posted to the poll that holds its document.
 use Rattle.std.proofs.Common.{◌≡◌, ℕ, ◌+◌, Bool, true, false, List, [], ◌∷◌, Option, None, Some}
 use Rattle.std.proofs.Common.{Result, Ok, Err, IsOk, IsErr, MatchResult, refl, ap, subst, sym, ◌∙◌}
+use Rattle.cool_base.specs.declared.ids.LinkId.{LinkId}
 use Rattle.document_machine.specs.declared.rights.Rights.{Rights}
 use Rattle.hall_machine.specs.declared.words.HallFault.{HallFault}
 use Rattle.hall_machine.specs.declared.words.HallFault.TheVariants.{Memory as NoMemory}
@@ -17,9 +18,11 @@ use Rattle.poll_machine.specs.Lobby.{comes_back, posts, there}
 use Rattle.poll_machine.specs.Plans.{Plan, Makes, Rests, Then}
 use Rattle.poll_machine.specs.Told.{Heard, PortStep, link_named, was_given}
 use Rattle.poll_owner.specs.Doing.{Does}
-use Rattle.poll_owner.specs.Outside.{mail_label, with_net, with_port}
+use Rattle.poll_owner.specs.Loading.{comes_again}
+use Rattle.poll_owner.specs.Outside.{letter_in, mail_label, with_net, with_port}
+use Rattle.poll_owner.specs.declared.parcels.Letter.{Letter}
+use Rattle.poll_owner.specs.declared.parcels.Letter.TheVariants as letter
 use Rattle.poll_owner.proofs.Doing.{does_cut, does_learns, does_makes, does_rests, does_then}
-use Rattle.poll_owner.proofs.Each.{does_failed}
 use Rattle.poll_owner.proofs.Loading.{port_then}
 
 -- a link is posted, with this answer of the port
@@ -152,28 +155,60 @@ post_then {D} {J} {P} {L} w carries link id rights gave carried answer house s w
     (comes_back carried answer) mid (with_net s now) port seen fine worked new t asked rest)))
 
 -- it was posted, and then the call was out of memory
-pub post_cut : {D J P L A E : Type 0} (w : Ways D J P) (carries : L → List LinkEvent) (link id : ℕ)
+pub post_cut : {D J P L : Type 0} (w : Ways D J P) (carries : L → List LinkEvent) (link id : ℕ)
     (rights : Rights) (gave : Option L) (carried : L) (answer : Result (Unit {0}) HallFault)
     (house : House D J P L) (s : Heard D J P L) (was now : Option NetTold)
-    (port seen : PortView (Parcel D L) (Mail P L)) (result : Result A E) (worked : Bool)
+    (port seen : PortView (Parcel D L) (Mail P L)) (fine : Type 0) (worked : Bool)
     (end : House D J P L)
-    → IsErr result → is_among link house.lobby ≡ true → gave ≡ Some carried
+    → (fine → ⊥) → is_among link house.lobby ≡ true → gave ≡ Some carried
     → Tells (λ (a b : NetTold). Releases a (link_named link) (was_given gave) b) was now
     → PortStep w port (Posts id (Join link carried rights) false answer) seen
-    → Does w carries (there w link id rights None) house (with_port (with_net s was) port)
-    (IsOk result) worked end (with_port (with_net s now) seen)
-post_cut {D} {J} {P} {L} w carries link id rights gave carried answer house s was now port seen result
-    worked end none waits is told asked =
+    → Does w carries (there w link id rights None) house (with_port (with_net s was) port) fine
+    worked end (with_port (with_net s now) seen)
+post_cut {D} {J} {P} {L} w carries link id rights gave carried answer house s was now port seen fine
+    worked end never waits is told asked =
     let mid : House D J P L = record house { lobby = without_link link house.lobby } in
-    does_failed w carries (there w link id rights None) house (with_port (with_net s was) port) ⊥
-    result worked worked end end (with_port (with_net s now) seen) none
-    (post_then w carries link id rights gave carried answer house s was now port seen ⊥ worked end
+    post_then w carries link id rights gave carried answer house s was now port seen fine worked end
     (with_port (with_net s now) seen) waits is told asked
     (does_cut w carries Rests (comes_back carried answer) mid (with_port (with_net s now) seen)
-    (Unit {0}) ⊥ false worked mid end (with_port (with_net s now) seen) (λ f. f)
-    (does_rests w carries mid (with_port (with_net s now) seen) (Unit {0}))))
+    (Unit {0}) fine false worked mid end (with_port (with_net s now) seen) never
+    (does_rests w carries mid (with_port (with_net s now) seen) (Unit {0})))
 
--- a letter that is this join brings this link
-pub joins_with : {P L : Type 0} (link other : ℕ) (carried back : L) (rights more : Rights)
+-- a letter that is this join brings the link that was posted
+joins_with : {P L : Type 0} (link other : ℕ) (carried back : L) (rights more : Rights)
     → Join {P = P} link carried rights ≡ Join other back more → carried ≡ back
 joins_with link other carried back rights more is = cc
+
+pub brings_back : {D P L : Type 0} (painting : D → P) (found : Letter D L) (value : Mail P L)
+    (id : LinkId) (back : L) (more : Rights) (link : ℕ) (carried : L) (rights : Rights)
+    → found ≡ letter.Join id back more → letter_in painting found ≡ value
+    → value ≡ Join link carried rights → back ≡ carried
+brings_back {D} {P} {L} painting found value id back more link carried rights is seen handed_in =
+    joins_with id.0 link back carried more rights
+    (ap (λ (l : Letter D L). letter_in painting l) (sym is) ∙ seen ∙ handed_in)
+
+-- the link that the hall gave back is the one that was posted
+pub post_back : {D J P L : Type 0} (w : Ways D J P) (carries : L → List LinkEvent) (link id : ℕ)
+    (rights : Rights) (gave : Option L) (carried back : L) (why : HallFault)
+    (house : House D J P L) (lobby : List ℕ) (s : Heard D J P L) (was now : Option NetTold)
+    (port seen : PortView (Parcel D L) (Mail P L)) (fine : Type 0) (worked : Bool)
+    (new : House D J P L) (t : Heard D J P L)
+    → is_among link house.lobby ≡ true → gave ≡ Some carried
+    → Tells (λ (a b : NetTold). Releases a (link_named link) (was_given gave) b) was now
+    → PortStep w port (Posts id (Join link carried rights) false (Err why)) seen
+    → back ≡ carried → lobby ≡ without_link link house.lobby
+    → Does w carries (comes_again back why) (record house { lobby = lobby })
+    (with_net (with_port s seen) now) fine worked new t
+    → Does w carries (there w link id rights None) house (with_port (with_net s was) port) fine
+    worked new t
+post_back {D} {J} {P} {L} w carries link id rights gave carried back why house lobby s was now port seen
+    fine worked new t waits is told asked same out rest =
+    post_then w carries link id rights gave carried (Err why) house s was now port seen fine worked
+    new t waits is told asked
+    (subst
+    (λ (x : L). Does w carries (comes_again x why)
+    (record house { lobby = without_link link house.lobby }) (with_net (with_port s seen) now) fine
+    worked new t) same
+    (subst
+    (λ (links : List ℕ). Does w carries (comes_again back why) (record house { lobby = links })
+    (with_net (with_port s seen) now) fine worked new t) out rest))

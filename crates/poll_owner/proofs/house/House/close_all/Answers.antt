@@ -17,7 +17,7 @@ loop-k-init g c = record {
 
 -- as many are left as there were, so something stands here
 pub close_at-requires-after_bounds : goal.close_at-requires-after_bounds
-close_at-requires-after_bounds g c =
+close_at-requires-after_bounds g c = λ lifetimes bounds.
     stands_left c.args.self.now c.loop-k.self c.loop-k._k c.loop-k.i
     (subst (λ (h : _). c.loop-k._k < length h.docs) c.self.view_is (omega arith))
     c.loop-k.invariant.left
