@@ -38,13 +38,13 @@ not_due {D} {J} {P} {L} w carries moment id file (Some lock) house s fine due =
 was_due : {D J P L : Type 0} (w : Ways D J P) (carries : L → List LinkEvent)
     (house : House D J P L) (front back : List (ℕ × Slot D J P L)) (id : ℕ)
     (old new : HeldDocument D J P L) (s : Heard D J P L) (before after : Option (List StoreCall))
-    (fine : Type 0)
+    (fine : Type 0) (lacked : Bool)
     → Rises (front ++ (id, Live old) ∷ back) → old.todo ≡ []
-    → Refreshed house.moment old before new after
+    → Refreshed lacked house.moment old before new after
     → Does w carries (refreshes_lock house.moment id old.file old.lock)
     (in_house house front (id, Live old) back house.ended) (with_store s before) fine true
     (in_house house front (id, Live new) back house.ended) (with_store s after)
-was_due {D} {J} {P} {L} w carries house front back id old new s before after fine rises free r =
+was_due {D} {J} {P} {L} w carries house front back id old new s before after fine lacked rises free r =
     let start : House D J P L = in_house house front (id, Live old) back house.ended in
     let end : House D J P L = in_house house front (id, Live new) back house.ended in
     let next : Result (Unit {0}) StoreFault → Plan (House D J P L) (Happens D J P L) =
@@ -102,7 +102,7 @@ refreshes_there {D} {J} {P} {L} w carries house front back id old new s before r
         (in_house house front (id, Live old) back house.ended) (with_store s before)
         _ due)
     by_answer (Ok true) here =
-        was_due w carries house front back id old new s before after _
+        was_due w carries house front back id old new s before after _ false
         rises free here
     by_answer (Err memory) here =
         does_cut w carries (refreshes_lock house.moment id old.file old.lock)
@@ -111,7 +111,8 @@ refreshes_there {D} {J} {P} {L} w carries house front back id old new s before r
         _ true false
         (in_house house front (id, Live new) back house.ended)
         (in_house house front (id, Live new) back house.ended) (with_store s after) (λ f. true≢false (sym f))
-        (was_due w carries house front back id old new s before after (Unit {0}) rises free here)
+        (was_due w carries house front back id old new s before after (Unit {0}) true rises free
+        here)
 
 -- the same of what is kept, at the moment of its house
 pub refreshes_kept : {D J P L : Type 0} (w : Ways D J P) (carries : L → List LinkEvent)

@@ -1,9 +1,8 @@
 //! The lock of a document's file: it is refreshed, and released before the document is closed.
-ghost use Rattle.std.specs.Prelude.{◌≡◌, ◌↔◌, ◌+◌, IsTrue, Err, false, nat_le};
+ghost use Rattle.std.specs.Prelude.{◌≡◌, ◌+◌, false, nat_le};
 ghost use Rattle.std.specs.Option.{option_map_or};
 ghost use Rattle.document_machine.specs.Done.{is_done, is_lost};
-ghost use Rattle.outside.specs.declared.faults.StoreFault.TheVariants.{Memory as NoMemory};
-ghost use Rattle.poll_documents.specs.Locking.{RefreshesDue, ReleasesLock};
+ghost use Rattle.poll_documents.specs.Locking.{RefreshesDue, ReleasesLock, lacks_memory};
 
 use crate::owned::OwnedDocument;
 use cool_base::Memory;
@@ -14,7 +13,7 @@ use std::alloc::Global;
 
 // Whether the store answered that it had no memory.
 fn lacked_memory(answer: &Result<(), StoreFault>) -> bool
-    ensures { IsTrue result ↔ (answer.now ≡ Err NoMemory) }
+    ensures { result ≡ lacks_memory answer.now }
 {
     matches!(answer, Err(StoreFault::Memory))
 }
@@ -28,7 +27,7 @@ fn is_due(taken: u64, moment: u64) -> bool
 
 impl<K: Kit, N: Net> OwnedDocument<K, N> {
     /// Refreshes the lock once where it was taken or refreshed 600 seconds ago or earlier, whatever
-    /// the store answers, and whether it did so.
+    /// the store answers, and whether it did so. `Memory` exactly where the store answers it.
     pub(crate) fn refresh<H: Store>(
         &mut self,
         alloc: Global,
@@ -53,6 +52,7 @@ impl<K: Kit, N: Net> OwnedDocument<K, N> {
     }
 
     /// Releases the lock where there is one, whatever the store answers, and whether there was one.
+    /// `Memory` exactly where the store answers it.
     pub(crate) fn unlock<H: Store>(&mut self, alloc: Global, store: &mut H) -> Result<bool, Memory>
         ensures { ReleasesLock self.old (H.calls store.old) result self.new (H.calls store.new) }
     {
