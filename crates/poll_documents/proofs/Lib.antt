@@ -8,4 +8,5 @@ pub mod Refreshing
 pub mod Leaving
 pub mod Housing
 pub mod Joining
+pub mod Packing
 pub mod Answering

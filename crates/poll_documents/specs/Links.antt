@@ -2,12 +2,14 @@
 use Rattle.std.specs.Prelude.{◌≡◌, ℕ, ◌+◌, true, false, List, ◌∷◌}
 use Rattle.std.specs.Prelude.{[], Option, None, Some, Result}
 use Rattle.std.specs.Prelude.{Ok, Err, ⊤}
+use Rattle.std.specs.List.{AllByRecursion}
 use Rattle.cool_base.specs.declared.want.Memory.{Memory}
 use Rattle.document_machine.specs.declared.rights.Rights.{Rights}
 use Rattle.net_traits.specs.Nets.{LinkEvent}
 use Rattle.poll_machine.specs.Words.{Ways}
-use Rattle.poll_machine.specs.Agenda.{HeldDocument, Here, Joins, Leaves, Releases, ViewLink}
-use Rattle.poll_machine.specs.House.{House, Happens, Slot, Live, Refused}
+use Rattle.poll_machine.specs.Agenda.{HeldDocument, HeldStep, Here, Adopts, Joins, Leaves, Releases}
+use Rattle.poll_machine.specs.Agenda.{ViewLink, without_view}
+use Rattle.poll_machine.specs.House.{At, House, Happens, OfDoc, Slot, Live, Refused}
 use Rattle.poll_machine.specs.House.{Refusal}
 use Rattle.poll_machine.specs.House.{without_link}
 use Rattle.poll_machine.specs.Lobby.{happens_to}
@@ -17,7 +19,7 @@ use Rattle.poll_machine.specs.Project.{HeldMove}
 use Rattle.poll_machine.specs.Runs.{Run}
 use Rattle.poll_machine.specs.Told.{Heard, Hears}
 use Rattle.poll_documents.specs.Doing.{Does, in_house}
-use Rattle.poll_documents.specs.Settling.{at_house, ended_by, timed}
+use Rattle.poll_documents.specs.Settling.{KeepsLobby, at_house, ended_by, timed}
 
 -- a link of the lobby joined, so it waits there no more; or the document has all the views that it
 -- may have, and nothing happened; or, out of memory, a part of the join was done
@@ -57,6 +59,35 @@ abbrev pub release_of : {J P L : Type 0} → ViewLink → Option L → List (Her
 release_of pair (Some carried) = Releases pair.view pair.link (Some carried) ∷ []
 release_of pair None = Releases pair.view pair.link None ∷ Leaves pair.view ∷ []
 
+-- out of memory: some steps of the document were made, for exactly which the outside was called and
+-- which leave the lobby, and it goes no further
+abbrev pub CutShort : {D J P L : Type 0} → Ways D J P → (L → List LinkEvent) → (id moment : ℕ)
+    → HeldDocument D J P L → Heard D J P L → Heard D J P L → Type 0
+CutShort {D} {J} {P} {L} w carries id moment old before after =
+    (heres : List (Here J P L)) × (last : HeldDocument D J P L)
+    × Run (HeldMove w) old (timed moment heres) last
+    × Hears w carries before (at_house id moment heres) after
+    × ((links : List ℕ) → AllByRecursion (KeepsLobby D links) heres)
+
+-- the link of this view was released: it is packed, or the view left, and so many links ended
+pub record ViewPacked {D J P L : Type 0} (w : Ways D J P) (carries : L → List LinkEvent)
+    (id moment : ℕ) (old : HeldDocument D J P L) (pair : ViewLink) (before : Heard D J P L)
+    (ended : ℕ) (new : HeldDocument D J P L) (after : Heard D J P L) : Type 0 where
+  pub gave : Option L
+  pub views : new.views ≡ without_view old.views pair.view
+  pub run : Run (HeldMove w) old (timed moment (release_of pair gave)) new
+  pub heard : Hears w carries before (at_house id moment (release_of pair gave)) after
+  pub counted : ended_by D {J = J} {P = P} (release_of pair gave) ≡ ended
+
+-- the same where the call was fine; out of memory, it was cut short
+abbrev pub PacksView : {D J P L : Type 0} → Ways D J P → (L → List LinkEvent) → (id moment : ℕ)
+    → HeldDocument D J P L → ViewLink → Heard D J P L → Result ℕ Memory → HeldDocument D J P L
+    → Heard D J P L → Type 0
+PacksView w carries id moment old pair before (Ok ended) new after =
+    ViewPacked w carries id moment old pair before ended new after
+PacksView w carries id moment old pair before (Err memory) new after =
+    CutShort w carries id moment old before after
+
 -- the link of the view that came first was released: it is packed, or the view left, and so many
 -- links ended
 pub record FirstPacked {D J P L : Type 0} (w : Ways D J P) (carries : L → List LinkEvent)
@@ -69,14 +100,32 @@ pub record FirstPacked {D J P L : Type 0} (w : Ways D J P) (carries : L → List
   pub heard : Hears w carries before (at_house id moment (release_of pair gave)) after
   pub counted : ended_by D {J = J} {P = P} (release_of pair gave) ≡ ended
 
--- the same where the call was fine; out of memory, at most that release was made, and the document
--- goes no further
+-- the same where the call was fine; out of memory, it was cut short
 abbrev pub PacksFirst : {D J P L : Type 0} → Ways D J P → (L → List LinkEvent) → (id moment : ℕ)
     → HeldDocument D J P L → Heard D J P L → Result ℕ Memory → HeldDocument D J P L
     → Heard D J P L → Type 0
 PacksFirst w carries id moment old before (Ok ended) new after =
     FirstPacked w carries id moment old before ended new after
-PacksFirst {D} {J} {P} {L} w carries id moment old before (Err memory) new after =
-    (heres : List (Here J P L)) × (last : HeldDocument D J P L)
-    × Run (HeldMove w) old (timed moment heres) last
-    × Hears w carries before (at_house id moment heres) after
+PacksFirst w carries id moment old before (Err memory) new after =
+    CutShort w carries id moment old before after
+
+-- the link that was packed first is named and is the link of its view, and the net was called for
+-- exactly that
+pub record FirstAdopted {D J P L : Type 0} (w : Ways D J P) (carries : L → List LinkEvent)
+    (id moment : ℕ) (old : HeldDocument D J P L) (before : Heard D J P L)
+    (new : HeldDocument D J P L) (after : Heard D J P L) : Type 0 where
+  pub view : ℕ
+  pub carried : L
+  pub link : ℕ
+  pub packed : old.packed ≡ (view, carried) ∷ new.packed
+  pub step : HeldStep w moment old (Adopts view carried link) new
+  pub heard : Hears w carries before (OfDoc id moment (At (Adopts view carried link)) ∷ []) after
+
+-- the same where the call was fine; out of memory, it was cut short
+abbrev pub AdoptsFirst : {D J P L : Type 0} → Ways D J P → (L → List LinkEvent) → (id moment : ℕ)
+    → HeldDocument D J P L → Heard D J P L → Result (Unit {0}) Memory → HeldDocument D J P L
+    → Heard D J P L → Type 0
+AdoptsFirst w carries id moment old before (Ok u) new after =
+    FirstAdopted w carries id moment old before new after
+AdoptsFirst w carries id moment old before (Err memory) new after =
+    CutShort w carries id moment old before after

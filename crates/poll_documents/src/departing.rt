@@ -1,19 +1,20 @@
 //! A link joins a document, and a document departs to another poll or comes in from one: its links
 //! are packed, and adopted again.
 ghost use Rattle.std.specs.Prelude.{◌≡◌, ◌<◌, ◌+◌, ◌∷◌, ◌++◌, ℕ, List, Option, Some};
-ghost use Rattle.std.specs.Prelude.{true, false, IsOk};
+ghost use Rattle.std.specs.Prelude.{true, false, length, IsOk, IsSome, OnOk};
 ghost use Rattle.load_address.specs.declared.served.Served.{Served};
 ghost use Rattle.poll_instance.specs.Instance.{ways};
+ghost use Rattle.poll_machine.specs.Agenda.{link_of};
 ghost use Rattle.poll_machine.specs.House.{Live as LiveSlot, Rises, come_in, is_among, parcel_of};
 ghost use Rattle.poll_machine.specs.Lobby.{adopts};
 ghost use Rattle.poll_documents.specs.Doing.{Does, count_of, in_house};
-ghost use Rattle.poll_documents.specs.Links.{JoinsIn, PacksFirst, packs};
+ghost use Rattle.poll_documents.specs.Links.{AdoptsFirst, JoinsIn, PacksFirst, PacksView, packs};
 ghost use Rattle.poll_documents.specs.Lodging.{BrokersDocs, BrokersHouse};
 ghost use Rattle.poll_documents.specs.Outside.{BrokersHeard, outside, with_net};
 
 use crate::owned::OwnedDocument;
 use crate::parcels::{Mail, Parcel};
-use crate::works::{At, sum_of};
+use crate::works::{At, sum_of, take_first};
 use broker_core::JoinFault;
 use cool_base::{LinkId, Memory, ViewId};
 use document_machine::Rights;
@@ -66,6 +67,32 @@ impl<K: Kit, N: Net> OwnedDocument<K, N> {
         }
     }
 
+    // The link of a view is released and packed; a view whose link the net had no longer leaves. How
+    // many links ended.
+    fn pack_view(&mut self, net: &mut N, view: ViewId, link: LinkId) -> Result<u64, Memory>
+        requires alive { IsSome self.old.doc }
+        requires linked { link_of self.old.views view.0 ≡ Some link.0 }
+        ensures packs { (served : Served) (id moment : ℕ) (s : BrokersHeard K.Scene N.Link)
+            → PacksView (ways K.rules K.cut served) N.carried id moment self.old
+            (record { view = view.0; link = link.0 }) (with_net s (N.told net.old)) result self.new
+            (with_net s (N.told net.new)) }
+        ensures takes { N.take_faults net.new ≡ N.take_faults net.old }
+    {
+        self.owes_nothing();
+        match net.release(link) {
+            Some(carried) => {
+                self.packed.push((view.0, carried))?;
+                self.links.remove(view);
+                Ok(0)
+            }
+            None => {
+                self.drop_view(view);
+                self.owes_nothing();
+                Ok(1)
+            }
+        }
+    }
+
     // The link of the view that came first is released and packed; a view whose link the net had no
     // longer leaves. How many links ended. Each view stands once; a document of which that isn't so
     // goes no further.
@@ -73,6 +100,7 @@ impl<K: Kit, N: Net> OwnedDocument<K, N> {
         ensures packs { (served : Served) (id moment : ℕ) (s : BrokersHeard K.Scene N.Link)
             → PacksFirst (ways K.rules K.cut served) N.carried id moment self.old
             (with_net s (N.told net.old)) result self.new (with_net s (N.told net.new)) }
+        ensures left { OnOk result (length self.new.views + 1 ≡ length self.old.views) }
         ensures takes { N.take_faults net.new ≡ N.take_faults net.old }
     {
         let Some(first) = self.links.first() else {
@@ -81,23 +109,12 @@ impl<K: Kit, N: Net> OwnedDocument<K, N> {
         if !self.broker.is_live(first.view) {
             return Err(Memory);
         }
-        let left = self.links.count();
-        let ended = match net.release(first.link) {
-            Some(carried) => {
-                self.packed.push((first.view.0, carried))?;
-                self.links.remove(first.view);
-                0
-            }
-            None => {
-                self.drop_view(first.view);
-                1
-            }
-        };
-        if self.links.count() + 1 == left {
-            Ok(ended)
-        } else {
-            Err(Memory)
+        let left = self.links.count() - 1;
+        let ended = self.pack_view(net, first.view, first.link)?;
+        if self.links.count() != left {
+            return Err(Memory);
         }
+        Ok(ended)
     }
 
     /// The link of each view is released and packed, in order, in whatever house, and a view whose
@@ -121,6 +138,23 @@ impl<K: Kit, N: Net> OwnedDocument<K, N> {
         Ok(ended)
     }
 
+    // The link that was packed first is adopted.
+    fn adopt_first(&mut self, alloc: Global, net: &mut N) -> Result<(), Memory>
+        ensures adopts { (served : Served) (id moment : ℕ) (s : BrokersHeard K.Scene N.Link)
+            → AdoptsFirst (ways K.rules K.cut served) N.carried id moment self.old
+            (with_net s (N.told net.old)) result self.new (with_net s (N.told net.new)) }
+        ensures left { OnOk result (length self.new.packed + 1 ≡ length self.old.packed) }
+        ensures takes { N.take_faults net.new ≡ N.take_faults net.old }
+    {
+        self.owes_nothing();
+        let Some((view, carried)) = take_first(&mut self.packed) else {
+            return Err(Memory);
+        };
+        let link = net.adopt(alloc, carried)?;
+        self.links.push(ViewId(view), link)?;
+        Ok(())
+    }
+
     /// Every packed link is adopted, in order, in whatever house.
     pub(crate) fn adopt(&mut self, alloc: Global, net: &mut N) -> Result<(), Memory>
         ensures adopts { (served : Served) (id : ℕ) (s : BrokersHeard K.Scene N.Link)
@@ -134,9 +168,7 @@ impl<K: Kit, N: Net> OwnedDocument<K, N> {
         ensures takes { N.take_faults net.new ≡ N.take_faults net.old }
     {
         for _ in 0..self.packed.len() {
-            let (view, carried) = self.packed.remove(0);
-            let link = net.adopt(alloc, carried)?;
-            self.links.push(ViewId(view), link)?;
+            self.adopt_first(alloc, net)?;
         }
         Ok(())
     }

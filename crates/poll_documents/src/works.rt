@@ -45,9 +45,9 @@ pub fn sum_of(count: u64, more: u64) -> Result<u64, Memory>
     }
 }
 
-// The first of some works, taken out; None where there is none. An event gives out one job or one
-// errand at most, so little moves.
-fn take_first<W: Drop>(works: &mut Vec<W>) -> Option<W>
+/// The first of some items, taken out; None where there is none. An event gives out one job or one
+/// errand at most, and a document has few links, so little moves.
+pub(crate) fn take_first<W: Drop>(works: &mut Vec<W>) -> Option<W>
     ensures { MatchOption result ((works.old.items ≡ []) × (works.new.items ≡ []))
         (λ work. works.old.items ≡ work ∷ works.new.items) }
 {
