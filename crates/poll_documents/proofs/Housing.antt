@@ -1,5 +1,5 @@
 -- What is done to a document is done in its house.
-use Rattle.std.proofs.Common.{◌≡◌, ℕ, ◌+◌, List, [], ◌∷◌, ◌++◌, ap, subst, ◌∙◌}
+use Rattle.std.proofs.Common.{ℕ, ◌+◌, List, [], ◌∷◌, ◌++◌, ap, subst, ◌∙◌}
 use Rattle.std.proofs.Common.{add_assoc, add-zero}
 use Rattle.std.specs.List.{AllByRecursion}
 use Rattle.poll_machine.specs.Words.{Ways}

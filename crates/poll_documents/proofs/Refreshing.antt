@@ -1,5 +1,5 @@
 -- A due lock of a document of a house is refreshed as the plan says.
-use Rattle.std.proofs.Common.{◌≡◌, ℕ, ◌+◌, Bool, true, false, List, [], ◌∷◌, ◌++◌}
+use Rattle.std.proofs.Common.{◌≡◌, ℕ, Bool, true, false, List, [], ◌∷◌, ◌++◌}
 use Rattle.std.proofs.Common.{Option, None, Some, Result, Ok, Err, IsOk, refl, subst, sym}
 use Rattle.std.proofs.Common.{add-zero, true≢false}
 use Rattle.cool_base.specs.declared.want.Memory.{Memory}

@@ -1,5 +1,5 @@
 -- What befalls a document of a house carries out the house's plan.
-use Rattle.std.proofs.Common.{◌≡◌, ℕ, ◌+◌, Bool, false, List, [], ◌∷◌, ◌++◌, Option}
+use Rattle.std.proofs.Common.{◌≡◌, ℕ, ◌+◌, Bool, false, List, ◌∷◌, ◌++◌, Option}
 use Rattle.std.proofs.Common.{Result, Ok, Err, IsOk, inl, inr, refl, subst, sym, add-zero}
 use Rattle.std.proofs.Common.{OnOk, true≢false}
 use Rattle.cool_base.specs.declared.want.Memory.{Memory}

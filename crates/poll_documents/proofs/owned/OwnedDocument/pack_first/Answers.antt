@@ -1,4 +1,4 @@
-use Rattle.std.proofs.Common.{◌≡◌, Some, length, slice_get, ap, sym, subst, ◌∙◌, rules}
+use Rattle.std.proofs.Common.{◌≡◌, Some, length, slice_get, ap, sym, subst, ◌∙◌}
 use Rattle.poll_machine.specs.Agenda.{ViewLink, link_of}
 use Rattle.poll_instance.specs.Instance.{ways}
 use Rattle.poll_documents.specs.Links.{ViewPacked}
