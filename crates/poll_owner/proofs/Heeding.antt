@@ -1,19 +1,21 @@
 -- A text of a link is heeded: what the lobby does for it is what the poll is to do.
 use Rattle.std.proofs.Common.{◌≡◌, ℕ, ◌<◌, Bool, true, false, List, length, get_or, Option, None, Some, ap, subst}
-use Rattle.std.proofs.Common.{sym, ◌∙◌}
+use Rattle.std.proofs.Common.{Result, Ok, Err, IsOk, IsErr, sym, ◌∙◌, true≢false}
 use Rattle.cool_message.specs.Reading.{reading}
 use Rattle.net_traits.specs.Nets.{LinkEvent}
 use Rattle.poll_machine.specs.Words.{Left, Said, Ways}
 use Rattle.poll_machine.specs.House.{House, Happens, HouseStep, Slot, is_among, view_in}
-use Rattle.poll_machine.specs.Lobby.{hears}
+use Rattle.poll_machine.specs.Lobby.{hears, loads, shows}
 use Rattle.poll_machine.specs.Plans.{Plan, Rests, Looks, Follows, choose}
 use Rattle.poll_machine.specs.Told.{Heard}
 use Rattle.poll_machine.specs.Turn.{did, leaves, says}
 use Rattle.poll_lobby.specs.Acts.{act_for, plan_of}
+use Rattle.poll_lobby.specs.declared.acts.LobbyAct.{LobbyAct}
+use Rattle.poll_lobby.specs.declared.acts.LobbyAct.TheVariants.{Answer, Load}
 use Rattle.poll_lobby.proofs.Heard.{hears_so}
 use Rattle.poll_owner.specs.Doing.{Does}
 use Rattle.poll_owner.specs.Lodging.{IsPlace}
-use Rattle.poll_owner.proofs.Doing.{does_looks, does_rests}
+use Rattle.poll_owner.proofs.Doing.{does_cut, does_looks, does_rests}
 use Rattle.poll_owner.proofs.Each.{item_at}
 
 -- who carries out one plan carries out another, where each run of the first is one of the second
@@ -148,3 +150,39 @@ says_nothing {D} {J} {P} {L} w carries link text docs old s fine same none out =
     (subst
     (λ (waits : Bool). Does w carries (choose waits (hears w link text (reading text)) Rests) old s
     fine false old s) (sym out) (does_rests w carries old s fine)))
+
+-- the call was out of memory before it did anything
+pub done_nothing : {D J P L A E : Type 0} (w : Ways D J P) (carries : L → List LinkEvent)
+    (plan : Plan (House D J P L) (Happens D J P L)) (old : House D J P L) (s : Heard D J P L)
+    (result : Result A E) (worked : Bool) (end : House D J P L)
+    → IsErr result → Does w carries plan old s (IsOk result) worked end s
+done_nothing w carries plan old s (Ok a) worked end none = cc
+done_nothing w carries plan old s (Err e) worked end none =
+    does_cut w carries Rests plan old s (Unit {0}) _ false worked old end s (λ f. true≢false (sym f))
+    (does_rests w carries old s (Unit {0}))
+
+-- the text is answered with a frame
+pub hears_shown : {D J P L : Type 0} (w : Ways D J P) (carries : L → List LinkEvent) (link : ℕ)
+    (text frame given : List ℕ) (old : House D J P L) (s : Heard D J P L) (fine : Type 0)
+    (worked : Bool) (new : House D J P L) (t : Heard D J P L)
+    → Answer frame ≡ act_for text (reading text) → given ≡ frame
+    → Does w carries (shows link given) old s fine worked new t
+    → Does w carries (hears w link text (reading text)) old s fine worked new t
+hears_shown w carries link text frame given old s fine worked new t is same a =
+    does_hears w carries link text old s fine worked new t
+    (subst (λ (act : LobbyAct). Does w carries (plan_of w link act) old s fine worked new t) is
+    (subst (λ (bytes : List ℕ). Does w carries (shows link bytes) old s fine worked new t) same a))
+
+-- the text begins a load
+pub hears_load : {D J P L : Type 0} (w : Ways D J P) (carries : L → List LinkEvent) (link : ℕ)
+    (text url given : List ℕ) (old : House D J P L) (s : Heard D J P L) (fine : Type 0)
+    (worked : Bool) (new : House D J P L) (t : Heard D J P L)
+    → Load url ≡ act_for text (reading text) → given ≡ url
+    → Does w carries (loads w link (w.address given)) old s fine worked new t
+    → Does w carries (hears w link text (reading text)) old s fine worked new t
+hears_load w carries link text url given old s fine worked new t is same a =
+    does_hears w carries link text old s fine worked new t
+    (subst (λ (act : LobbyAct). Does w carries (plan_of w link act) old s fine worked new t) is
+    (subst
+    (λ (address : List ℕ). Does w carries (loads w link (w.address address)) old s fine worked new t)
+    same a))

@@ -1,6 +1,6 @@
 -- A link of the lobby is posted to the poll that holds its document.
 use Rattle.std.proofs.Common.{◌≡◌, ℕ, ◌+◌, Bool, true, false, List, [], ◌∷◌, Option, None, Some}
-use Rattle.std.proofs.Common.{Result, Ok, Err, IsOk, IsErr, MatchResult, refl, ap, subst, sym, ◌∙◌}
+use Rattle.std.proofs.Common.{Result, Ok, Err, IsOk, IsErr, MatchResult, inl, inr, refl, ap, subst, sym, ◌∙◌}
 use Rattle.cool_base.specs.declared.ids.LinkId.{LinkId}
 use Rattle.document_machine.specs.declared.rights.Rights.{Rights}
 use Rattle.hall_machine.specs.declared.words.HallFault.{HallFault}
@@ -45,7 +45,7 @@ pub handed_back : {D S L : Type 0} (was now : PortView (Parcel D L) (Mail (Paint
     (r : Refused (Mail (Painting S) L))
     → result ≡ Err r → PostFinds was id mail result now → r ≡ refused r.why mail
 handed_back was now id mail result r is told = elim told.answers.call [
-  inl says ↦ handed mail _ r (sym is ∙ says)
+  inl says ↦ handed mail _ r (sym is ∙ says.0)
   | inr lacks ↦ handed mail (Err NoMemory) r (sym is ∙ lacks.0)
 ]
 
@@ -175,17 +175,18 @@ post_cut {D} {J} {P} {L} w carries link id rights gave carried answer house s wa
     (does_rests w carries mid (with_port (with_net s now) seen) (Unit {0})))
 
 -- a letter that is this join brings the link that was posted
-joins_with : {P L : Type 0} (link other : ℕ) (carried back : L) (rights more : Rights)
-    → Join {P = P} link carried rights ≡ Join other back more → carried ≡ back
-joins_with link other carried back rights more is = cc
+joins_with : {P L : Type 0} (value : Mail P L) (link other : ℕ) (carried back : L)
+    (rights more : Rights)
+    → value ≡ Join link carried rights → value ≡ Join other back more → carried ≡ back
+joins_with value link other carried back rights more first second = cc
 
 pub brings_back : {D P L : Type 0} (painting : D → P) (found : Letter D L) (value : Mail P L)
     (id : LinkId) (back : L) (more : Rights) (link : ℕ) (carried : L) (rights : Rights)
     → found ≡ letter.Join id back more → letter_in painting found ≡ value
     → value ≡ Join link carried rights → back ≡ carried
 brings_back {D} {P} {L} painting found value id back more link carried rights is seen handed_in =
-    joins_with id.0 link back carried more rights
-    (ap (λ (l : Letter D L). letter_in painting l) (sym is) ∙ seen ∙ handed_in)
+    joins_with value id.0 link back carried more rights
+    (sym seen ∙ ap (λ (l : Letter D L). letter_in painting l) is) handed_in
 
 -- the link that the hall gave back is the one that was posted
 pub post_back : {D J P L : Type 0} (w : Ways D J P) (carries : L → List LinkEvent) (link id : ℕ)

@@ -1,7 +1,8 @@
 -- A link joins a document of the house, or is refused.
 use Rattle.std.proofs.Common.{◌≡◌, ℕ, ◌+◌, ◌<◌, Bool, true, false, List, [], ◌∷◌, ◌++◌, length}
-use Rattle.std.proofs.Common.{take, drop, set, get_or, Option, None, Some, Result, Ok, Err, IsOk, IsErr, ⊤}
+use Rattle.std.proofs.Common.{take, drop, set, get_or, Option, None, Some, Result, Ok, Err, IsOk, IsErr}
 use Rattle.std.proofs.Common.{refl, ap, subst, sym, ◌∙◌}
+use Rattle.std.specs.Bool.{⊤}
 use Rattle.std.proofs.lemmas.List.{set-get_or}
 use Rattle.cool_base.specs.declared.want.Memory.{Memory}
 use Rattle.cool_frame.specs.declared.kind.ErrorKind.TheVariants.{ViewsFull}
@@ -89,6 +90,13 @@ pub is_live : {D J P L : Type 0} (slot : Slot D J P L) → refusal_of slot ≡ N
 is_live (Live held) none = refl
 is_live (Refused file refusal) none = cc
 
+live_is : {D J P L : Type 0} (slot : Slot D J P L) (a b : HeldDocument D J P L)
+    → slot ≡ Live a → slot ≡ Live b → a ≡ b
+live_is slot a b first second = cc
+
+some_is : {A : Type 0} (found : Option A) (a b : A) → found ≡ Some a → found ≡ Some b → a ≡ b
+some_is found a b first second = cc
+
 -- a document that a view joined had room for it
 had_room : {D J P L : Type 0} (w : Ways D J P) (id link : ℕ) (rights : Rights)
     (old : House D J P L) (held : HeldDocument D J P L) (events : List (Happens D J P L))
@@ -96,7 +104,7 @@ had_room : {D J P L : Type 0} (w : Ways D J P) (id link : ℕ) (rights : Rights)
     → slot_of id old.docs ≡ Some (Live held)
     → Follows (HouseStep w) (happens_to id (λ outs. Joins link rights outs)) old events new
     → w.is_full held.doc ≡ false
-had_room {D} {J} {P} {L} w id link rights old held events new there
+had_room {D} {J} {P} {L} w id link rights old held events new here
     (outs, (mid, before, behind, split, (one, step), later)) =
     by_step (slot_of id mid.docs) step.one
   where
@@ -104,11 +112,9 @@ had_room {D} {J} {P} {L} w id link rights old held events new there
         → SlotStep w (slot_of id old.docs) (old.moment, At (Joins link rights outs)) after
         → w.is_full held.doc ≡ false
     by_step after (h, z, is, (doc, free, full, stepped, made), put) =
-        let same : h ≡ held = live_is h held (sym is ∙ there) in
-        subst (λ (x : HeldDocument D J P L). w.is_full x.doc ≡ false) same full
-    live_is : (a b : HeldDocument D J P L)
-        → Some (Live {D = D} {J = J} {P = P} {L = L} a) ≡ Some (Live b) → a ≡ b
-    live_is a b is = cc
+        subst (λ (x : HeldDocument D J P L). w.is_full x.doc ≡ false)
+        (live_is (Live held) h held
+        (some_is (slot_of id old.docs) (Live held) (Live h) here is) refl) full
 
 -- the house in which this stands at its place is the same
 same_house : {D J P L : Type 0} (house : House D J P L) (i : ℕ) (p : ℕ × Slot D J P L)

@@ -1,7 +1,8 @@
 use Rattle.std.proofs.Common.{◌≡◌, ◌<◌, ◌∙◌, length, get_or, true, refl, rules, subst, sym}
-use Rattle.poll_machine.specs.House.{is_among}
+use Rattle.poll_machine.specs.House.{Rises, is_among}
+use Rattle.poll_owner.specs.Outside.{outside}
 use Rattle.poll_owner.proofs.Each.{does_failed, ids_stay, rises_at, rises_set}
-use Rattle.poll_owner.proofs.Welcoming.{keeps_none, is_live, welcomes_cut, welcomes_full, welcomes_joined}
+use Rattle.poll_owner.proofs.Welcoming.{joins_so, keeps_none, welcomes_cut, welcomes_full, welcomes_joined}
 use Rattle.poll_owner.proofs.Welcoming.{welcomes_refused}
 use Rattle.poll_owner.proofs.house.House.join_at.Goals as goal
 
@@ -32,13 +33,16 @@ invariant_of-self-in-None g c =
 -- what is held as refused refuses the link
 pub returns-in-Some-clause-joins : goal.returns-in-Some-clause-joins
 returns-in-Some-clause-joins g c =
-    rw (← c.self.view_is)
-    (λ served clock.
-    welcomes_refused _ _ _ c.args.i c.index.result.now c.args.link.0 c.args.rights c.in-Some.refusal _ _
-    _ _ _
-    (subst (λ (h : _). c.args.i < length h.docs) (sym c.self.view_is) c.requires.place)
-    c.index.ensures c.self.invariant (sym c.refusal.ensures ∙ c.in-Some.is)
-    (rw (c.self.view_is) (c.refuse.ensures.refuses served _)))
+    λ served clock.
+    welcomes_refused _ _ c.args.self.now c.args.i c.index.result.now c.args.link.0 c.args.rights
+    c.in-Some.refusal _ _ _ _ _ c.requires.place
+    (subst (λ (h : _). c.index.result.now ≡ get_or h.docs c.args.i c.index.result.now)
+    c.self.view_is c.index.ensures)
+    (subst (λ (h : _). Rises h.docs) c.self.view_is c.self.invariant)
+    (sym c.refusal.ensures ∙ c.in-Some.is)
+    (c.refuse.ensures.refuses served
+    (outside (g.N.Net.told c.args.net.now) (g.P.Port.view c.args.port.now)
+    (g.H.Store.calls c.args.store.now) clock (g.Y.Yard.took c.args.yard.now)))
 
 -- it was out of memory
 pub returns-in_err-ended-clause-joins : goal.returns-in_err-ended-clause-joins
@@ -95,7 +99,7 @@ returns-in_err-self-inside-in-Some-2-clause-joins g c =
     c.index.ensures c.index_mut-lodged.ensures.value c.refusal.ensures c.in_default.is)
     refl refl
     (λ held is. joins_so _ _ _ _ _ _ _ held _ _ _ _ _ _ c.in-Some-2.is
-    ((λ held is. c.in_ok-ended.ensures.joins served clock
+    (c.in_ok-ended.ensures.joins served clock
     (record {
       me = c.self.inside.me;
       spread = c.self.inside.spread;
@@ -110,7 +114,7 @@ returns-in_err-self-inside-in-Some-2-clause-joins g c =
     is
     (rises_at c.self.inside.docs.items c.args.i c.index_mut-lodged.result.now
     (subst (λ (h : _). c.args.i < length h.docs) (sym c.self.view_is) c.requires.place)
-    c.index_mut-lodged.ensures.value c.self.invariant)) held is))))
+    c.index_mut-lodged.ensures.value c.self.invariant)))))
 
 pub returns-in_err-self-inside-in-Some-2-clause-same : goal.returns-in_err-self-inside-in-Some-2-clause-same
 returns-in_err-self-inside-in-Some-2-clause-same g c =
@@ -135,7 +139,7 @@ returns-in_ok-self-inside-in-Some-2-clause-joins g c =
     c.index.ensures c.index_mut-lodged.ensures.value c.refusal.ensures c.in_default.is)
     c.remove.ensures c.in_ok-self-inside-in-Some-2.ensures
     (λ held is. joins_so _ _ _ _ _ _ _ held _ _ _ _ _ _ c.in-Some-2.is
-    ((λ held is. c.in_ok-ended.ensures.joins served clock
+    (c.in_ok-ended.ensures.joins served clock
     (record {
       me = c.self.inside.me;
       spread = c.self.inside.spread;
@@ -150,7 +154,7 @@ returns-in_ok-self-inside-in-Some-2-clause-joins g c =
     is
     (rises_at c.self.inside.docs.items c.args.i c.index_mut-lodged.result.now
     (subst (λ (h : _). c.args.i < length h.docs) (sym c.self.view_is) c.requires.place)
-    c.index_mut-lodged.ensures.value c.self.invariant)) held is)))
+    c.index_mut-lodged.ensures.value c.self.invariant))))
 
 pub returns-in_ok-self-inside-in-Some-2-clause-same : goal.returns-in_ok-self-inside-in-Some-2-clause-same
 returns-in_ok-self-inside-in-Some-2-clause-same g c =
@@ -174,7 +178,7 @@ returns-in-None-clause-joins g c =
     c.index.ensures c.index_mut-lodged.ensures.value c.refusal.ensures c.in_default.is)
     c.of.ensures
     (λ held is. joins_so _ _ _ _ _ _ _ held _ _ _ _ _ _ c.in-None.is
-    ((λ held is. c.in_ok-ended.ensures.joins served clock
+    (c.in_ok-ended.ensures.joins served clock
     (record {
       me = c.self.inside.me;
       spread = c.self.inside.spread;
@@ -189,13 +193,15 @@ returns-in-None-clause-joins g c =
     is
     (rises_at c.self.inside.docs.items c.args.i c.index_mut-lodged.result.now
     (subst (λ (h : _). c.args.i < length h.docs) (sym c.self.view_is) c.requires.place)
-    c.index_mut-lodged.ensures.value c.self.invariant)) held is))
-    (c.refuse-2.ensures.refuses served _))
+    c.index_mut-lodged.ensures.value c.self.invariant)))
+    (c.refuse-in-None.ensures.refuses served
+    (outside (g.N.Net.told c.join.new.net) (g.P.Port.view c.join.new.port)
+    (g.H.Store.calls c.join.new.store) clock (g.Y.Yard.took c.join.new.yard))))
 
 pub returns-in-None-clause-same : goal.returns-in-None-clause-same
 returns-in-None-clause-same g c =
     rw (← c.self.view_is)
-    (c.refuse-2.ensures.same
+    (c.refuse-in-None.ensures.same
     ∙ ids_stay c.self.inside.docs.items c.args.i c.index_mut-lodged.result.now c.join.new.self
     (subst (λ (h : _). c.args.i < length h.docs) (sym c.self.view_is) c.requires.place)
     c.index_mut-lodged.ensures.value c.in_ok-ended.ensures.same)

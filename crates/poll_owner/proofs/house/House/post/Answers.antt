@@ -1,6 +1,7 @@
-use Rattle.std.proofs.Common.{◌≡◌, ◌∙◌, true, Ok, ap, rules, subst, sym, true≢false}
+use Rattle.std.proofs.Common.{◌≡◌, ◌∙◌, true, Ok, Err, ap, rules, subst, sym, true≢false}
 use Rattle.poll_instance.specs.Instance.{ways}
 use Rattle.poll_machine.specs.House.{is_among}
+use Rattle.poll_owner.specs.Outside.{with_port}
 use Rattle.poll_owner.proofs.Doing.{does_rests}
 use Rattle.poll_owner.proofs.Each.{does_failed}
 use Rattle.poll_owner.proofs.Posting.{brings_back, handed_back, post_back, post_cut, post_failed, post_none}
@@ -66,14 +67,15 @@ returns-in-Join-clause-posts g c =
     (ap (λ (r : _). r.value)
     (handed_back (g.P.Port.view c.args.port.now) (g.P.Port.view c.post.new.self) c.args.doc.0 _
     c.post.result c.in-Err.refused c.in-Err.is c.post.ensures)))
-    c.remove.ensures (c.take_back.ensures.takes_back served _))
+    c.remove.ensures
+    (c.take_back.ensures.takes_back served (with_port s (g.P.Port.view c.post.new.self))))
 
 -- no other letter was posted
 pub returns : goal.returns
 returns g c = record {
   posts = λ served s.
       post_cut _ _ c.args.link.0 c.args.doc.0 c.args.rights c.release-gave.result
-      c.in-Some.carried _ c.args.self.now s
+      c.in-Some.carried (Err c.in-Err.refused.why) c.args.self.now s
       (g.N.Net.told c.args.net.now) (g.N.Net.told c.release-gave.new.self)
       (g.P.Port.view c.args.port.now) (g.P.Port.view c.post.new.self) _ _ _
       (λ f. true≢false (sym f)) c.requires c.in-Some.is
