@@ -1,5 +1,6 @@
 -- The answer to a work comes to what is held under an id.
-use Rattle.std.proofs.Common.{◌≡◌, ℕ, ◌+◌, Bool, false, List, ◌∷◌, ◌++◌, Result, IsOk, refl, subst, sym}
+use Rattle.std.proofs.Common.{◌≡◌, ℕ, ◌+◌, Bool, false, List, ◌∷◌, ◌++◌, Result, IsOk, refl, subst}
+use Rattle.std.proofs.Common.{sym}
 use Rattle.cool_base.specs.declared.want.Memory.{Memory}
 use Rattle.net_traits.specs.Nets.{LinkEvent}
 use Rattle.poll_machine.specs.Words.{Answer, PaintDone, PutDone, Outs, Ways, event_of}
@@ -30,7 +31,8 @@ answered_there : {D J P L : Type 0} (w : Ways D J P) (carries : L → List LinkE
     → Does w carries (reads w id (Answered answer))
     (in_house house front (id, Live old) back house.ended) before (IsOk result) false
     (in_house house front (id, Live new) back (house.ended + count_of result)) after
-answered_there {D} {J} {P} {L} w carries house front back id old answer before result new after rises
+answered_there {D} {J} {P} {L} w carries house front back id old answer before result new after
+    rises
     befell =
     does_live w carries id (λ held. did id (event_of answer)) old
     (in_house house front (id, Live old) back house.ended) before (IsOk result) false
@@ -75,7 +77,8 @@ pub does_lodged : {D J P L : Type 0} (w : Ways D J P) (carries : L → List Link
     → Rises (front ++ q ∷ back)
     → Does w carries (plan q.0) (in_house house front q back house.ended) before fine worked new
     after
-does_lodged {D} {J} {P} {L} w carries plan house front back p q before fine worked new after same all =
+does_lodged {D} {J} {P} {L} w carries plan house front back p q before fine worked new after same
+    all =
     subst
     (λ (x : ℕ × Slot D J P L). Rises (front ++ x ∷ back)
     → Does w carries (plan x.0) (in_house house front x back house.ended) before fine worked new

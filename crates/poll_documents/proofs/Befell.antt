@@ -11,7 +11,8 @@ use Rattle.document_machine.specs.declared.outs.Turned.TheVariants.{Worked, Idle
 use Rattle.kit_trait.specs.declared.jobs.PaintJob.{PaintJob}
 use Rattle.net_traits.specs.Nets.{LinkEvent}
 use Rattle.poll_instance.specs.Instance.{did_work, given_out}
-use Rattle.poll_machine.specs.Words.{Event, Left, Outs, Answer, PaintDone, PutDone, event_of, nothing}
+use Rattle.poll_machine.specs.Words.{Event, Left, Outs, Answer, PaintDone, PutDone, event_of}
+use Rattle.poll_machine.specs.Words.{nothing}
 use Rattle.poll_machine.specs.Words.{Ways, Turned as TurnMade}
 use Rattle.poll_machine.specs.Agenda.{HeldDocument, HeldStep, Did, Todo, lock_after, todo_of}
 use Rattle.poll_machine.specs.Agenda.{without_view}
@@ -83,19 +84,22 @@ pub answer_befalls : {D S P L : Type 0} (w : Ways D (PaintJob S) P) (carries : L
     → new.todo ≡ []
     → Settles w carries id moment mid (map give_of frames) before result new after
     → Befalls w carries id moment old (event_of answer) before result new after
-answer_befalls {D} {S} {P} {L} w carries id moment old mid answer given frames before (Ok n) new after
+answer_befalls {D} {S} {P} {L} w carries id moment old mid answer given frames before
+    (Ok n) new after
     free step is alone same settled done = record {
       outs = given_out given;
       mid = mid;
       step = did_take w moment old mid answer (given_out given) free step is;
       done = subst
-          (λ (todo : List (Todo (PaintJob S) P)). Passes w carries id moment mid todo before n new []
+          (λ (todo : List (Todo
+          (PaintJob S) P)). Passes w carries id moment mid todo before n new []
           after)
           (ap (λ (xs : List (ViewId × Frame)). map give_of xs) same ∙ sym (owed_frames given alone))
           done;
       settled = settled;
     }
-answer_befalls {D} {S} {P} {L} w carries id moment old mid answer given frames before (Err memory) new
+answer_befalls {D} {S} {P} {L} w carries id moment old mid answer given frames before
+    (Err memory) new
     after free step is alone same settled done =
     inr
     (record {
@@ -122,7 +126,8 @@ pub answer_broke : {D S P L : Type 0} (w : Ways D (PaintJob S) P) (carries : L �
     → given ≡ frames_only given.frames → frames ≡ given.frames
     → Stops w carries id moment mid (map give_of frames) before after
     → Broke w carries id moment old before after
-answer_broke {D} {S} {P} {L} w carries id moment old mid answer given frames before after free step is
+answer_broke {D} {S} {P} {L} w carries id moment old mid answer given frames before after free step
+    is
     alone same done =
     inr
     (record {
@@ -165,7 +170,8 @@ pub worked_step : {D S P L : Type 0} (w : Ways D (PaintJob S) P) (moment : ℕ)
 worked_step {D} {S} {P} {L} w moment old mid turned given is step =
     subst
     (λ (t : TurnAnswer S). HeldStep w moment old
-    (Did (TurnMade (did_work t)) (given_out (outs_of t))) (owing mid (todo_of (given_out (outs_of t)))))
+    (Did (TurnMade (did_work t)) (given_out (outs_of t))) (owing mid (todo_of (given_out
+    (outs_of t)))))
     is step
 
 -- an idle one gave nothing out

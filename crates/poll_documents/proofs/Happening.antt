@@ -1,4 +1,5 @@
--- What happens to a document of a house, with all that is owed for it, carries out the house's plan.
+-- What happens to a document of a house, with all that is owed for it, carries out the house's
+-- plan.
 use Rattle.std.proofs.Common.{◌≡◌, ℕ, ◌+◌, ◌<◌, Bool, true, false, ◌||◌, List, [], ◌∷◌, ◌++◌, refl}
 use Rattle.std.proofs.Common.{ap, subst, sym, ◌∙◌, length, take, drop, set, get_or}
 use Rattle.std.proofs.Common.{take-append-drop, ◌==◌, arith}
@@ -7,7 +8,8 @@ use Rattle.std.specs.List.{AllByRecursion, list_any}
 use Rattle.net_traits.specs.Nets.{LinkEvent}
 use Rattle.poll_machine.specs.Words.{Ways, Outs}
 use Rattle.poll_machine.specs.Agenda.{HeldDocument, Todo, Here, HeldStep, todo_of}
-use Rattle.poll_machine.specs.House.{Slot, Live, At, Happens, OfDoc, House, HouseStep, Rises, ends_by}
+use Rattle.poll_machine.specs.House.{Slot, Live, At, Happens, OfDoc, House, HouseStep, Rises}
+use Rattle.poll_machine.specs.House.{ends_by}
 use Rattle.poll_machine.specs.House.{lobby_after, may_join, slot_of, is_free}
 use Rattle.poll_machine.specs.Lobby.{happens_to, here_now, is_at}
 use Rattle.poll_machine.specs.Plans.{Plan, Makes}
@@ -76,7 +78,8 @@ pub here_done : {D J P L : Type 0} (w : Ways D J P) (carries : L → List LinkEv
     (with_held house front id old back house.lobby house.ended) before fine (is_done_here here)
     (with_held house front id new back (lobby_after {D = D} (At here) house.lobby)
     (house.ended + ends_by {D = D} (At here))) after
-here_done {D} {J} {P} {L} w carries house front id old new back here before after fine rises step may
+here_done {D} {J} {P} {L} w carries house front id old new back here before after fine rises step
+    may
     heard =
     let start : House D J P L = with_held house front id old back house.lobby house.ended in
     let end : House D J P L =
@@ -124,7 +127,8 @@ event_run {D} {J} {P} {L} w carries house front id old mid last back here outs b
     (at_house id house.moment p.heres)
     (with_held house front id (owing last left) back lobby (ended + k)))
     p.counted
-    (house_run w house front id (owing mid (todo_of outs)) (owing last left) back lobby ended p.heres
+    (house_run w house front id (owing mid (todo_of outs))
+    (owing last left) back lobby ended p.heres
     (still_rises front id (Live old) (Live (owing mid (todo_of outs))) back rises)
     (p.lobby lobby) moves)
 
@@ -145,7 +149,8 @@ pub happened : {D J P L : Type 0} (w : Ways D J P) (carries : L → List LinkEve
     (is_done_here (what outs))
     (with_held house front id new back (lobby_after {D = D} (At (what outs)) house.lobby)
     (house.ended + ends_by {D = D} (At (what outs)) + n)) after
-happened {D} {J} {P} {L} w carries house front id old mid new back what outs before n after fine rises
+happened {D} {J} {P} {L} w carries house front id old mid new back what outs before n after fine
+    rises
     step may heard p settled =
     let lobby : List ℕ = lobby_after {D = D} (At (what outs)) house.lobby in
     let ended : ℕ = house.ended + ends_by {D = D} (At (what outs)) in
@@ -166,7 +171,11 @@ happened {D} {J} {P} {L} w carries house front id old mid new back what outs bef
     (event_run w carries house front id old mid new back (what outs) outs before n [] after rises
     step may p) in
     let free : is_free (slot_of id end.docs) ≡ true =
-    rw (found front id (Live new) back (still_rises front id (Live old) (Live new) back rises), settled)
+    rw (
+      found front id (Live new) back (still_rises front id (Live old)
+          (Live new) back rises),
+      settled,
+    )
     refl in
     record {
       carried = record {

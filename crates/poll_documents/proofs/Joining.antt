@@ -1,6 +1,7 @@
 -- A view that joined found room, and has the next id.
 use Rattle.std.proofs.Common.{◌≡◌, ℕ, ◌<◌, true, false, length, nat_le, Option, None, Some, refl}
-use Rattle.std.proofs.Common.{arith, ◌+◌, List, [], ◌∷◌, ◌++◌, Result, Ok, Err, IsErr, add-zero, subst}
+use Rattle.std.proofs.Common.{arith, ◌+◌, List, [], ◌∷◌, ◌++◌, Result, Ok, Err, IsErr, add-zero}
+use Rattle.std.proofs.Common.{subst}
 use Rattle.std.proofs.Common.{sym}
 use Rattle.std.specs.Option.{option_map_or}
 use Rattle.std.proofs.lemmas.Bool.Decides.{nat_tests}
@@ -54,7 +55,8 @@ pub joined : {D J P L : Type 0} (w : Ways D J P) (carries : L → List LinkEvent
     → Passes w carries id moment mid (todo_of outs) before n new [] after
     → new.todo ≡ []
     → JoinsIn w carries house id link rights front old back before (Ok (Some n)) (Live new) after
-joined {D} {J} {P} {L} w carries house front back id moment link rights old mid new outs before n after
+joined {D} {J} {P} {L} w carries house front back id moment link rights old mid new outs before n
+    after
     same among rises step passes settled =
     subst
     (λ (k : ℕ). Does w carries (happens_to id (λ outs. Joins link rights outs))
@@ -64,12 +66,15 @@ joined {D} {J} {P} {L} w carries house front back id moment link rights old mid 
     })
     after)
     (add-zero house.ended)
-    (happened w carries house front id old mid new back (λ outs. Joins link rights outs) outs before n
+    (happened w carries house front id old mid new back
+    (λ outs. Joins link rights outs) outs before n
     after (Unit {0}) rises
     (subst
-    (λ (m : ℕ). HeldStep w m old (Joins link rights outs) (owing mid (todo_of outs))) (sym same) step)
+    (λ (m : ℕ). HeldStep w m old (Joins link rights outs) (owing mid (todo_of outs)))
+    (sym same) step)
     among (record { net = refl; port = refl; store = refl; clock = refl; yard = refl })
-    (subst (λ (m : ℕ). Passes w carries id m mid (todo_of outs) before n new [] after) (sym same) passes)
+    (subst (λ (m : ℕ). Passes w carries id m mid (todo_of outs) before n new [] after)
+    (sym same) passes)
     settled)
 
 -- it joined, and a part of what came of it was done
@@ -83,15 +88,18 @@ pub joined_in_part : {D J P L : Type 0} (w : Ways D J P) (carries : L → List L
     → HeldStep w moment old (Joins link rights outs) (owing mid (todo_of outs))
     → Stops w carries id moment mid (todo_of outs) before after
     → JoinsIn w carries house id link rights front old back before result slot after
-joined_in_part w carries house front back id moment link rights old mid outs before (Ok n) slot after
+joined_in_part w carries house front back id moment link rights old mid outs before
+    (Ok n) slot after
     none same among rises step stops = cc
 joined_in_part {D} {J} {P} {L} w carries house front back id moment link rights old mid outs before
     (Err memory) slot after none same among rises step stops =
-    happened_in_part w carries house front id old mid back (Joins link rights outs) outs before after
+    happened_in_part w carries house front id old mid back
+    (Joins link rights outs) outs before after
     (happens_to id (λ outs. Joins link rights outs)) ⊥ false
     (in_house house front (id, Live old) back house.ended) (λ f. f) rises
     (subst
-    (λ (m : ℕ). HeldStep w m old (Joins link rights outs) (owing mid (todo_of outs))) (sym same) step)
+    (λ (m : ℕ). HeldStep w m old (Joins link rights outs) (owing mid (todo_of outs)))
+    (sym same) step)
     among (record { net = refl; port = refl; store = refl; clock = refl; yard = refl })
     (subst (λ (m : ℕ). Stops w carries id m mid (todo_of outs) before after) (sym same) stops)
 

@@ -1,6 +1,7 @@
 -- A view that a broker hasn't leaves it as it is.
 use Rattle.std.proofs.Common.{◌≡◌, ℕ, Bool, true, false, cond, List, [], ◌∷◌, Option, None}
-use Rattle.std.proofs.Common.{Some, Result, Ok, Err, IfOk, OnOk, nat_eq, refl, ap, ◌∙◌, sym, true≢false}
+use Rattle.std.proofs.Common.{Some, Result, Ok, Err, IfOk, OnOk, nat_eq, refl, ap, ◌∙◌, sym}
+use Rattle.std.proofs.Common.{true≢false}
 use Rattle.std.specs.Option.{is_some, option_map_or}
 use Rattle.kit_trait.specs.Rules.{Rules}
 use Rattle.tile_key.specs.Places.{Place}
@@ -13,7 +14,8 @@ use Rattle.document_machine.specs.Saves.{saving_left}
 use Rattle.document_machine.specs.State.{Document, View, find_view, is_live, without_view}
 
 -- the views without one that isn't there
-nobody_goes : (views : List View) (id : ℕ) → is_live views id ≡ false → without_view views id ≡ views
+nobody_goes : (views : List View) (id : ℕ) → is_live views id ≡ false
+    → without_view views id ≡ views
 nobody_goes [] id none = refl
 nobody_goes (view ∷ views) id none =
     by_test (nat_eq view.id id) none (λ later. nobody_goes views id later)

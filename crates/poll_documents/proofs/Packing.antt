@@ -1,6 +1,8 @@
 -- The links of a document's views are released, and those of a document that comes in are adopted.
-use Rattle.std.proofs.Common.{◌≡◌, ℕ, ◌+◌, ◌≤◌, ◌-◌, ◌==◌, Bool, true, false, not, cond, List, [], ◌∷◌}
-use Rattle.std.proofs.Common.{◌++◌, Option, None, Some, Result, Ok, Err, IsErr, IsOk, refl, ap, subst}
+use Rattle.std.proofs.Common.{◌≡◌, ℕ, ◌+◌, ◌≤◌, ◌-◌, ◌==◌, Bool, true, false, not, cond, List, []}
+use Rattle.std.proofs.Common.{◌∷◌}
+use Rattle.std.proofs.Common.{◌++◌, Option, None, Some, Result, Ok, Err, IsErr, IsOk, refl, ap}
+use Rattle.std.proofs.Common.{subst}
 use Rattle.std.proofs.Common.{sym, ◌∙◌, add_assoc, add-zero, length, filter, slice_get, arith}
 use Rattle.std.specs.List.{AllByRecursion}
 use Rattle.cool_base.specs.declared.ids.LinkId.{LinkId}
@@ -59,11 +61,13 @@ released_there : {D J P L : Type 0} (w : Ways D J P) (carries : L → List LinkE
     → Run (HeldMove w) old (timed house.moment (release_of pair gave)) new
     → Hears w carries before (at_house id house.moment (release_of pair gave)) after
     → Does w carries
-    (Learns (λ (gave : Option L). Then (here_now id (Releases pair.view pair.link gave)) (settles id)))
+    (Learns (λ (gave : Option L). Then (here_now id (Releases pair.view pair.link gave))
+    (settles id)))
     (in_house house front (id, Live old) back ended) before fine false
     (in_house house front (id, Live new) back
     (ended + ended_by D {J = J} {P = P} (release_of pair gave))) after
-released_there {D} {J} {P} {L} w carries house front back id ended pair (Some carried) old new before
+released_there {D} {J} {P} {L} w carries house front back id ended pair
+    (Some carried) old new before
     after fine rises (mid, step, is) heard =
     let here : Here J P L = Releases pair.view pair.link (Some carried) in
     let first : HouseStep w (with_held house front id old back house.lobby ended)
@@ -79,7 +83,8 @@ released_there {D} {J} {P} {L} w carries house front back id ended pair (Some ca
     refl in
     subst
     (λ (last : HeldDocument D J P L). Does w carries
-    (Learns (λ (gave : Option L). Then (here_now id (Releases pair.view pair.link gave)) (settles id)))
+    (Learns (λ (gave : Option L). Then (here_now id (Releases pair.view pair.link gave))
+    (settles id)))
     (in_house house front (id, Live old) back ended) before fine false
     (in_house house front (id, Live last) back (ended + 0)) after)
     (sym is)
@@ -97,7 +102,8 @@ released_there {D} {J} {P} {L} w carries house front back id ended pair (Some ca
       works = λ f. refl;
       faults = λ f. refl;
     })
-released_there {D} {J} {P} {L} w carries house front back id ended pair None old new before after fine
+released_there {D} {J} {P} {L} w carries house front back id ended pair None old new before after
+    fine
     rises (mid, step, (next, (rest, doc, owed, left, is_next), is)) heard =
     let here : Here J P L = Releases pair.view pair.link None in
     let then : Here J P L = Leaves pair.view in
@@ -126,7 +132,8 @@ released_there {D} {J} {P} {L} w carries house front back id ended pair None old
     refl in
     subst
     (λ (last : HeldDocument D J P L). Does w carries
-    (Learns (λ (gave : Option L). Then (here_now id (Releases pair.view pair.link gave)) (settles id)))
+    (Learns (λ (gave : Option L). Then (here_now id (Releases pair.view pair.link gave))
+    (settles id)))
     (in_house house front (id, Live old) back ended) before fine false
     (in_house house front (id, Live last) back (ended + 1)) after)
     (sym is)
@@ -164,9 +171,11 @@ pub packs_next : {D J P L : Type 0} (w : Ways D J P) (carries : L → List LinkE
     → FirstPacked w carries id house.moment old before n new between
     → Does w carries (packs id new) (in_house house front (id, Live new) back (ended + n)) between
     fine false end after
-    → Does w carries (packs id old) (in_house house front (id, Live old) back ended) before fine false
+    → Does w carries (packs id old) (in_house house front
+    (id, Live old) back ended) before fine false
     end after
-packs_next {D} {J} {P} {L} w carries house front back id ended n old new before between fine end after
+packs_next {D} {J} {P} {L} w carries house front back id ended n old new before between fine end
+    after
     rises p later =
     let plan : ViewLink → Plan (House D J P L) (Happens D J P L) = λ s. Learns
     (λ (gave : Option L). Then (here_now id (Releases s.view s.link gave)) (settles id)) in
@@ -177,14 +186,16 @@ packs_next {D} {J} {P} {L} w carries house front back id ended n old new before 
     (λ (k : ℕ). Does w carries (plan p.pair) (in_house house front (id, Live old) back ended) before
     (Unit {0}) false (in_house house front (id, Live new) back (ended + k)) between)
     p.counted
-    (released_there w carries house front back id ended p.pair p.gave old new before between (Unit {0})
+    (released_there w carries house front back id ended p.pair p.gave old new before between
+    (Unit {0})
     rises p.run p.heard) in
     subst
     (λ (views : List ViewLink). Does w carries (each plan views)
     (in_house house front (id, Live old) back ended) before fine false end after)
     (sym p.views)
     (does_then w carries (plan p.pair) (each plan new.views)
-    (in_house house front (id, Live old) back ended) before false mid between fine false end after one
+    (in_house house front
+    (id, Live old) back ended) before false mid between fine false end after one
     later)
 
 -- the same, where nothing more was done
@@ -194,11 +205,13 @@ pub packs_one : {D J P L : Type 0} (w : Ways D J P) (carries : L → List LinkEv
     (end : House D J P L)
     → (fine → ⊥) → Rises (front ++ (id, Live old) ∷ back)
     → FirstPacked w carries id house.moment old before n new between
-    → Does w carries (packs id old) (in_house house front (id, Live old) back ended) before fine false
+    → Does w carries (packs id old) (in_house house front
+    (id, Live old) back ended) before fine false
     end between
 packs_one w carries house front back id ended n old new before between fine end none rises p =
     packs_next w carries house front back id ended n old new before between fine end between rises p
-    (does_stop w carries (packs id new) (in_house house front (id, Live new) back (ended + n)) between
+    (does_stop w carries (packs id new) (in_house house front (id, Live new) back
+    (ended + n)) between
     fine false end none)
 
 -- a call that was cut off at one release
@@ -208,8 +221,10 @@ pub does_short : {D J P L : Type 0} (w : Ways D J P) (carries : L → List LinkE
     (before after : Heard D J P L) (fine : Type 0) (end : House D J P L)
     → (fine → ⊥) → Rises (front ++ (id, Live old) ∷ back)
     → CutShort w carries id house.moment old before after
-    → Does w carries plan (in_house house front (id, Live old) back ended) before fine false end after
-does_short {D} {J} {P} {L} w carries plan house front back id ended old before after fine end none rises
+    → Does w carries plan (in_house house front
+    (id, Live old) back ended) before fine false end after
+does_short {D} {J} {P} {L} w carries plan house front back id ended old before after fine end none
+    rises
     (heres, last, run, heard, keeps) = record {
       carried = record {
         events = at_house id house.moment heres;
@@ -232,7 +247,8 @@ packs_none {D} {J} {P} {L} w carries held id start s fine none =
     subst
     (λ (views : List ViewLink). Does w carries
     (each (λ p. Learns
-    (λ (gave : Option L). Then (here_now id (Releases p.view p.link gave)) (settles id))) views) start
+    (λ (gave : Option L). Then (here_now id (Releases p.view p.link gave))
+    (settles id))) views) start
     s fine false start s)
     (sym none) (does_rests w carries start s fine)
 
@@ -245,29 +261,35 @@ pub adopts_next : {D J P L : Type 0} (w : Ways D J P) (carries : L → List Link
     → FirstAdopted w carries id house.moment old before new between
     → Does w carries (adopts id new) (in_house house front (id, Live new) back house.ended) between
     fine false end after
-    → Does w carries (adopts id old) (in_house house front (id, Live old) back house.ended) before fine
+    → Does w carries (adopts id old) (in_house house front
+    (id, Live old) back house.ended) before fine
     false end after
-adopts_next {D} {J} {P} {L} w carries house front back id old new before between fine end after rises p
+adopts_next {D} {J} {P} {L} w carries house front back id old new before between fine end after
+    rises p
     later =
     let plan : ℕ × L → Plan (House D J P L) (Happens D J P L) = λ x. Learns
     (λ (link : ℕ). here_now id (Adopts x.0 x.1 link)) in
     let start : House D J P L = in_house house front (id, Live old) back house.ended in
     let mid : House D J P L = in_house house front (id, Live new) back house.ended in
-    let done : Does w carries (here_now id (Adopts p.view p.carried p.link)) start before (Unit {0}) false
+    let done : Does w carries (here_now id (Adopts p.view p.carried p.link)) start before
+    (Unit {0}) false
     mid between =
     subst
-    (λ (k : ℕ). Does w carries (here_now id (Adopts p.view p.carried p.link)) start before (Unit {0})
+    (λ (k : ℕ). Does w carries (here_now id (Adopts p.view p.carried p.link)) start before
+    (Unit {0})
     false (in_house house front (id, Live new) back k) between)
     (add-zero house.ended)
     (here_done w carries house front id old new back (Adopts p.view p.carried p.link) before between
     (Unit {0}) rises p.step refl p.heard) in
     let one : Does w carries (plan (p.view, p.carried)) start before (Unit {0}) false mid between =
-    does_learns w carries (λ (link : ℕ). here_now id (Adopts p.view p.carried link)) p.link start before
+    does_learns w carries (λ (link : ℕ). here_now id
+    (Adopts p.view p.carried link)) p.link start before
     (Unit {0}) false mid between done in
     subst
     (λ (packed : List (ℕ × L)). Does w carries (each plan packed) start before fine false end after)
     (sym p.packed)
-    (does_then w carries (plan (p.view, p.carried)) (each plan new.packed) start before false mid between
+    (does_then w carries (plan (p.view, p.carried))
+    (each plan new.packed) start before false mid between
     fine false end after one later)
 
 -- no packed link is left
@@ -293,13 +315,14 @@ pub packed_so : {D J P L : Type 0} (w : Ways D J P) (carries : L → List LinkEv
       packed = old.packed ++ (pair.view, carried) ∷ [];
     }
     → ViewPacked w carries id moment old pair (with_net s was) 0 new (with_net s now)
-packed_so {D} {J} {P} {L} w carries id moment old new pair carried s was now free linked told is = record {
-  gave = Some carried;
-  views = ap (λ (h : HeldDocument D J P L). h.views) is;
-  run = (released old pair.view (Some carried), (free, linked, refl), is);
-  heard = record { net = (now, told, refl); port = refl; store = refl; clock = refl; yard = refl };
-  counted = refl;
-}
+packed_so {D} {J} {P} {L} w carries id moment old new pair carried s was now free linked told is =
+    record {
+      gave = Some carried;
+      views = ap (λ (h : HeldDocument D J P L). h.views) is;
+      run = (released old pair.view (Some carried), (free, linked, refl), is);
+      heard = record { net = (now, told, refl); port = refl; store = refl; clock = refl; yard = refl };
+      counted = refl;
+    }
 
 -- the same, where it couldn't
 pub packed_cut : {D J P L : Type 0} (w : Ways D J P) (carries : L → List LinkEvent)
@@ -325,34 +348,35 @@ pub left_so : {D J P L : Type 0} (w : Ways D J P) (carries : L → List LinkEven
     → w.Steps old.doc (Left pair.view) nothing new.doc
     → new ≡ record old { doc = new.doc; views = without_view old.views pair.view }
     → ViewPacked w carries id moment old pair (with_net s was) 1 new (with_net s now)
-left_so {D} {J} {P} {L} w carries id moment old new pair s was now free settled linked told step is = record {
-  gave = None;
-  views = ap (λ (h : HeldDocument D J P L). h.views) is;
-  run = (
-    released old pair.view None,
-    (free, linked, refl),
-    (
-      new,
-      (
-        [],
-        new.doc,
-        refl,
-        step,
-        is
-            ∙ ap
-            (λ (todo : List (Todo J P)). record old {
-              doc = new.doc;
-              views = without_view old.views pair.view;
-              todo = todo;
-            })
-            free,
-      ),
-      refl,
-    ),
-  );
-  heard = record { net = (now, told, refl); port = refl; store = refl; clock = refl; yard = refl };
-  counted = refl;
-}
+left_so {D} {J} {P} {L} w carries id moment old new pair s was now free settled linked told step is
+    = record {
+      gave = None;
+      views = ap (λ (h : HeldDocument D J P L). h.views) is;
+      run = (
+        released old pair.view None,
+        (free, linked, refl),
+        (
+          new,
+          (
+            [],
+            new.doc,
+            refl,
+            step,
+            is
+                ∙ ap
+                (λ (todo : List (Todo J P)). record old {
+                  doc = new.doc;
+                  views = without_view old.views pair.view;
+                  todo = todo;
+                })
+                free,
+          ),
+          refl,
+        ),
+      );
+      heard = record { net = (now, told, refl); port = refl; store = refl; clock = refl; yard = refl };
+      counted = refl;
+    }
 
 -- nothing was done
 pub short_none : {D J P L : Type 0} (w : Ways D J P) (carries : L → List LinkEvent)
@@ -411,7 +435,8 @@ pub first_linked : (views : List ViewLink) (pair : ViewLink) → Some pair ≡ s
     → link_of views pair.view ≡ Some pair.link
 first_linked [] pair is = cc
 first_linked (x ∷ rest) pair is =
-    subst (λ (p : ViewLink). link_of (x ∷ rest) p.view ≡ Some p.link) (sym (same_some pair x is)) here
+    subst (λ (p : ViewLink). link_of (x ∷ rest) p.view
+    ≡ Some p.link) (sym (same_some pair x is)) here
   where
     here : link_of (x ∷ rest) x.view ≡ Some x.link
     here = rw (same_view x.view) refl
@@ -479,12 +504,15 @@ pub packs_more : {D J P L : Type 0} (w : Ways D J P) (carries : L → List LinkE
     between fine false end after
     → Does w carries (packs id old) (in_house house front (id, Live old) back (house.ended + ended))
     before fine false end after
-packs_more {D} {J} {P} {L} w carries house front back id ended n sum first old new before between fine
+packs_more {D} {J} {P} {L} w carries house front back id ended n sum first old new before between
+    fine
     end after is rises p later =
-    packs_next w carries house front back id (house.ended + ended) n old new before between fine end after
+    packs_next w carries house front back id
+    (house.ended + ended) n old new before between fine end after
     (still_rises front id (Live first) (Live old) back rises) p
     (subst
-    (λ (k : ℕ). Does w carries (packs id new) (in_house house front (id, Live new) back k) between fine
+    (λ (k : ℕ). Does w carries (packs id new) (in_house house front
+    (id, Live new) back k) between fine
     false end after)
     (ap (λ (k : ℕ). house.ended + k) is ∙ sym (add_assoc house.ended ended n)) later)
 
@@ -499,7 +527,8 @@ pub adopted_so : {D J P L : Type 0} (w : Ways D J P) (carries : L → List LinkE
       views = old.views ++ record { view = view; link = link.0 } ∷ [];
     }
     → FirstAdopted w carries id moment old (with_net s was) new (with_net s now)
-adopted_so {D} {J} {P} {L} w carries id moment old new view carried link rest s was now free packed told
+adopted_so {D} {J} {P} {L} w carries id moment old new view carried link rest s was now free packed
+    told
     is = record {
       view = view;
       carried = carried;
@@ -508,7 +537,14 @@ adopted_so {D} {J} {P} {L} w carries id moment old new view carried link rest s 
           ∙ ap (λ (xs : List (ℕ × L)). (view, carried) ∷ xs)
           (sym (ap (λ (h : HeldDocument D J P L). h.packed) is));
       step = (rest, free, packed, is);
-      heard = record { net = (now, told, refl); port = refl; store = refl; clock = refl; yard = refl };
+      heard = record {
+        net = (now, told, refl);
+        port = refl;
+        store = refl;
+        clock = refl;
+        yard =
+            refl;
+      };
     }
 
 -- the same, where it couldn't be noted
@@ -518,7 +554,8 @@ pub adopted_cut : {D J P L : Type 0} (w : Ways D J P) (carries : L → List Link
     → old.todo ≡ [] → old.packed ≡ (view, carried) ∷ rest
     → Tells (λ (a b : NetTold). NetAdopts a link (carries carried) b) was now
     → CutShort w carries id moment old (with_net s was) (with_net s now)
-adopted_cut {D} {J} {P} {L} w carries id moment old view carried link rest s was now free packed told =
+adopted_cut {D} {J} {P} {L} w carries id moment old view carried link rest s was now free packed
+    told =
     let new : HeldDocument D J P L = record old {
       packed = rest;
       views = old.views ++ record { view = view; link = link.0 } ∷ [];
@@ -564,7 +601,8 @@ packed_is {D} {J} {P} {L} old base views packed view carried is one two =
     })
     is
     (ap (λ (xs : List ViewLink). record base { views = xs; packed = packed }) one
-    ∙ ap (λ (xs : List (ℕ × L)). record base { views = without_view base.views view; packed = xs }) two)
+    ∙ ap (λ (xs : List (ℕ
+    × L)). record base { views = without_view base.views view; packed = xs }) two)
 
 -- the document once a packed link was adopted
 pub adopted_is : {D J P L : Type 0} (old base : HeldDocument D J P L) (views : List ViewLink)

@@ -44,7 +44,8 @@ was_due : {D J P L : Type 0} (w : Ways D J P) (carries : L → List LinkEvent)
     → Does w carries (refreshes_lock house.moment id old.file old.lock)
     (in_house house front (id, Live old) back house.ended) (with_store s before) fine true
     (in_house house front (id, Live new) back house.ended) (with_store s after)
-was_due {D} {J} {P} {L} w carries house front back id old new s before after fine lacked rises free r =
+was_due {D} {J} {P} {L} w carries house front back id old new s before after fine lacked rises free
+    r =
     let start : House D J P L = in_house house front (id, Live old) back house.ended in
     let end : House D J P L = in_house house front (id, Live new) back house.ended in
     let next : Result (Unit {0}) StoreFault → Plan (House D J P L) (Happens D J P L) =
@@ -65,7 +66,8 @@ was_due {D} {J} {P} {L} w carries house front back id old new s before after fin
     (with_store s before) fine true end (with_store s after))
     (sym r.locked)
     (subst
-    (λ (now : Bool). Does w carries (choose now (Learns next) Rests) start (with_store s before) fine
+    (λ (now : Bool). Does w carries (choose now (Learns next) Rests) start
+    (with_store s before) fine
     true end (with_store s after))
     (sym r.due)
     (does_learns w carries next r.answer start (with_store s before) fine true end
@@ -81,7 +83,8 @@ pub refreshes_there : {D J P L : Type 0} (w : Ways D J P) (carries : L → List 
     → Does w carries (refreshes id) (in_house house front (id, Live old) back house.ended)
     (with_store s before) (IsOk result) (found_in result)
     (in_house house front (id, Live new) back house.ended) (with_store s after)
-refreshes_there {D} {J} {P} {L} w carries house front back id old new s before result after rises free
+refreshes_there {D} {J} {P} {L} w carries house front back id old new s before result after rises
+    free
     r =
     let start : House D J P L = in_house house front (id, Live old) back house.ended in
     let end : House D J P L = in_house house front (id, Live new) back house.ended in
@@ -110,7 +113,8 @@ refreshes_there {D} {J} {P} {L} w carries house front back id old new s before r
         (in_house house front (id, Live old) back house.ended) (with_store s before) (Unit {0})
         _ true false
         (in_house house front (id, Live new) back house.ended)
-        (in_house house front (id, Live new) back house.ended) (with_store s after) (λ f. true≢false (sym f))
+        (in_house house front (id, Live new) back house.ended) (with_store s after)
+        (λ f. true≢false (sym f))
         (was_due w carries house front back id old new s before after (Unit {0}) true rises free
         here)
 
@@ -125,7 +129,8 @@ pub refreshes_kept : {D J P L : Type 0} (w : Ways D J P) (carries : L → List L
     → Does w carries (refreshes id) (in_house house front (id, slot) back house.ended)
     (with_store s before) (IsOk result) (found_in result)
     (in_house house front (id, Live new) back house.ended) (with_store s after)
-refreshes_kept {D} {J} {P} {L} w carries house front back id moment slot old new s before result after
+refreshes_kept {D} {J} {P} {L} w carries house front back id moment slot old new s before result
+    after
     same is rises free due =
     subst
     (λ (x : Slot D J P L). Rises (front ++ (id, x) ∷ back)

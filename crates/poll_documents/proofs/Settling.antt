@@ -103,7 +103,8 @@ passes_more {D} {J} {P} {L} w carries id moment old xs ys before n mid left betw
           between after a.heard b.heard);
       lobby = λ links. lobby_more D links a.heres b.heres (a.lobby links) (b.lobby links);
       idle = list_any-append (λ here. is_done_here here) a.heres b.heres
-          ∙ ap (λ (any : Bool). any || list_any (λ here. is_done_here here) b.heres) a.idle ∙ b.idle;
+          ∙ ap (λ (any : Bool). any || list_any (λ here. is_done_here here) b.heres) a.idle
+          ∙ b.idle;
       counted = ended_more D a.heres b.heres ∙ ap (λ k. k + ended_by D b.heres) a.counted
           ∙ ap (λ k. n + k) b.counted;
     }
@@ -166,7 +167,8 @@ passes_next {D} {J} {P} {L} {A} w carries id moment owed old things i thing befo
     (sym
     (map_more owed things i thing within
     ∙ ap (λ (x : A). map owed (take i things) ++ owed x ∷ []) (sym is)))
-    (passes_more w carries id moment old (map owed (take i things)) (owed thing ∷ []) before n mid []
+    (passes_more w carries id moment old (map owed (take i things))
+    (owed thing ∷ []) before n mid []
     between m new [] after so_far one)
 
 -- the same, where that was cut off
@@ -178,7 +180,8 @@ pub stops_next : {D J P L A : Type 0} (w : Ways D J P) (carries : L → List Lin
     → Passes w carries id moment old (map owed (take i things)) before n mid [] between
     → Stops w carries id moment mid (owed thing ∷ []) between after
     → Stops w carries id moment old (map owed things) before after
-stops_next {D} {J} {P} {L} {A} w carries id moment owed old things i thing before n mid between after
+stops_next {D} {J} {P} {L} {A} w carries id moment owed old things i thing before n mid between
+    after
     within is so_far one =
     let some : Stops w carries id moment old (map owed (take (i + 1) things)) before after =
     subst (λ (todo : List (Todo J P)). Stops w carries id moment old todo before after)
@@ -201,7 +204,8 @@ pub passes_all : {D J P L A : Type 0} (w : Ways D J P) (carries : L → List Lin
     → length things ≤ i
     → Passes w carries id moment old (map owed (take i things)) before n new [] after
     → Passes w carries id moment old (map owed things) before n new [] after
-passes_all {D} {J} {P} {L} {A} w carries id moment owed old things i before n new after past so_far =
+passes_all {D} {J} {P} {L} {A} w carries id moment owed old things i before n new after past so_far
+    =
     subst
     (λ (xs : List A). Passes w carries id moment old (map owed xs) before n new [] after)
     (take_all i things past) so_far
@@ -226,7 +230,8 @@ pub passes_sent : {D J P L : Type 0} (w : Ways D J P) (carries : L → List Link
     (s : Heard D J P L) (was now : Option NetTold)
     → link_of old.views view ≡ Some link
     → Tells (λ (a b : NetTold). NetGives a (link_named link) frame Sent b) was now
-    → Passes w carries id moment old (Give view frame ∷ []) (with_net s was) 0 old [] (with_net s now)
+    → Passes w carries id moment old (Give view frame ∷ []) (with_net s was) 0 old []
+    (with_net s now)
 passes_sent w carries id moment old view link frame s was now linked told = record {
   heres = Gives view link frame Sent ∷ [];
   run = λ rest. (owing old rest, (rest, refl, linked, refl), refl);
@@ -245,7 +250,8 @@ pub passes_failed : {D J P L : Type 0} (w : Ways D J P) (carries : L → List Li
     → w.Steps old.doc (Left view) nothing doc
     → new ≡ record old { doc = doc; views = without_view old.views view }
     → Tells (λ (a b : NetTold). Releases a (link_named link) (was_given gave) b) mid now
-    → Passes w carries id moment old (Give view frame ∷ []) (with_net s was) 1 new [] (with_net s now)
+    → Passes w carries id moment old (Give view frame ∷ []) (with_net s was) 1 new []
+    (with_net s now)
 passes_failed {D} {J} {P} {L} w carries id moment old view link frame gave s was mid now doc new
     linked told step is freed =
     subst

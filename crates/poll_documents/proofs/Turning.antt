@@ -27,7 +27,8 @@ pub befell_there : {D J P L : Type 0} (w : Ways D J P) (carries : L → List Lin
     → Does w carries (did id event) (in_house house front (id, Live old) back house.ended) before
     fine (is_done_here {L = L} (Did event b.outs))
     (in_house house front (id, Live new) back (house.ended + n)) after
-befell_there {D} {J} {P} {L} w carries house front back id old event before n new after fine rises b =
+befell_there {D} {J} {P} {L} w carries house front back id old event before n new after fine rises
+    b =
     subst
     (λ (k : ℕ). Does w carries (did id event)
     (in_house house front (id, Live old) back house.ended) before fine
@@ -54,7 +55,8 @@ broke_there {D} {J} {P} {L} w carries plan house front back id old before after 
     (does_cut w carries Rests plan start before fine fine false worked start end before none
     (does_rests w carries start before fine))
 broke_there w carries plan house front back id old before after fine worked end none rises (inr c) =
-    happened_in_part w carries house front id old c.mid back (Did c.event c.outs) c.outs before after
+    happened_in_part w carries house front id old c.mid back
+    (Did c.event c.outs) c.outs before after
     plan fine worked end none rises c.step refl
     (record { net = refl; port = refl; store = refl; clock = refl; yard = refl }) c.done
 
@@ -73,13 +75,18 @@ befalls_there {D} {J} {P} {L} w carries house front back id old event before (Ok
     rises works b =
     subst
     (λ (any : Bool). Does w carries (did id event)
-    (in_house house front (id, Live old) back house.ended) before (IsOk {T = ℕ} {E = Memory} (Ok n)) any
+    (in_house house front (id, Live old) back house.ended) before (IsOk {T = ℕ} {E =
+    Memory} (Ok n)) any
     (in_house house front (id, Live new) back (house.ended + n)) after)
     (works b.outs)
-    (befell_there w carries house front back id old event before n new after (IsOk {T = ℕ} {E = Memory} (Ok n)) rises b)
-befalls_there w carries house front back id old event before (Err memory) new after worked rises works
-    b = broke_there w carries (did id event) house front back id old before after (IsOk {T = ℕ} {E = Memory} (Err memory))
-    worked (in_house house front (id, Live new) back (house.ended + 0)) (λ f. true≢false (sym f)) rises b
+    (befell_there w carries house front back id old event before n new after (IsOk {T = ℕ} {E =
+    Memory} (Ok n)) rises b)
+befalls_there w carries house front back id old event before
+    (Err memory) new after worked rises works
+    b = broke_there w carries (did id event) house front back id old before after (IsOk {T =
+    ℕ} {E = Memory} (Err memory))
+    worked (in_house house front (id, Live new) back (house.ended + 0)) (λ f. true≢false
+    (sym f)) rises b
 
 -- a document makes a turn
 pub turns_there : {D J P L : Type 0} (w : Ways D J P) (carries : L → List LinkEvent)
@@ -95,13 +102,17 @@ turns_there {D} {J} {P} {L} w carries house front back id old before (Ok p) new 
     let start : House D J P L = in_house house front (id, Live old) back house.ended in
     let end : House D J P L = in_house house front (id, Live new) back (house.ended + p.1) in
     does_live w carries id (λ held. Learns (λ (worked : Bool). did id (Turned worked))) old start
-    before (IsOk {T = Bool × ℕ} {E = Memory} (Ok p)) p.0 end after (found front id (Live old) back rises)
-    (does_learns w carries (λ (worked : Bool). did id (Turned worked)) p.0 start before (IsOk {T = Bool × ℕ} {E = Memory} (Ok p))
+    before (IsOk {T = Bool × ℕ} {E = Memory} (Ok p)) p.0 end after (found front id
+    (Live old) back rises)
+    (does_learns w carries (λ (worked : Bool). did id (Turned worked)) p.0 start before
+    (IsOk {T = Bool × ℕ} {E = Memory} (Ok p))
     p.0 end after
-    (befell_there w carries house front back id old (Turned p.0) before p.1 new after (IsOk {T = Bool × ℕ} {E = Memory} (Ok p))
+    (befell_there w carries house front back id old (Turned p.0) before p.1 new after (IsOk {T =
+    Bool × ℕ} {E = Memory} (Ok p))
     rises b))
 turns_there w carries house front back id old before (Err memory) new after rises b =
-    broke_there w carries (turns id) house front back id old before after (IsOk {T = Bool × ℕ} {E = Memory} (Err memory)) false
+    broke_there w carries (turns id) house front back id old before after (IsOk {T = Bool
+    × ℕ} {E = Memory} (Err memory)) false
     (in_house house front (id, Live new) back (house.ended + 0)) (λ f. true≢false (sym f)) rises b
 
 -- for a document that is held as refused nothing is done
@@ -131,7 +142,8 @@ pub turns_kept : {D J P L : Type 0} (w : Ways D J P) (carries : L → List LinkE
     → Does w carries (turns id) (in_house house front (id, slot) back house.ended) before
     (IsOk result) (worked_in result)
     (in_house house front (id, Live new) back (house.ended + ended_in result)) after
-turns_kept {D} {J} {P} {L} w carries house front back id moment slot old before result new after same
+turns_kept {D} {J} {P} {L} w carries house front back id moment slot old before result new after
+    same
     is rises turned =
     subst
     (λ (s : Slot D J P L). Rises (front ++ (id, s) ∷ back)
@@ -174,7 +186,8 @@ pub refused_kept : {D J P L : Type 0} (w : Ways D J P) (carries : L → List Lin
     → slot ≡ Refused file refusal → ended ≡ house.ended → Rises (front ++ (id, slot) ∷ back)
     → Does w carries (for_live id plan) (in_house house front (id, slot) back house.ended) s fine
     false (in_house house front (id, slot) back ended) s
-refused_kept {D} {J} {P} {L} w carries plan house front back id slot file refusal s fine ended is same
+refused_kept {D} {J} {P} {L} w carries plan house front back id slot file refusal s fine ended is
+    same
     rises =
     subst
     (λ (k : ℕ). Does w carries (for_live id plan)
@@ -216,10 +229,12 @@ leaves_kept {D} {J} {P} {L} w carries house front back id slot old view s result
     by_result (Ok u) q there =
         subst
         (λ (k : ℕ). Does w carries (did id (Left view))
-        (in_house house front (id, Live old) back house.ended) s (IsOk {T = Unit {0}} {E = Memory} (Ok u)) false
+        (in_house house front (id, Live old) back house.ended) s (IsOk {T = Unit {0}} {E =
+        Memory} (Ok u)) false
         (in_house house front (id, Live new) back k) s)
         (add-zero house.ended)
-        (befell_there w carries house front back id old (Left view) s 0 new s (IsOk {T = Unit {0}} {E = Memory} (Ok u)) there
+        (befell_there w carries house front back id old (Left view) s 0 new s (IsOk {T =
+        Unit {0}} {E = Memory} (Ok u)) there
         (befell q))
     by_result (Err memory) q there =
         broke_there w carries (did id (Left view)) house front back id old s s

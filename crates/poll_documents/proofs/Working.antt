@@ -1,6 +1,7 @@
 -- A work is offered, or done at once, and its answer is taken.
 use Rattle.std.proofs.Common.{◌≡◌, ℕ, Bool, true, false, List, [], ◌∷◌, ◌++◌, map, Option, None}
-use Rattle.std.proofs.Common.{Some, Result, Ok, Err, inl, inr, option_and_then, refl, ap, sym, subst, ◌∙◌, ◌+◌}
+use Rattle.std.proofs.Common.{Some, Result, Ok, Err, inl, inr, option_and_then, refl, ap, sym}
+use Rattle.std.proofs.Common.{subst, ◌∙◌, ◌+◌}
 use Rattle.std.proofs.Common.{add_assoc, zero-add, IsErr, IfOk, MatchResult}
 use Rattle.std.specs.Option.{MatchOption, option_map}
 use Rattle.std.proofs.lemmas.List.{map-append, append-nil}
@@ -281,7 +282,8 @@ pub painted_frames : {C B S : Type 0} (rules : Rules C B) (cut : C → Place →
 painted_frames rules cut None ticket scene outs new step = absurd step
 painted_frames rules cut (Some old) ticket scene outs None step = absurd step
 painted_frames rules cut (Some old) ticket scene outs (Some new) (step, kept) =
-    of_job rules old.document ticket scene outs new.document (find_job old.document.jobs ticket) step
+    of_job rules old.document ticket scene outs new.document
+    (find_job old.document.jobs ticket) step
 
 pub put_frames : {C B S : Type 0} (rules : Rules C B) (cut : C → Place → S)
     (old : Option (Held S)) (ticket : ℕ) (answer : Result Receipt StoreFault) (outs : Given S)
@@ -311,7 +313,8 @@ pub painted_ways : {C B S L : Type 0} (rules : Rules C B) (cut : C → Place →
     → ticket ≡ job.ticket → scene ≡ job.scene
     → Passes (ways rules cut served) carries id moment owned (Do (Paint job) ∷ []) s 0 owned
     (Take (PaintDone (record { ticket = ticket.0; scene = scene })) ∷ []) s
-painted_ways {C} {B} {S} {L} rules cut served carries id moment owned job ticket scene s same equal =
+painted_ways {C} {B} {S} {L} rules cut served carries id moment owned job ticket scene s same equal
+    =
     passes_painted (ways rules cut served) carries id moment owned job
     (record { ticket = ticket.0; scene = scene }) s
     (ap (λ (t : Ticket). record { ticket = t.0; scene = scene }) same
@@ -333,13 +336,15 @@ pub passes_on : {D J P L : Type 0} (w : Ways D J P) (carries : L → List LinkEv
     → Passes w carries id moment old (owed ∷ []) before 0 mid left between
     → Settles w carries id moment mid left between result new after
     → Settles w carries id moment old (owed ∷ []) before result new after
-passes_on {D} {J} {P} {L} w carries id moment old owed before mid left between (Ok n) new after a b =
+passes_on {D} {J} {P} {L} w carries id moment old owed before mid left between
+    (Ok n) new after a b =
     subst (λ (k : ℕ). Passes w carries id moment old (owed ∷ []) before k new [] after)
     (zero-add n)
     (passes_more w carries id moment old (owed ∷ []) [] before 0 mid left between n new [] after a
     (subst (λ (todo : List (Todo J P)). Passes w carries id moment mid todo between n new [] after)
     (sym (append-nil left)) b))
-passes_on {D} {J} {P} {L} w carries id moment old owed before mid left between (Err memory) new after
+passes_on {D} {J} {P} {L} w carries id moment old owed before mid left between
+    (Err memory) new after
     a b =
     stops_more w carries id moment old (owed ∷ []) [] before 0 mid left between after a
     (subst (λ (todo : List (Todo J P)). Stops w carries id moment mid todo between after)
@@ -365,7 +370,8 @@ pub settles_parts : {D S P L : Type 0} (w : Ways D (PaintJob S) P) (carries : L 
     → frames ≡ given.frames → jobs ≡ given.jobs → errands ≡ given.errands
     → Passes w carries id moment old (map give_of frames) before n shown [] s
     → Passes w carries id moment shown (map (λ job. Offer (Paint job)) jobs) s m painted [] t
-    → Passes w carries id moment painted (map (λ errand. Offer (Put errand)) errands) t k new [] after
+    → Passes w carries id moment painted (map (λ errand. Offer
+    (Put errand)) errands) t k new [] after
     → Passes w carries id moment old (todo_of (given_out given)) before (n + m + k) new [] after
 settles_parts {D} {S} {P} {L} w carries id moment old given frames jobs errands before n shown s m
     painted t k new after one two three a b c =
@@ -408,7 +414,8 @@ pub stops_jobs : {D S P L : Type 0} (w : Ways D (PaintJob S) P) (carries : L →
     → Passes w carries id moment old (map give_of frames) before n shown [] s
     → Stops w carries id moment shown (map (λ job. Offer (Paint job)) jobs) s after
     → Stops w carries id moment old (todo_of (given_out given)) before after
-stops_jobs {D} {S} {P} {L} w carries id moment old given frames jobs before n shown s after one two a
+stops_jobs {D} {S} {P} {L} w carries id moment old given frames jobs before n shown s after one two
+    a
     b =
     subst
     (λ (todo : List (Todo (PaintJob S) P)). Stops w carries id moment old todo before after)
@@ -468,7 +475,8 @@ pub passes_chain : {D J P L : Type 0} (w : Ways D J P) (carries : L → List Lin
     → Passes w carries id moment old owed before n mid left between
     → Passes w carries id moment mid left between m new more after
     → Passes w carries id moment old owed before (n + m) new more after
-passes_chain {D} {J} {P} {L} w carries id moment old owed before n mid left between m new more after a
+passes_chain {D} {J} {P} {L} w carries id moment old owed before n mid left between m new more
+    after a
     b =
     subst
     (λ (todo : List (Todo J P)). Passes w carries id moment old todo before (n + m) new more after)
@@ -537,7 +545,8 @@ pub passes_empty : {D J P L A : Type 0} (w : Ways D J P) (carries : L → List L
     → things ≡ [] → Passes w carries id moment old all before n new (map owed things) after
     → Passes w carries id moment old all before n new [] after
 passes_empty {D} {J} {P} {L} {A} w carries id moment owed old all before n new things after none a =
-    subst (λ (xs : List A). Passes w carries id moment old all before n new (map owed xs) after) none
+    subst (λ (xs : List A). Passes w carries id moment old all before n new
+    (map owed xs) after) none
     a
 
 -- the answer is taken, and the frames that come of it are given
@@ -554,7 +563,8 @@ pub settles_taken : {D S P L : Type 0} (w : Ways D (PaintJob S) P) (carries : L 
     → given ≡ frames_only given.frames → frames ≡ given.frames
     → Settles w carries id moment mid (map give_of frames) before result new after
     → Settles w carries id moment old (Take answer ∷ []) before result new after
-settles_taken {D} {S} {P} {L} w carries id moment old mid answer given frames before result new after
+settles_taken {D} {S} {P} {L} w carries id moment old mid answer given frames before result new
+    after
     step is alone same settled =
     passes_on w carries id moment old (Take answer) before mid (todo_of (given_out given)) before
     result new after

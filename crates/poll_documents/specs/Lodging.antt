@@ -31,7 +31,8 @@ is_live_slot (Live held) = true
 is_live_slot (Refused file refusal) = false
 
 -- at this place stands the document of which the link is this view
-pub record IsPlace {D J P L : Type 0} (docs : List (ℕ × Slot D J P L)) (link i view : ℕ) : Type 0 where
+pub record IsPlace {D J P L : Type 0} (docs : List (ℕ
+    × Slot D J P L)) (link i view : ℕ) : Type 0 where
   pub within : i < length docs
   pub found : (p : ℕ × Slot D J P L) → p ≡ get_or docs i p
       → (view_in docs link ≡ Some (p.0, view)) × (is_live_slot p.1 ≡ true)

@@ -50,7 +50,8 @@ impl<K: Kit, N: Net> OwnedDocument<K, N> {
             (Said view.0 text.now)
             (outside (N.told net.old) (P.view port.old) (H.calls store.old) clock (Y.took yard.old))
             result self.new
-            (outside (N.told net.new) (P.view port.new) (H.calls store.new) clock (Y.took yard.new)) }
+            (outside (N.told net.new) (P.view port.new) (H.calls store.new) clock
+            (Y.took yard.new)) }
         ensures takes { N.take_faults net.new ≡ N.take_faults net.old }
     {
         // Each view with a link is live; a document of which that isn't so goes no further.
@@ -82,7 +83,8 @@ impl<K: Kit, N: Net> OwnedDocument<K, N> {
             (s : BrokersHeard K.Scene N.Link) → Befell (ways K.rules K.cut served) N.carried id
             moment self.old (Left view.0) s 0 self.new s) }
         ensures missing { OnErr result
-            (option_map_or (λ held. is_live held.document.views view.0) self.old.doc false ≡ false) }
+            (option_map_or (λ held. is_live held.document.views view.0) self.old.doc false
+            ≡ false) }
     {
         if !self.broker.is_live(view) {
             return Err(Memory);
@@ -110,7 +112,8 @@ impl<K: Kit, N: Net> OwnedDocument<K, N> {
             → Turns (ways K.rules K.cut served) N.carried at.doc.0 at.moment self.old
             (outside (N.told net.old) (P.view port.old) (H.calls store.old) clock (Y.took yard.old))
             result self.new
-            (outside (N.told net.new) (P.view port.new) (H.calls store.new) clock (Y.took yard.new)) }
+            (outside (N.told net.new) (P.view port.new) (H.calls store.new) clock
+            (Y.took yard.new)) }
         ensures takes { N.take_faults net.new ≡ N.take_faults net.old }
     {
         match self.turn()? {

@@ -52,7 +52,8 @@ impl<K: Kit, N: Net> OwnedDocument<K, N> {
             self.old back
             (outside (N.told net.old) (P.view port.old) (H.calls store.old) clock (Y.took yard.old))
             result (LiveSlot self.new)
-            (outside (N.told net.new) (P.view port.new) (H.calls store.new) clock (Y.took yard.new)) }
+            (outside (N.told net.new) (P.view port.new) (H.calls store.new) clock
+            (Y.took yard.new)) }
         ensures takes { N.take_faults net.new ≡ N.take_faults net.old }
     {
         self.owes_nothing();
@@ -67,7 +68,8 @@ impl<K: Kit, N: Net> OwnedDocument<K, N> {
         }
     }
 
-    // The link of a view is released and packed; a view whose link the net had no longer leaves. How
+    // The link of a view is released and packed; a view whose link the net had no longer leaves.
+    // How
     // many links ended.
     fn pack_view(&mut self, net: &mut N, view: ViewId, link: LinkId) -> Result<u64, Memory>
         requires alive { IsSome self.old.doc }

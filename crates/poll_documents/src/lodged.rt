@@ -9,12 +9,14 @@ ghost use Rattle.poll_machine.specs.House.{is_among, lost_by, view_at};
 ghost use Rattle.poll_machine.specs.Lobby.{adopts};
 ghost use Rattle.poll_machine.specs.Turn.{did, reads, refreshes, turns};
 ghost use Rattle.poll_machine.specs.Words.{Left, Said};
-ghost use Rattle.poll_documents.specs.Doing.{Does, count_of, in_house, worked_in, ended_in, found_in};
+ghost use Rattle.poll_documents.specs.Doing.{Does, count_of, in_house, worked_in, ended_in};
+ghost use Rattle.poll_documents.specs.Doing.{found_in};
 ghost use Rattle.poll_documents.specs.Links.{JoinsIn, packs, refusal_of};
 ghost use Rattle.poll_documents.specs.Locking.{Readies};
 ghost use Rattle.poll_documents.specs.Lodging.{BrokersHouse, BrokersDocs, has_view, is_live_slot};
 ghost use Rattle.poll_documents.specs.Lodging.{slot_in};
-ghost use Rattle.poll_documents.specs.Outside.{BrokerHeld, BrokersHeard, answer_in, outside, with_net};
+ghost use Rattle.poll_documents.specs.Outside.{BrokerHeld, BrokersHeard, answer_in, outside};
+ghost use Rattle.poll_documents.specs.Outside.{with_net};
 ghost use Rattle.poll_documents.specs.Outside.{with_store};
 
 use crate::owned::OwnedDocument;
@@ -82,7 +84,8 @@ impl<K: Kit, N: Net> Kept<OwnedDocument<K, N>, Refusal> {
             (IsOk result) (worked_in result)
             (in_house house front (at.doc.0, slot_in self.new) back
             (house.ended + ended_in result))
-            (outside (N.told net.new) (P.view port.new) (H.calls store.new) clock (Y.took yard.new)) }
+            (outside (N.told net.new) (P.view port.new) (H.calls store.new) clock
+            (Y.took yard.new)) }
         ensures takes { N.take_faults net.new ≡ N.take_faults net.old }
     {
         match self {
@@ -133,7 +136,8 @@ impl<K: Kit, N: Net> Kept<OwnedDocument<K, N>, Refusal> {
             (IsOk result) false
             (in_house house front (at.doc.0, slot_in self.new) back
             (house.ended + count_of result))
-            (outside (N.told net.new) (P.view port.new) (H.calls store.new) clock (Y.took yard.new)) }
+            (outside (N.told net.new) (P.view port.new) (H.calls store.new) clock
+            (Y.took yard.new)) }
         ensures takes { N.take_faults net.new ≡ N.take_faults net.old }
     {
         match self {
@@ -185,7 +189,8 @@ impl<K: Kit, N: Net> Kept<OwnedDocument<K, N>, Refusal> {
         }
     }
 
-    // A view joins from a link of the lobby, and all that comes of it is done. How many links ended;
+    // A view joins from a link of the lobby, and all that comes of it is done. How many links
+    // ended;
     // None where the document has all the views that it may have.
     fn join<
         H: Store,
@@ -212,7 +217,8 @@ impl<K: Kit, N: Net> Kept<OwnedDocument<K, N>, Refusal> {
             back
             (outside (N.told net.old) (P.view port.old) (H.calls store.old) clock (Y.took yard.old))
             result (slot_in self.new)
-            (outside (N.told net.new) (P.view port.new) (H.calls store.new) clock (Y.took yard.new)) }
+            (outside (N.told net.new) (P.view port.new) (H.calls store.new) clock
+            (Y.took yard.new)) }
         ensures takes { N.take_faults net.new ≡ N.take_faults net.old }
     {
         match self {
@@ -346,7 +352,8 @@ impl<K: Kit, N: Net> Lodged<K, N> {
             (outside (N.told net.old) (P.view port.old) (H.calls store.old) clock (Y.took yard.old))
             (IsOk result) (worked_in result)
             (in_house house front self.new back (house.ended + ended_in result))
-            (outside (N.told net.new) (P.view port.new) (H.calls store.new) clock (Y.took yard.new)) }
+            (outside (N.told net.new) (P.view port.new) (H.calls store.new) clock
+            (Y.took yard.new)) }
         ensures same { self.new.0 ≡ self.old.0 }
         ensures takes { N.take_faults net.new ≡ N.take_faults net.old }
     {
@@ -357,7 +364,8 @@ impl<K: Kit, N: Net> Lodged<K, N> {
         self.kept.turn(alloc, net, store, yard, port, at)
     }
 
-    /// The lock of the document is refreshed, in whatever house, where it was taken or refreshed 600
+    /// The lock of the document is refreshed, in whatever house, where it was taken or refreshed
+    /// 600
     /// seconds ago or earlier. Whether it was.
     pub fn refresh<H: Store>(
         &mut self,
@@ -473,7 +481,8 @@ impl<K: Kit, N: Net> Lodged<K, N> {
             (outside (N.told net.old) (P.view port.old) (H.calls store.old) clock (Y.took yard.old))
             (IsOk result) false
             (in_house house front self.new back (house.ended + count_of result))
-            (outside (N.told net.new) (P.view port.new) (H.calls store.new) clock (Y.took yard.new)) }
+            (outside (N.told net.new) (P.view port.new) (H.calls store.new) clock
+            (Y.took yard.new)) }
         ensures same { self.new.0 ≡ self.old.0 }
         ensures takes { N.take_faults net.new ≡ N.take_faults net.old }
     {
@@ -527,7 +536,8 @@ impl<K: Kit, N: Net> Lodged<K, N> {
             held back
             (outside (N.told net.old) (P.view port.old) (H.calls store.old) clock (Y.took yard.old))
             result self.new.1
-            (outside (N.told net.new) (P.view port.new) (H.calls store.new) clock (Y.took yard.new)) }
+            (outside (N.told net.new) (P.view port.new) (H.calls store.new) clock
+            (Y.took yard.new)) }
         ensures same { self.new.0 ≡ self.old.0 }
         ensures takes { N.take_faults net.new ≡ N.take_faults net.old }
     {
@@ -539,7 +549,8 @@ impl<K: Kit, N: Net> Lodged<K, N> {
             .join(alloc, net, store, yard, port, at, link, rights)
     }
 
-    /// The links of its views are released and packed, in whatever house; what is held as refused has
+    /// The links of its views are released and packed, in whatever house; what is held as refused
+    /// has
     /// none. How many links ended.
     pub fn pack(&mut self, net: &mut N) -> Result<u64, Memory>
         ensures packs { (served : Served) (s : BrokersHeard K.Scene N.Link)

@@ -42,7 +42,8 @@ impl<K: Kit, N: Net> Model for OwnedDocument<K, N> {
     ghost use Rattle.poll_machine.specs.Agenda.{HeldDocument};
     ghost use Rattle.poll_instance.specs.Instance.{Painting};
 
-    ghost Value = { HeldDocument (Option (Held K.Scene)) (PaintJob K.Scene) (Painting K.Scene) N.Link };
+    ghost Value = { HeldDocument (Option (Held K.Scene)) (PaintJob K.Scene)
+        (Painting K.Scene) N.Link };
 
     ghost view = { λ h. record {
       file = h.file;

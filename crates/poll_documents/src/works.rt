@@ -13,7 +13,8 @@ ghost use Rattle.outside.specs.declared.faults.StoreFault.TheVariants.{Memory as
 ghost use Rattle.poll_instance.specs.Instance.{broker_lock, given_out, ways};
 ghost use Rattle.poll_machine.specs.Agenda.{Offer, Do, Take, lock_after, lock_given, todo_of};
 ghost use Rattle.poll_machine.specs.Words.{event_of, Paint, Put};
-ghost use Rattle.poll_documents.specs.Outside.{BrokersHeard, BrokerHeld, outside, with_store, with_net};
+ghost use Rattle.poll_documents.specs.Outside.{BrokersHeard, BrokerHeld, outside, with_store};
+ghost use Rattle.poll_documents.specs.Outside.{with_net};
 ghost use Rattle.poll_documents.specs.Outside.{work_in, answer_in, to_do};
 ghost use Rattle.poll_documents.specs.Settling.{Passes, Stops, Settles};
 
@@ -65,7 +66,8 @@ fn lacked_memory(answer: &Result<Receipt, StoreFault>) -> bool
 }
 
 impl<K: Kit, N: Net> OwnedDocument<K, N> {
-    // The work, where it is to be done at once: there is no room to spare, or the yard gave it back.
+    // The work, where it is to be done at once: there is no room to spare, or the yard gave it
+    // back.
     fn offered<Y: Yard<Work<K::Scene>>, P: Port<Parcel<K, N::Link>, Mail<K::Scene, N::Link>>>(
         yard: &mut Y,
         port: &mut P,
@@ -96,7 +98,11 @@ impl<K: Kit, N: Net> OwnedDocument<K, N> {
             → MatchResult result
             (λ answer. Passes (ways K.rules K.cut served) N.carried id moment owned
             (Do (work_in work) ∷ []) (with_store s (H.calls store.old)) 0 owned
-            (Take (answer_in (λ d. record { ticket = d.ticket.0; scene = d.scene }) answer) ∷ []) (with_store s (H.calls store.new)))
+            (Take (answer_in (λ d. record {
+              ticket = d.ticket.0;
+              scene =
+                  d.scene;
+            }) answer) ∷ []) (with_store s (H.calls store.new)))
             (λ _. Stops (ways K.rules K.cut served) N.carried id moment owned
             (Do (work_in work) ∷ []) (with_store s (H.calls store.old))
             (with_store s (H.calls store.new))) }
@@ -176,7 +182,11 @@ impl<K: Kit, N: Net> OwnedDocument<K, N> {
         ensures rest { IfOk result (λ outs. (served : Served) → self.new ≡ record self.old {
           doc = self.new.doc;
           lock = lock_after (ways K.rules K.cut served) moment self.old.doc
-              (event_of (answer_in (λ d. record { ticket = d.ticket.0; scene = d.scene }) answer.now))
+              (event_of (answer_in (λ d. record {
+                ticket = d.ticket.0;
+                scene =
+                    d.scene;
+              }) answer.now))
               self.old.lock;
         }) }
         ensures frames { IfOk result (λ outs. outs ≡ frames_only outs.frames) }
@@ -199,7 +209,11 @@ impl<K: Kit, N: Net> OwnedDocument<K, N> {
     ) -> Result<u64, Memory>
         ensures settled { (served : Served) (id : ℕ) (s : BrokersHeard K.Scene N.Link)
             → Settles (ways K.rules K.cut served) N.carried id moment self.old
-            (Take (answer_in (λ d. record { ticket = d.ticket.0; scene = d.scene }) answer.now) ∷ [])
+            (Take (answer_in (λ d. record {
+              ticket = d.ticket.0;
+              scene =
+                  d.scene;
+            }) answer.now) ∷ [])
             (with_net s (N.told net.old)) result self.new (with_net s (N.told net.new)) }
         ensures alive { OnOk result (IsSome self.new.doc) }
         ensures takes { N.take_faults net.new ≡ N.take_faults net.old }
@@ -251,7 +265,8 @@ impl<K: Kit, N: Net> OwnedDocument<K, N> {
             (Offer (work_in work) ∷ [])
             (outside (N.told net.old) (P.view port.old) (H.calls store.old) clock (Y.took yard.old))
             result self.new
-            (outside (N.told net.new) (P.view port.new) (H.calls store.new) clock (Y.took yard.new)) }
+            (outside (N.told net.new) (P.view port.new) (H.calls store.new) clock
+            (Y.took yard.new)) }
         ensures alive { OnOk result (IsSome self.old.doc → IsSome self.new.doc) }
         ensures takes { N.take_faults net.new ≡ N.take_faults net.old }
     {
@@ -281,7 +296,8 @@ impl<K: Kit, N: Net> OwnedDocument<K, N> {
             (map (λ job. Offer (Paint job)) jobs.items)
             (outside (N.told net.old) (P.view port.old) (H.calls store.old) clock (Y.took yard.old))
             result self.new
-            (outside (N.told net.new) (P.view port.new) (H.calls store.new) clock (Y.took yard.new)) }
+            (outside (N.told net.new) (P.view port.new) (H.calls store.new) clock
+            (Y.took yard.new)) }
         ensures alive { OnOk result (IsSome self.old.doc → IsSome self.new.doc) }
         ensures takes { N.take_faults net.new ≡ N.take_faults net.old }
     {
@@ -314,7 +330,8 @@ impl<K: Kit, N: Net> OwnedDocument<K, N> {
             (map (λ errand. Offer (Put errand)) errands.items)
             (outside (N.told net.old) (P.view port.old) (H.calls store.old) clock (Y.took yard.old))
             result self.new
-            (outside (N.told net.new) (P.view port.new) (H.calls store.new) clock (Y.took yard.new)) }
+            (outside (N.told net.new) (P.view port.new) (H.calls store.new) clock
+            (Y.took yard.new)) }
         ensures alive { OnOk result (IsSome self.old.doc → IsSome self.new.doc) }
         ensures takes { N.take_faults net.new ≡ N.take_faults net.old }
     {
@@ -327,7 +344,8 @@ impl<K: Kit, N: Net> OwnedDocument<K, N> {
         Ok(ended)
     }
 
-    /// All that is owed for what an event gave out is done: its frames are given, in order, and then
+    /// All that is owed for what an event gave out is done: its frames are given, in order, and
+    /// then
     /// its jobs and its errands are offered or done. How many links ended.
     pub(crate) fn settle<
         H: Store,
@@ -349,7 +367,8 @@ impl<K: Kit, N: Net> OwnedDocument<K, N> {
             (todo_of (given_out outs))
             (outside (N.told net.old) (P.view port.old) (H.calls store.old) clock (Y.took yard.old))
             result self.new
-            (outside (N.told net.new) (P.view port.new) (H.calls store.new) clock (Y.took yard.new)) }
+            (outside (N.told net.new) (P.view port.new) (H.calls store.new) clock
+            (Y.took yard.new)) }
         ensures takes { N.take_faults net.new ≡ N.take_faults net.old }
     {
         let Outs {

@@ -5,7 +5,8 @@ use Rattle.poll_machine.specs.Lobby.{adopts}
 use Rattle.poll_machine.proofs.Lifted.{still_rises}
 use Rattle.poll_documents.specs.Doing.{in_house}
 use Rattle.poll_documents.specs.Outside.{with_net}
-use Rattle.poll_documents.proofs.Packing.{does_short, adopts_next, adopts_none, no_answer, empty_list}
+use Rattle.poll_documents.proofs.Packing.{does_short, adopts_next, adopts_none, no_answer}
+use Rattle.poll_documents.proofs.Packing.{empty_list}
 use Rattle.poll_documents.proofs.owned.OwnedDocument.adopt.Goals as goal
 
 pub loop-preserved : goal.loop-preserved

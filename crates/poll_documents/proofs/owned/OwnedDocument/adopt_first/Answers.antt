@@ -1,6 +1,7 @@
 use Rattle.std.proofs.Common.{ap, sym, ◌∙◌, rules}
 use Rattle.poll_documents.specs.Outside.{with_net}
-use Rattle.poll_documents.proofs.Packing.{short_none, short_same, adopt_short, adopted_cut, adopted_so}
+use Rattle.poll_documents.proofs.Packing.{short_none, short_same, adopt_short, adopted_cut}
+use Rattle.poll_documents.proofs.Packing.{adopted_so}
 use Rattle.poll_documents.proofs.Packing.{adopted_is, one_longer}
 use Rattle.poll_documents.proofs.owned.OwnedDocument.adopt_first.Goals as goal
 
@@ -18,7 +19,8 @@ returns-in_err-link-clause-adopts g c = λ served id moment s.
 -- it was adopted, and couldn't be noted
 pub returns-in_err-push-clause-adopts : goal.returns-in_err-push-clause-adopts
 returns-in_err-push-clause-adopts g c = λ served id moment s.
-    adopt_short _ _ id moment c.args.self.now _ c.from_residual-in_err-push.result _ _ (search rules)
+    adopt_short _ _ id moment c.args.self.now _ c.from_residual-in_err-push.result _ _
+    (search rules)
     (adopted_cut _ _ id moment c.args.self.now _ _ _ _ s (g.N.Net.told c.args.net.now)
     (g.N.Net.told c.adopt.new.self) c.owes_nothing.ensures
     (sym (ap (λ (h : _). h.packed) c.self.view_is) ∙ c.in-Some.ensures) c.in_ok-link.ensures.told)

@@ -1,7 +1,8 @@
 use Rattle.std.proofs.Common.{[], refl, rules, arith}
 use Rattle.poll_documents.specs.Outside.{with_net}
 use Rattle.poll_documents.specs.Settling.{give_of}
-use Rattle.poll_documents.proofs.Settling.{passes_none, passes_next, stops_next, settles_stop, passes_all}
+use Rattle.poll_documents.proofs.Settling.{passes_none, passes_next, stops_next, settles_stop}
+use Rattle.poll_documents.proofs.Settling.{passes_all}
 use Rattle.poll_documents.proofs.owned.OwnedDocument.give_all.Goals as goal
 
 pub loop-given-init : goal.loop-given-init

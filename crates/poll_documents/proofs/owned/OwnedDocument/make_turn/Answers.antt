@@ -14,7 +14,8 @@ returns-in_err-ended-in-Worked-clause-turns g c = λ served clock.
       event = TurnMade true;
       outs = given_out c.in-Worked.outs;
       mid = c.turn.new.self;
-      step = worked_step (ways g.K.Kit.rules g.K.Kit.cut served) c.args.at.moment c.args.self.now c.turn.new.self _ c.in-Worked.outs
+      step = worked_step (ways g.K.Kit.rules g.K.Kit.cut served) c.args.at.moment c.args.self.now
+          c.turn.new.self _ c.in-Worked.outs
           c.in-Worked.is (c.in_ok-outs.ensures.step served c.args.at.moment);
       done = c.in_err-ended-in-Worked.ensures.settled served clock;
     }))
@@ -24,7 +25,8 @@ pub returns-in_ok-ended-in-Worked-clause-turns : goal.returns-in_ok-ended-in-Wor
 returns-in_ok-ended-in-Worked-clause-turns g c = λ served clock. record {
   outs = given_out c.in-Worked.outs;
   mid = c.turn.new.self;
-  step = worked_step (ways g.K.Kit.rules g.K.Kit.cut served) c.args.at.moment c.args.self.now c.turn.new.self _ c.in-Worked.outs
+  step = worked_step (ways g.K.Kit.rules g.K.Kit.cut served) c.args.at.moment c.args.self.now
+      c.turn.new.self _ c.in-Worked.outs
       c.in-Worked.is (c.in_ok-outs.ensures.step served c.args.at.moment);
   done = c.in_ok-ended-in-Worked.ensures.settled served clock;
   settled = c.owes_nothing.ensures;

@@ -23,7 +23,8 @@ pub loop-preserved : goal.loop-preserved
 loop-preserved g c = record {
   packs = λ served id s house end front back result after rises later.
       c.loop.invariant.packs served id s house end front back result after rises
-      (packs_more _ _ house front back id c.loop.ended c.in_ok-more.more _ c.args.self.now c.loop.self
+      (packs_more _ _ house front back id c.loop.ended c.in_ok-more.more _ c.args.self.now
+      c.loop.self
       c.pack_first.new.self (with_net s (g.N.Net.told c.loop.net))
       (with_net s (g.N.Net.told c.pack_first.new.net)) (IsOk {T = ℕ} {E = Memory} result) end after
       c.in_ok-ended.ensures rises (c.in_ok-more.ensures.packs served id house.moment s) later);
@@ -35,7 +36,8 @@ loop-preserved g c = record {
 pub returns-in_err-more-clause-packs : goal.returns-in_err-more-clause-packs
 returns-in_err-more-clause-packs g c = λ served id s house front back rises.
     c.loop.invariant.packs served id s house _ front back c.from_residual.result _ rises
-    (does_short _ _ (packs id c.loop.self) house front back id (house.ended + c.loop.ended) c.loop.self
+    (does_short _ _ (packs id c.loop.self) house front back id
+    (house.ended + c.loop.ended) c.loop.self
     (with_net s (g.N.Net.told c.loop.net)) (with_net s (g.N.Net.told c.pack_first.new.net))
     (IsOk {T = ℕ} {E = Memory} c.from_residual.result) _
     (no_answer c.from_residual.result (search rules))
@@ -45,7 +47,8 @@ returns-in_err-more-clause-packs g c = λ served id s house front back rises.
 -- it was made, and the count goes beyond its type
 pub returns-in_err-ended-clause-packs : goal.returns-in_err-ended-clause-packs
 returns-in_err-ended-clause-packs g c = λ served id s house front back rises.
-    c.loop.invariant.packs served id s house _ front back c.from_residual-in_err-ended.result _ rises
+    c.loop.invariant.packs served id s house _ front back c.from_residual-in_err-ended.result _
+    rises
     (packs_one _ _ house front back id (house.ended + c.loop.ended) c.in_ok-more.more c.loop.self
     c.pack_first.new.self (with_net s (g.N.Net.told c.loop.net))
     (with_net s (g.N.Net.told c.pack_first.new.net))

@@ -7,7 +7,8 @@ use Rattle.poll_documents.proofs.owned.OwnedDocument.say.Goals as goal
 -- what came of it was done in part
 pub returns-in_err-ended-clause-befalls : goal.returns-in_err-ended-clause-befalls
 returns-in_err-ended-clause-befalls g c = λ served clock.
-    befalls_broke _ _ c.args.at.doc.0 c.args.at.moment c.args.self.now _ _ c.from_residual-in_err-ended.result _ _
+    befalls_broke _ _ c.args.at.doc.0 c.args.at.moment c.args.self.now _ _
+    c.from_residual-in_err-ended.result _ _
     (search rules)
     (inr
     (record {

@@ -8,7 +8,8 @@ use Rattle.poll_documents.proofs.owned.OwnedDocument.take.Goals as goal
 pub returns-in-Painted-clause-step : goal.returns-in-Painted-clause-step
 returns-in-Painted-clause-step g c =
     rw (← c.self.view_is, c.in-Painted.is)
-    (IfOk-weaker c.painted.result _ _ (λ outs step served. (outs, step, refl)) c.painted.ensures.step)
+    (IfOk-weaker c.painted.result _ _ (λ outs step served.
+    (outs, step, refl)) c.painted.ensures.step)
 
 pub returns-in-Painted-clause-rest : goal.returns-in-Painted-clause-rest
 returns-in-Painted-clause-rest g c =
