@@ -22,8 +22,7 @@ lacks_memory (Err fault.Memory) = true
 lacks_memory (Err _) = false
 
 -- the lock was due: the store was asked once to refresh it, and this is the moment of that,
--- whatever
--- the answer, which told that it lacked memory, or told something else
+-- whatever the answer, which told that it lacked memory, or told something else
 pub record Refreshed {D J P L : Type 0} (lacked : Bool) (moment : ℕ) (old : HeldDocument D J P L)
     (before : Option (List StoreCall)) (new : HeldDocument D J P L)
     (after : Option (List StoreCall)) : Type 0 where

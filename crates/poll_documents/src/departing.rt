@@ -69,8 +69,7 @@ impl<K: Kit, N: Net> OwnedDocument<K, N> {
     }
 
     // The link of a view is released and packed; a view whose link the net had no longer leaves.
-    // How
-    // many links ended.
+    // How many links ended.
     fn pack_view(&mut self, net: &mut N, view: ViewId, link: LinkId) -> Result<u64, Memory>
         requires alive { IsSome self.old.doc }
         requires linked { link_of self.old.views view.0 ≡ Some link.0 }

@@ -190,8 +190,7 @@ impl<K: Kit, N: Net> Kept<OwnedDocument<K, N>, Refusal> {
     }
 
     // A view joins from a link of the lobby, and all that comes of it is done. How many links
-    // ended;
-    // None where the document has all the views that it may have.
+    // ended; None where the document has all the views that it may have.
     fn join<
         H: Store,
         Y: Yard<Work<K::Scene>>,
@@ -365,8 +364,7 @@ impl<K: Kit, N: Net> Lodged<K, N> {
     }
 
     /// The lock of the document is refreshed, in whatever house, where it was taken or refreshed
-    /// 600
-    /// seconds ago or earlier. Whether it was.
+    /// 600 seconds ago or earlier. Whether it was.
     pub fn refresh<H: Store>(
         &mut self,
         alloc: Global,
@@ -550,8 +548,7 @@ impl<K: Kit, N: Net> Lodged<K, N> {
     }
 
     /// The links of its views are released and packed, in whatever house; what is held as refused
-    /// has
-    /// none. How many links ended.
+    /// has none. How many links ended.
     pub fn pack(&mut self, net: &mut N) -> Result<u64, Memory>
         ensures packs { (served : Served) (s : BrokersHeard K.Scene N.Link)
             (house : BrokersHouse K.Scene N.Link) (front back : BrokersDocs K.Scene N.Link)
@@ -570,8 +567,7 @@ impl<K: Kit, N: Net> Lodged<K, N> {
         self.kept.pack(net)
     }
 
-    /// Its packed links are adopted, in order, in whatever house; what is held as refused has
-    /// none.
+    /// Its packed links are adopted, in order, in whatever house; what is held as refused has none.
     pub fn adopt(&mut self, alloc: Global, net: &mut N) -> Result<(), Memory>
         ensures adopts { (served : Served) (s : BrokersHeard K.Scene N.Link)
             (house : BrokersHouse K.Scene N.Link) (front back : BrokersDocs K.Scene N.Link)

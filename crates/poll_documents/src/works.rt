@@ -345,8 +345,7 @@ impl<K: Kit, N: Net> OwnedDocument<K, N> {
     }
 
     /// All that is owed for what an event gave out is done: its frames are given, in order, and
-    /// then
-    /// its jobs and its errands are offered or done. How many links ended.
+    /// then its jobs and its errands are offered or done. How many links ended.
     pub(crate) fn settle<
         H: Store,
         Y: Yard<Work<K::Scene>>,
