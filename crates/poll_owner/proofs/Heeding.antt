@@ -2,13 +2,16 @@
 use Rattle.std.proofs.Common.{◌≡◌, ℕ, ◌<◌, Bool, true, false, List, length, get_or, Option, None, Some, ap, subst}
 use Rattle.std.proofs.Common.{Result, Ok, Err, IsOk, IsErr, sym, ◌∙◌, true≢false}
 use Rattle.cool_message.specs.Reading.{reading}
+use Rattle.cool_base.specs.declared.ids.LinkId.{LinkId}
 use Rattle.net_traits.specs.Nets.{LinkEvent}
+use Rattle.net_traits.specs.declared.nets.Taken.{Taken}
+use Rattle.net_traits.specs.declared.nets.Taken.TheVariants as taken
 use Rattle.poll_machine.specs.Words.{Left, Said, Ways}
 use Rattle.poll_machine.specs.House.{House, Happens, HouseStep, Slot, is_among, view_in}
 use Rattle.poll_machine.specs.Lobby.{hears, loads, shows}
 use Rattle.poll_machine.specs.Plans.{Plan, Rests, Looks, Follows, choose}
 use Rattle.poll_machine.specs.Told.{Heard}
-use Rattle.poll_machine.specs.Turn.{did, leaves, says}
+use Rattle.poll_machine.specs.Turn.{did, handles, leaves, says}
 use Rattle.poll_lobby.specs.Acts.{act_for, plan_of}
 use Rattle.poll_lobby.specs.declared.acts.LobbyAct.{LobbyAct}
 use Rattle.poll_lobby.specs.declared.acts.LobbyAct.TheVariants.{Answer, Load}
@@ -186,3 +189,27 @@ hears_load w carries link text url given old s fine worked new t is same a =
     (subst
     (λ (address : List ℕ). Does w carries (loads w link (w.address address)) old s fine worked new t)
     same a))
+
+-- what the net gave is handled: a link said something
+pub handles_said : {D J P L : Type 0} (w : Ways D J P) (carries : L → List LinkEvent) (found : Taken)
+    (link : LinkId) (bytes given : List ℕ) (old : House D J P L) (s : Heard D J P L)
+    (fine : Type 0) (worked : Bool) (new : House D J P L) (t : Heard D J P L)
+    → found ≡ taken.Said link bytes → given ≡ bytes
+    → Does w carries (Looks (λ h. says w link.0 given (view_in h.docs link.0))) old s fine worked new
+    t
+    → Does w carries (handles w found) old s fine worked new t
+handles_said w carries found link bytes given old s fine worked new t is same a =
+    subst (λ (x : Taken). Does w carries (handles w x) old s fine worked new t) (sym is)
+    (subst
+    (λ (text : List ℕ). Does w carries (Looks (λ h. says w link.0 text (view_in h.docs link.0))) old
+    s fine worked new t) same a)
+
+-- a link left
+pub handles_left : {D J P L : Type 0} (w : Ways D J P) (carries : L → List LinkEvent) (found : Taken)
+    (link : LinkId) (old : House D J P L) (s : Heard D J P L) (fine : Type 0) (worked : Bool)
+    (new : House D J P L) (t : Heard D J P L)
+    → found ≡ taken.Left link
+    → Does w carries (Looks (λ h. leaves (view_in h.docs link.0))) old s fine worked new t
+    → Does w carries (handles w found) old s fine worked new t
+handles_left w carries found link old s fine worked new t is a =
+    subst (λ (x : Taken). Does w carries (handles w x) old s fine worked new t) (sym is) a

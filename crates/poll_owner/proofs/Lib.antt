@@ -19,3 +19,4 @@ pub mod Heeding
 pub mod Standing
 pub mod Posting
 pub mod Welcoming
+pub mod Spreading

@@ -155,21 +155,32 @@ joins_there {D} {J} {P} {L} w carries house i p link rights held s fine worked n
     (λ (x : Slot D J P L). Does w carries (welcomes w p.0 link rights (Some x)) house s fine worked
     new t) (sym is) a)
 
+-- a join with this answer
+joins_so : {D J P L : Type 0} (w : Ways D J P) (carries : L → List LinkEvent)
+    (house : House D J P L) (id link : ℕ) (rights : Rights) (front : List (ℕ × Slot D J P L))
+    (held : HeldDocument D J P L) (back : List (ℕ × Slot D J P L)) (s : Heard D J P L)
+    (given answer : Option ℕ) (slot : Slot D J P L) (t : Heard D J P L)
+    → given ≡ answer → JoinsIn w carries house id link rights front held back s (Ok given) slot t
+    → JoinsIn w carries house id link rights front held back s (Ok answer) slot t
+joins_so w carries house id link rights front held back s given answer slot t is a =
+    subst
+    (λ (r : Option ℕ). JoinsIn w carries house id link rights front held back s (Ok r) slot t) is a
+
 -- a link joined
 pub welcomes_joined : {D J P L : Type 0} (w : Ways D J P) (carries : L → List LinkEvent)
     (house : House D J P L) (i : ℕ) (p q : ℕ × Slot D J P L) (link : ℕ) (rights : Rights)
-    (s : Heard D J P L) (ended : ℕ) (lobby : List ℕ) (count : ℕ) (fine : Type 0)
-    (t : Heard D J P L)
+    (s : Heard D J P L) (given : Option ℕ) (ended : ℕ) (lobby : List ℕ) (count : ℕ)
+    (fine : Type 0) (t : Heard D J P L)
     → i < length house.docs → p ≡ get_or house.docs i p → Rises house.docs → q.0 ≡ p.0
-    → refusal_of p.1 ≡ None → lobby ≡ without_link link house.lobby → count ≡ house.ended + ended
+    → refusal_of p.1 ≡ None → given ≡ Some ended → lobby ≡ without_link link house.lobby → count ≡ house.ended + ended
     → ((held : HeldDocument D J P L) → p.1 ≡ Live held
     → JoinsIn w carries house p.0 link rights (take i house.docs) held (drop (i + 1) house.docs) s
-    (Ok (Some ended)) q.1 t)
+    (Ok given) q.1 t)
     → Does w carries
     (Looks (λ h. welcomes w (id_at house i) link rights (slot_of (id_at house i) h.docs))) house s
     fine false (record house { docs = set house.docs i q; lobby = lobby; ended = count }) t
-welcomes_joined {D} {J} {P} {L} w carries house i p q link rights s ended lobby count fine t within at
-    rises same none waits counted all =
+welcomes_joined {D} {J} {P} {L} w carries house i p q link rights s given ended lobby count fine t
+    within at rises same none answered waits counted all =
     let live : (h : HeldDocument D J P L) × (p.1 ≡ Live h) = held_live p.1 none in
     let held : HeldDocument D J P L = live.0 in
     let front : List (ℕ × Slot D J P L) = take i house.docs in
@@ -180,7 +191,9 @@ welcomes_joined {D} {J} {P} {L} w carries house i p q link rights s ended lobby 
       lobby = without_link link house.lobby;
     } in
     let made : Does w carries (happens_to p.0 (λ outs. Joins link rights outs)) start s ⊤ false end
-    t = all held live.1 in
+    t =
+    joins_so w carries house p.0 link rights front held back s given (Some ended) q.1 t answered
+    (all held live.1) in
     let room : w.is_full held.doc ≡ false =
     had_room w p.0 link rights start held made.carried.events end
     (found front p.0 (Live held) back
@@ -229,23 +242,25 @@ welcomes_joined {D} {J} {P} {L} w carries house i p q link rights s ended lobby 
 -- a document that has all the views that it may have refuses the link
 pub welcomes_full : {D J P L : Type 0} (w : Ways D J P) (carries : L → List LinkEvent)
     (house : House D J P L) (i : ℕ) (p q : ℕ × Slot D J P L) (link : ℕ) (rights : Rights)
-    (refusal : Refusal) (s mid : Heard D J P L) (fine : Type 0) (worked : Bool)
-    (new : House D J P L) (t : Heard D J P L)
+    (refusal : Refusal) (s mid : Heard D J P L) (given : Option ℕ) (fine : Type 0)
+    (worked : Bool) (new : House D J P L) (t : Heard D J P L)
     → i < length house.docs → p ≡ get_or house.docs i p → Rises house.docs → q.0 ≡ p.0
-    → refusal_of p.1 ≡ None → refusal ≡ record { kind = ViewsFull; code = None }
+    → refusal_of p.1 ≡ None → given ≡ None → refusal ≡ record { kind = ViewsFull; code = None }
     → ((held : HeldDocument D J P L) → p.1 ≡ Live held
     → JoinsIn w carries house p.0 link rights (take i house.docs) held (drop (i + 1) house.docs) s
-    (Ok None) q.1 mid)
+    (Ok given) q.1 mid)
     → Does w carries (refuses link refusal) (record house { docs = set house.docs i q }) mid fine
     worked new t
     → Does w carries
     (Looks (λ h. welcomes w (id_at house i) link rights (slot_of (id_at house i) h.docs))) house s
     fine worked new t
-welcomes_full {D} {J} {P} {L} w carries house i p q link rights refusal s mid fine worked new t within at
-    rises same none kind all rest =
+welcomes_full {D} {J} {P} {L} w carries house i p q link rights refusal s mid given fine worked new t
+    within at rises same none answered kind all rest =
     let live : (h : HeldDocument D J P L) × (p.1 ≡ Live h) = held_live p.1 none in
     let held : HeldDocument D J P L = live.0 in
-    let full : (w.is_full held.doc ≡ true) × (q.1 ≡ Live held) × (mid ≡ s) = all held live.1 in
+    let full : (w.is_full held.doc ≡ true) × (q.1 ≡ Live held) × (mid ≡ s) =
+    joins_so w carries house p.0 link rights (take i house.docs) held (drop (i + 1) house.docs) s
+    given None q.1 mid answered (all held live.1) in
     let stays : q ≡ p =
     ap (λ (y : ℕ). (y, q.1)) same
     ∙ ap (λ (y : Slot D J P L). (p.0, y)) (full.1 ∙ sym live.1) in
@@ -373,14 +388,3 @@ pub keeps_none : {D J P L : Type 0} (docs : List (ℕ × Slot D J P L)) (i : ℕ
 keeps_none {D} {J} {P} {L} docs i p q seen within first second is none =
     subst (λ (x : ℕ × Slot D J P L). refusal_of x.1 ≡ None)
     (one_there docs i p q within first second) (sym is ∙ none)
-
--- a join with this answer
-pub joins_so : {D J P L : Type 0} (w : Ways D J P) (carries : L → List LinkEvent)
-    (house : House D J P L) (id link : ℕ) (rights : Rights) (front : List (ℕ × Slot D J P L))
-    (held : HeldDocument D J P L) (back : List (ℕ × Slot D J P L)) (s : Heard D J P L)
-    (given answer : Option ℕ) (slot : Slot D J P L) (t : Heard D J P L)
-    → given ≡ answer → JoinsIn w carries house id link rights front held back s (Ok given) slot t
-    → JoinsIn w carries house id link rights front held back s (Ok answer) slot t
-joins_so w carries house id link rights front held back s given answer slot t is a =
-    subst
-    (λ (r : Option ℕ). JoinsIn w carries house id link rights front held back s (Ok r) slot t) is a

@@ -2,7 +2,7 @@ use Rattle.std.proofs.Common.{◌≡◌, ◌<◌, ◌∙◌, length, get_or, tru
 use Rattle.poll_machine.specs.House.{Rises, is_among}
 use Rattle.poll_owner.specs.Outside.{outside}
 use Rattle.poll_owner.proofs.Each.{does_failed, ids_stay, rises_at, rises_set}
-use Rattle.poll_owner.proofs.Welcoming.{joins_so, keeps_none, welcomes_cut, welcomes_full, welcomes_joined}
+use Rattle.poll_owner.proofs.Welcoming.{keeps_none, welcomes_cut, welcomes_full, welcomes_joined}
 use Rattle.poll_owner.proofs.Welcoming.{welcomes_refused}
 use Rattle.poll_owner.proofs.house.House.join_at.Goals as goal
 
@@ -90,15 +90,15 @@ returns-in_err-self-inside-in-Some-2-clause-joins g c =
     does_failed _ _ _ _ _ (Unit {0}) c.from_residual-in_err-self-inside-in-Some-2.result _ _ _ _ _
     (search rules)
     (welcomes_joined _ _ _ c.args.i c.index_mut-lodged.result.now c.join.new.self c.args.link.0
-    c.args.rights _ c.in-Some-2.ended _ _ _ _
+    c.args.rights _ _ c.in-Some-2.ended _ _ _ _
     (subst (λ (h : _). c.args.i < length h.docs) (sym c.self.view_is) c.requires.place)
     c.index_mut-lodged.ensures.value c.self.invariant c.in_ok-ended.ensures.same
     (keeps_none c.self.inside.docs.items c.args.i c.index.result.now c.index_mut-lodged.result.now
     c.refusal.result
     (subst (λ (h : _). c.args.i < length h.docs) (sym c.self.view_is) c.requires.place)
     c.index.ensures c.index_mut-lodged.ensures.value c.refusal.ensures c.in_default.is)
-    refl refl
-    (λ held is. joins_so _ _ _ _ _ _ _ held _ _ _ _ _ _ c.in-Some-2.is
+    c.in-Some-2.is refl refl
+    (λ held is.
     (c.in_ok-ended.ensures.joins served clock
     (record {
       me = c.self.inside.me;
@@ -130,15 +130,15 @@ returns-in_ok-self-inside-in-Some-2-clause-joins g c =
     rw (← c.self.view_is)
     (λ served clock.
     welcomes_joined _ _ _ c.args.i c.index_mut-lodged.result.now c.join.new.self c.args.link.0
-    c.args.rights _ c.in-Some-2.ended _ _ _ _
+    c.args.rights _ _ c.in-Some-2.ended _ _ _ _
     (subst (λ (h : _). c.args.i < length h.docs) (sym c.self.view_is) c.requires.place)
     c.index_mut-lodged.ensures.value c.self.invariant c.in_ok-ended.ensures.same
     (keeps_none c.self.inside.docs.items c.args.i c.index.result.now c.index_mut-lodged.result.now
     c.refusal.result
     (subst (λ (h : _). c.args.i < length h.docs) (sym c.self.view_is) c.requires.place)
     c.index.ensures c.index_mut-lodged.ensures.value c.refusal.ensures c.in_default.is)
-    c.remove.ensures c.in_ok-self-inside-in-Some-2.ensures
-    (λ held is. joins_so _ _ _ _ _ _ _ held _ _ _ _ _ _ c.in-Some-2.is
+    c.in-Some-2.is c.remove.ensures c.in_ok-self-inside-in-Some-2.ensures
+    (λ held is.
     (c.in_ok-ended.ensures.joins served clock
     (record {
       me = c.self.inside.me;
@@ -169,15 +169,15 @@ returns-in-None-clause-joins g c =
     rw (← c.self.view_is)
     (λ served clock.
     welcomes_full _ _ _ c.args.i c.index_mut-lodged.result.now c.join.new.self c.args.link.0
-    c.args.rights c.of.result _ _ _ _ _ _
+    c.args.rights c.of.result _ _ _ _ _ _ _
     (subst (λ (h : _). c.args.i < length h.docs) (sym c.self.view_is) c.requires.place)
     c.index_mut-lodged.ensures.value c.self.invariant c.in_ok-ended.ensures.same
     (keeps_none c.self.inside.docs.items c.args.i c.index.result.now c.index_mut-lodged.result.now
     c.refusal.result
     (subst (λ (h : _). c.args.i < length h.docs) (sym c.self.view_is) c.requires.place)
     c.index.ensures c.index_mut-lodged.ensures.value c.refusal.ensures c.in_default.is)
-    c.of.ensures
-    (λ held is. joins_so _ _ _ _ _ _ _ held _ _ _ _ _ _ c.in-None.is
+    c.in-None.is c.of.ensures
+    (λ held is.
     (c.in_ok-ended.ensures.joins served clock
     (record {
       me = c.self.inside.me;
