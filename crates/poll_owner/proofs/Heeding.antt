@@ -1,6 +1,6 @@
 -- A text of a link is heeded: what the lobby does for it is what the poll is to do.
 use Rattle.std.proofs.Common.{◌≡◌, ℕ, ◌<◌, Bool, true, false, List, length, get_or, Option, None, Some, ap, subst}
-use Rattle.std.proofs.Common.{Result, Ok, Err, IsOk, IsErr, sym, ◌∙◌, true≢false}
+use Rattle.std.proofs.Common.{Result, Ok, Err, IsOk, IsErr, refl, sym, ◌∙◌, true≢false}
 use Rattle.cool_message.specs.Reading.{reading}
 use Rattle.cool_base.specs.declared.ids.LinkId.{LinkId}
 use Rattle.net_traits.specs.Nets.{LinkEvent}
@@ -213,3 +213,16 @@ pub handles_left : {D J P L : Type 0} (w : Ways D J P) (carries : L → List Lin
     → Does w carries (handles w found) old s fine worked new t
 handles_left w carries found link old s fine worked new t is a =
     subst (λ (x : Taken). Does w carries (handles w x) old s fine worked new t) (sym is) a
+
+-- nothing else is handled
+pub handles_rest : {D J P L : Type 0} (w : Ways D J P) (carries : L → List LinkEvent) (found : Taken)
+    (old : House D J P L) (s : Heard D J P L) (fine : Type 0)
+    → ((link : LinkId) (bytes : List ℕ) → found ≡ taken.Said link bytes → ⊥)
+    → ((link : LinkId) → found ≡ taken.Left link → ⊥)
+    → Does w carries (handles w found) old s fine false old s
+handles_rest w carries (taken.Opened link) old s fine no_text no_end = does_rests w carries old s fine
+handles_rest w carries (taken.Said link bytes) old s fine no_text no_end =
+    absurd (no_text link bytes refl)
+handles_rest w carries (taken.Left link) old s fine no_text no_end = absurd (no_end link refl)
+handles_rest w carries taken.Nothing old s fine no_text no_end = does_rests w carries old s fine
+handles_rest w carries taken.Failed old s fine no_text no_end = does_rests w carries old s fine

@@ -3,7 +3,8 @@ use Rattle.std.proofs.Common.{◌≡◌, ℕ, Bool, true, false, ◌==◌, nat_e
 use Rattle.std.proofs.Common.{None, Some, ◌<◌, refl, ap, subst, sym, arith}
 use Rattle.hall_machine.specs.declared.words.Ground.{Ground}
 use Rattle.net_traits.specs.Nets.{LinkEvent}
-use Rattle.poll_hall.specs.Ports.{PortView}
+use Rattle.poll_hall.specs.Ports.{PortView, Finds, Stays}
+use Rattle.poll_hall.specs.Says.{AdviseSays}
 use Rattle.poll_machine.specs.Words.{Ways}
 use Rattle.poll_machine.specs.House.{House, Happens, Slot, Parcel, Mail, Calls, Advises, slot_of}
 use Rattle.poll_machine.specs.Lobby.{departs, for_live, spreads}
@@ -96,9 +97,9 @@ spreads_away w carries id poll house s was now fine worked new t is other told r
     (other_number poll house.me other) told rest
 
 -- the hall named one of its polls
-pub poll_there : {D J P L : Type 0} (w : Ways D J P) (was now : PortView (Parcel D L) (Mail P L))
-    (poll : ℕ) → PortStep w was (Advises poll) now → poll < now.ground_of.polls
-poll_there w was now poll told =
+pub poll_there : {P M : Type 0} (was now : PortView P M) (poll : ℕ)
+    → Finds was AdviseSays Stays poll now → poll < now.ground_of.polls
+poll_there was now poll told =
     subst (λ (g : Ground). poll < g.polls) (sym told.ground_is) told.answers.least.below
 
 -- where nothing is held under an id, the ids without it are all of them

@@ -1,4 +1,5 @@
-use Rattle.poll_owner.proofs.Heeding.{handles_left, handles_said}
+use Rattle.std.proofs.Common.{refl}
+use Rattle.poll_owner.proofs.Heeding.{handles_left, handles_rest, handles_said}
 use Rattle.poll_owner.specs.Outside.{outside}
 use Rattle.poll_owner.proofs.house.House.handle.Goals as goal
 
@@ -15,4 +16,9 @@ returns-in-Left-clause-handles g c = λ clock.
     (g.H.Store.calls c.args.store.now) clock (g.Y.Yard.took c.args.yard.now)))
 
 pub returns-in_default : goal.returns-in_default
-returns-in_default g c = ?
+returns-in_default g c = record {
+  handles = λ clock.
+      handles_rest _ _ c.args.taken.now c.args.self.now _ _ c.in_default.not-Said
+      c.in_default.not-Left;
+  takes = refl;
+}

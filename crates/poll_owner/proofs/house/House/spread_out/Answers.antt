@@ -1,4 +1,4 @@
-use Rattle.std.proofs.Common.{◌≡◌, ◌≢◌, ◌∙◌, true, false, refl, subst, sym, arith}
+use Rattle.std.proofs.Common.{◌≡◌, ◌≢◌, true, false, subst}
 use Rattle.poll_instance.specs.Instance.{ways}
 use Rattle.poll_owner.specs.Outside.{with_net}
 use Rattle.poll_owner.proofs.Spreading.{ids_held, poll_there, spreads_away, spreads_here, spreads_not}
@@ -27,7 +27,9 @@ pub returns-then-poll-self-clause-left : goal.returns-then-poll-self-clause-left
 returns-then-poll-self-clause-left g c = ids_held c.args.self.now c.args.doc.0
 
 pub depart-requires-after_bounds : goal.depart-requires-after_bounds
-depart-requires-after_bounds g c = ?
+depart-requires-after_bounds g c = λ lifetimes bounds.
+    poll_there (g.P.Port.view c.args.port.now) (g.P.Port.view c.advise-poll.new.self)
+    c.advise-poll.result c.advise-poll.ensures
 
 -- the hall named another poll
 pub returns-clause-spreads : goal.returns-clause-spreads
