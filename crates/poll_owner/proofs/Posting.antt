@@ -45,7 +45,7 @@ pub handed_back : {D S L : Type 0} (was now : PortView (Parcel D L) (Mail (Paint
     (r : Refused (Mail (Painting S) L))
     → result ≡ Err r → PostFinds was id mail result now → r ≡ refused r.why mail
 handed_back was now id mail result r is told = elim told.answers.call [
-  inl says ↦ handed mail _ r (sym is ∙ says.0)
+  | inl says ↦ handed mail _ r (sym is ∙ says.0)
   | inr lacks ↦ handed mail (Err NoMemory) r (sym is ∙ lacks.0)
 ]
 

@@ -29,23 +29,24 @@ invariant_of-self g c =
 pub returns : goal.returns
 returns g c =
     rw (← c.self.view_is)
-    (record { leaves = λ served s p is.
-    done_at _ _ (λ id. did id (Left c.args.view.0)) _ c.args.i c.index_mut-lodged.result.now
-    c.part.new.self p _ _ _ _ _
-    (subst (λ (h : _). c.args.i < length h.docs) (sym c.self.view_is) c.requires.place)
-    c.index_mut-lodged.ensures.value is
-    (c.part.ensures.leaves served s
     (record {
-      me = c.self.inside.me;
-      spread = c.self.inside.spread;
-      docs = c.self.inside.docs.items;
-      lobby = c.self.inside.lobby;
-      lost = c.self.inside.lost.items;
-      opened = c.self.inside.opened;
-      ended = c.self.inside.ended;
-      moment = c.self.inside.moment;
-    }) _ _
-    (rises_at c.self.inside.docs.items c.args.i c.index_mut-lodged.result.now
-    (subst (λ (h : _). c.args.i < length h.docs) (sym c.self.view_is) c.requires.place)
-    c.index_mut-lodged.ensures.value c.self.invariant));
+      leaves = λ served s p is.
+          done_at _ _ (λ id. did id (Left c.args.view.0)) _ c.args.i c.index_mut-lodged.result.now
+          c.part.new.self p _ _ _ _ _
+          (subst (λ (h : _). c.args.i < length h.docs) (sym c.self.view_is) c.requires.place)
+          c.index_mut-lodged.ensures.value is
+          (c.part.ensures.leaves served s
+          (record {
+            me = c.self.inside.me;
+            spread = c.self.inside.spread;
+            docs = c.self.inside.docs.items;
+            lobby = c.self.inside.lobby;
+            lost = c.self.inside.lost.items;
+            opened = c.self.inside.opened;
+            ended = c.self.inside.ended;
+            moment = c.self.inside.moment;
+          }) _ _
+          (rises_at c.self.inside.docs.items c.args.i c.index_mut-lodged.result.now
+          (subst (λ (h : _). c.args.i < length h.docs) (sym c.self.view_is) c.requires.place)
+          c.index_mut-lodged.ensures.value c.self.invariant));
     })

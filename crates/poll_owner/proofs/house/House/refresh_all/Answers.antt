@@ -48,17 +48,17 @@ loop-i-preserved g c = record {
 pub returns-in_err-due : goal.returns-in_err-due
 returns-in_err-due g c = record {
   refreshes = λ served s.
-    does_broke _ _ (each refreshes (take c.loop-i.i (ids c.args.self.now)))
-    (refreshes (id_at c.loop-i.self c.loop-i.i)) _ c.args.self.now _ c.loop-i.refreshed c.loop-i.self _ _
-    c.from_residual.result _ _ _ _ _ (search rules) (c.loop-i.invariant.does served s)
-    (c.in_err-due.ensures.refreshes served s);
+      does_broke _ _ (each refreshes (take c.loop-i.i (ids c.args.self.now)))
+      (refreshes (id_at c.loop-i.self c.loop-i.i)) _ c.args.self.now _ c.loop-i.refreshed c.loop-i.self _ _
+      c.from_residual.result _ _ _ _ _ (search rules) (c.loop-i.invariant.does served s)
+      (c.in_err-due.ensures.refreshes served s);
 }
 
 -- all of them were done
 pub returns : goal.returns
 returns g c = record {
   refreshes = λ served s.
-    does_all _ _ refreshes c.args.self.now _ c.loop-i.i _ c.loop-i.refreshed c.loop-i.self _
-    (subst (λ (h : _). length h.docs ≤ c.loop-i.i) c.self.view_is (omega arith))
-    (does_fine _ _ _ _ _ _ _ _ _ (c.loop-i.invariant.does served s));
+      does_all _ _ refreshes c.args.self.now _ c.loop-i.i _ c.loop-i.refreshed c.loop-i.self _
+      (subst (λ (h : _). length h.docs ≤ c.loop-i.i) c.self.view_is (omega arith))
+      (does_fine _ _ _ _ _ _ _ _ _ (c.loop-i.invariant.does served s));
 }
