@@ -19,3 +19,6 @@ pub mod Heeding
 pub mod Standing
 pub mod Posting
 pub mod Welcoming
+pub mod Fetching
+pub mod Opening
+pub mod Spreading
