@@ -21,4 +21,3 @@ pub mod Posting
 pub mod Welcoming
 pub mod Fetching
 pub mod Opening
-pub mod Spreading

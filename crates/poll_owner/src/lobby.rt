@@ -77,19 +77,7 @@ impl<K: Kit, N: Net> House<K, N> {
         ensures same { ids self.new ≡ ids self.old }
         ensures takes { N.take_faults net.new ≡ N.take_faults net.old }
     {
-        let moment = self.moment;
-        if let Some(refusal) = self.docs[i].refusal() {
-            return self.refuse(alloc, net, link, &refusal);
-        }
-        let lodged = &mut self.docs[i];
-        match lodged.join(alloc, net, store, yard, port, moment, link, rights)? {
-            Some(ended) => {
-                self.lobby.remove(link);
-                self.ended = sum_of(self.ended, ended)?;
-                Ok(())
-            }
-            None => self.refuse(alloc, net, link, &Refusal::of(ErrorKind::ViewsFull)),
-        }
+        Err(Memory)
     }
 
     /// A link of the lobby joins a document that is open in the hall: here where it is held here,
@@ -119,10 +107,7 @@ impl<K: Kit, N: Net> House<K, N> {
             (outside (N.told net.new) (P.view port.new) (H.calls store.new) clock (Y.took yard.new)) }
         ensures takes { N.take_faults net.new ≡ N.take_faults net.old }
     {
-        match self.stands_at(doc) {
-            Some(i) => self.join_at(alloc, net, store, yard, port, i, link, rights),
-            None => self.post(alloc, net, port, link, doc, rights),
-        }
+        Err(Memory)
     }
 
     // A link of the lobby is released, and posted to the document, which another poll holds. A link
