@@ -17,3 +17,6 @@ pub mod Ending
 pub mod Loading
 pub mod Heeding
 pub mod Standing
+pub mod Turns
+pub mod Letters
+pub mod Sending
