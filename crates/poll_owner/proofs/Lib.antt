@@ -20,3 +20,8 @@ pub mod Standing
 pub mod Turns
 pub mod Letters
 pub mod Sending
+pub mod Posting
+pub mod Welcoming
+pub mod Fetching
+pub mod Opening
+pub mod Spreading

@@ -1,6 +1,6 @@
 -- A load goes on call by call: what one call tells, and then the rest of its plan.
 use Rattle.std.proofs.Common.{ℕ, Bool, false, List, [], ◌∷◌, ◌++◌, Option, Some}
-use Rattle.std.proofs.Common.{Result, refl}
+use Rattle.std.proofs.Common.{◌≡◌, Result, IsOk, IsErr, refl, subst, sym}
 use Rattle.hall_machine.specs.declared.words.Entered.{Entered}
 use Rattle.hall_machine.specs.declared.words.HallFault.{HallFault}
 use Rattle.document_machine.specs.declared.rights.Rights.{Rights}
@@ -11,14 +11,15 @@ use Rattle.outside.specs.declared.faults.StoreFault.{StoreFault}
 use Rattle.poll_hall.specs.Ports.{PortView}
 use Rattle.poll_machine.specs.Words.{Ways}
 use Rattle.poll_machine.specs.House.{House, Happens, Parcel, Mail, PortCall, Calls, Reads, Enters}
-use Rattle.poll_machine.specs.House.{Adopted}
-use Rattle.poll_machine.specs.Lobby.{admitted, entered, fetched, loads, refuses_where, post_refusal}
-use Rattle.poll_machine.specs.Plans.{Plan, Makes, Then}
+use Rattle.poll_machine.specs.House.{Adopted, Refusal}
+use Rattle.poll_machine.specs.Lobby.{admitted, entered, fetched, loads, refuses, refuses_where, post_refusal}
+use Rattle.poll_machine.specs.Plans.{Plan, Makes, Rests, Then}
 use Rattle.poll_machine.specs.Told.{Heard, StoreStep, PortStep, link_named}
 use Rattle.poll_owner.specs.Doing.{Does}
 use Rattle.poll_owner.specs.Loading.{comes_again, enters, fetches}
 use Rattle.poll_owner.specs.Outside.{with_net, with_port, with_store}
-use Rattle.poll_owner.proofs.Doing.{does_makes, does_then, does_learns}
+use Rattle.poll_owner.proofs.Doing.{does_cut, does_makes, does_rests, does_then, does_learns}
+use Rattle.poll_owner.proofs.Each.{does_failed}
 
 -- the store was called, and then the rest was done
 pub store_then : {D J P L : Type 0} (w : Ways D J P) (carries : L → List LinkEvent)
@@ -132,3 +133,41 @@ came_again w carries carried why link house s was now fine worked new t told res
     (with_net s was) fine worked new t
     (adopt_then w carries carried link (refuses_where link (post_refusal why)) house s was now fine
     worked new t told rest)
+
+-- the same where the lobby is known, and why it is refused
+pub again_refused : {D J P L : Type 0} (w : Ways D J P) (carries : L → List LinkEvent) (carried : L)
+    (why : HallFault) (refusal : Refusal) (link : ℕ) (house : House D J P L) (lobby : List ℕ)
+    (s : Heard D J P L) (was now : Option NetTold) (fine : Type 0) (worked : Bool)
+    (new : House D J P L) (t : Heard D J P L)
+    → Tells (λ (a b : NetTold). Adopts a (link_named link) (carries carried) b) was now
+    → post_refusal why ≡ Some refusal → lobby ≡ house.lobby ++ link ∷ []
+    → Does w carries (refuses link refusal) (record house { lobby = lobby }) (with_net s now) fine
+    worked new t
+    → Does w carries (comes_again carried why) house (with_net s was) fine worked new t
+again_refused {D} {J} {P} {L} w carries carried why refusal link house lobby s was now fine worked new t
+    told is waits rest =
+    came_again w carries carried why link house s was now fine worked new t told
+    (subst
+    (λ (found : Option Refusal). Does w carries (refuses_where link found)
+    (record house { lobby = house.lobby ++ link ∷ [] }) (with_net s now) fine worked new t)
+    (sym is)
+    (subst
+    (λ (links : List ℕ). Does w carries (refuses link refusal) (record house { lobby = links })
+    (with_net s now) fine worked new t) waits rest))
+
+-- it was adopted, and then the call was out of memory
+pub again_cut : {D J P L A E : Type 0} (w : Ways D J P) (carries : L → List LinkEvent) (carried : L)
+    (why : HallFault) (link : ℕ) (house : House D J P L) (s : Heard D J P L)
+    (was now : Option NetTold) (answer : Result A E) (worked : Bool) (end : House D J P L)
+    → IsErr answer
+    → Tells (λ (a b : NetTold). Adopts a (link_named link) (carries carried) b) was now
+    → Does w carries (comes_again carried why) house (with_net s was) (IsOk answer) worked end
+    (with_net s now)
+again_cut {D} {J} {P} {L} w carries carried why link house s was now answer worked end none told =
+    let mid : House D J P L = record house { lobby = house.lobby ++ link ∷ [] } in
+    does_failed w carries (comes_again carried why) house (with_net s was) ⊥ answer worked worked end
+    end (with_net s now) none
+    (came_again w carries carried why link house s was now ⊥ worked end (with_net s now) told
+    (does_cut w carries Rests (refuses_where link (post_refusal why)) mid (with_net s now)
+    (Unit {0}) ⊥ false worked mid end (with_net s now) (λ f. f)
+    (does_rests w carries mid (with_net s now) (Unit {0}))))

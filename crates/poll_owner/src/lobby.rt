@@ -22,7 +22,7 @@ use hall_machine::HallFault;
 use kit_trait::Kit;
 use net_traits::Net;
 use outside::Store;
-use poll_hall::Port;
+use poll_hall::{Port, Refused};
 use poll_lobby::{Refusal, post_refusal};
 use std::alloc::Global;
 use yard_traits::{Work, Yard};
@@ -157,10 +157,14 @@ impl<K: Kit, N: Net> House<K, N> {
         };
         match port.post(doc, Mail { letter }, false) {
             Ok(()) => Ok(()),
-            Err(refused) => match refused.value.letter {
-                Letter::Join { link, .. } => self.take_back(alloc, net, link, refused.why),
-                _ => Err(Memory),
-            },
+            Err(refused) => {
+                let Refused { why, value } = refused;
+                let Mail { letter } = value;
+                match letter {
+                    Letter::Join { link, .. } => self.take_back(alloc, net, link, why),
+                    _ => Err(Memory),
+                }
+            }
         }
     }
 

@@ -11,10 +11,10 @@ abbrev pub invariant-loop-k : goal.invariant-loop-k
 invariant-loop-k g l = record {
   does : (served : Served) (s : _)
       → Does (ways g.K.Kit.rules g.K.Kit.cut served) g.N.Net.carried
-      (each (closes (ways g.K.Kit.rules g.K.Kit.cut served)) (take l.k (ids l.fn.self))) l.fn.self
+      (each (closes (ways g.K.Kit.rules g.K.Kit.cut served)) (take l._k (ids l.fn.self))) l.fn.self
       (with_port (with_store s (g.H.Store.calls l.fn.store)) (g.P.Port.view l.fn.port)) (Unit {0})
       l.closed l.self
       (with_port (with_store s (g.H.Store.calls l.store)) (g.P.Port.view l.port));
-  behind : l.i ≤ l.k;
-  left : drop l.k (ids l.fn.self) ≡ drop l.i (ids l.self);
+  behind : l.i ≤ l._k;
+  left : drop l._k (ids l.fn.self) ≡ drop l.i (ids l.self);
 }

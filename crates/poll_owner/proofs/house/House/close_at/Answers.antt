@@ -1,4 +1,5 @@
 use Rattle.std.proofs.Common.{◌<◌, ◌∙◌, length, rules, subst, sym}
+use Rattle.poll_instance.specs.Instance.{ways}
 use Rattle.poll_owner.proofs.Each.{ids_stay, rises_set}
 use Rattle.poll_owner.proofs.Ending.{close_broke, close_cut, close_refused, close_went, closing_stays}
 use Rattle.poll_owner.proofs.Ending.{ids_gone, ready_so}
@@ -34,7 +35,7 @@ returns-in_err-unlocked-clause-closes g c =
     rw (← c.self.view_is)
     (λ served s.
     close_broke _ _ _ c.args.i c.index_mut-lodged.result.now c.make_ready.new.self s _ _ _
-    c.in_err-unlocked.field-0 c.from_residual.result _ _ (search rules)
+    c.in_err-unlocked.field-0.0 c.from_residual.result _ _ (search rules)
     (subst (λ (h : _). c.args.i < length h.docs) (sym c.self.view_is) c.requires)
     c.index_mut-lodged.ensures.value c.self.invariant (c.in_err-unlocked.ensures.readies served))
 
@@ -48,7 +49,7 @@ returns-in_err-forget-in-Ok-clause-closes g c =
     c.from_residual-in_err-forget-in-Ok.result _ _ (search rules)
     (subst (λ (h : _). c.args.i < length h.docs) (sym c.self.view_is) c.requires)
     c.index_mut-lodged.ensures.value c.in_ok-unlocked.ensures.same c.self.invariant
-    (ready_so _ _ _ _ _ _ _ c.in-Some.is (c.in_ok-unlocked.ensures.readies served))
+    (ready_so (ways g.K.Kit.rules g.K.Kit.cut served) _ _ _ _ _ _ c.in-Some.is (c.in_ok-unlocked.ensures.readies served))
     c.id-doc.ensures c.close.ensures)
 
 -- it was closed
@@ -60,7 +61,7 @@ returns-in_ok-forget-in-Ok-clause-closes g c =
     c.in-Some.unlocked c.id-doc.result.0 c.close.result _ _
     (subst (λ (h : _). c.args.i < length h.docs) (sym c.self.view_is) c.requires)
     c.index_mut-lodged.ensures.value c.in_ok-unlocked.ensures.same c.self.invariant
-    (ready_so _ _ _ _ _ _ _ c.in-Some.is (c.in_ok-unlocked.ensures.readies served))
+    (ready_so (ways g.K.Kit.rules g.K.Kit.cut served) _ _ _ _ _ _ c.in-Some.is (c.in_ok-unlocked.ensures.readies served))
     c.id-doc.ensures c.in-Ok.is c.close.ensures
     (c.in_ok-forget-in-Ok.ensures.forgets served))
 
@@ -82,7 +83,7 @@ returns-in-Err-clause-closes g c =
     c.in-Some.unlocked c.id-doc.result.0 c.close.result c.in-Err.field-0 _
     (subst (λ (h : _). c.args.i < length h.docs) (sym c.self.view_is) c.requires)
     c.index_mut-lodged.ensures.value c.in_ok-unlocked.ensures.same c.self.invariant
-    (ready_so _ _ _ _ _ _ _ c.in-Some.is (c.in_ok-unlocked.ensures.readies served))
+    (ready_so (ways g.K.Kit.rules g.K.Kit.cut served) _ _ _ _ _ _ c.in-Some.is (c.in_ok-unlocked.ensures.readies served))
     c.id-doc.ensures c.in-Err.is c.close.ensures)
 
 pub returns-in-Err-clause-left : goal.returns-in-Err-clause-left
@@ -101,7 +102,7 @@ returns-in-None-clause-closes g c =
     closing_stays _ _ _ c.args.i c.index_mut-lodged.result.now c.make_ready.new.self s _ _ _ _
     (subst (λ (h : _). c.args.i < length h.docs) (sym c.self.view_is) c.requires)
     c.index_mut-lodged.ensures.value c.self.invariant
-    (ready_so _ _ _ _ _ _ _ c.in-None.is (c.in_ok-unlocked.ensures.readies served)))
+    (ready_so (ways g.K.Kit.rules g.K.Kit.cut served) _ _ _ _ _ _ c.in-None.is (c.in_ok-unlocked.ensures.readies served)))
 
 pub returns-in-None-clause-left : goal.returns-in-None-clause-left
 returns-in-None-clause-left g c =
