@@ -19,4 +19,8 @@ pub mod Heeding
 pub mod Standing
 pub mod Posting
 pub mod Welcoming
+pub mod Fetching
+pub mod Opening
 pub mod Spreading
+pub mod Turns
+pub mod Letters
