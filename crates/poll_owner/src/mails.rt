@@ -131,7 +131,7 @@ impl<K: Kit, N: Net> House<K, N> {
     {
         let mut bag = bag;
         let mut last = None;
-        for _ in 0..count {
+        for _k in 0..count {
             let Some(mail) = bag.take() else {
                 return Err(Memory);
             };
@@ -232,7 +232,7 @@ impl<K: Kit, N: Net> House<K, N> {
     {
         let mut some = false;
         let mut i = 0;
-        for _ in 0..self.docs.len() {
+        for _k in 0..self.docs.len() {
             let more = self.collect_at(alloc, net, store, yard, port, i)?;
             some = either(some, more.0);
             i = next_place(more.1, i);

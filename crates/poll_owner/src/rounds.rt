@@ -1,6 +1,6 @@
 //! Turns of a poll.
 ghost use Rattle.std.specs.Prelude.{◌≡◌, ◌≢◌, ◌||◌, ℕ, List, Option, Some, Ok, IsOk, MatchResult};
-ghost use Rattle.std.specs.Prelude.{false, ⊤, ⊥, if◌then◌else◌};
+ghost use Rattle.std.specs.Prelude.{false, ⊤, if◌then◌else◌};
 ghost use Rattle.load_address.specs.declared.served.Served.{Served as Host};
 ghost use Rattle.net_traits.specs.declared.nets.Taken.TheVariants.{Failed};
 ghost use Rattle.outside.specs.Causes.{HasCause};
@@ -112,6 +112,9 @@ impl<K: Kit, N: Net> House<K, N> {
             (result ≡ Ok Failed) }
     {
         let taken = net.take(alloc)?;
+        if matches!(&taken, Taken::Failed) {
+            return Ok(taken);
+        }
         self.meet(&taken)?;
         Ok(taken)
     }
@@ -210,7 +213,7 @@ impl<K: Kit, N: Net> House<K, N> {
         ensures cause { HasCause (N.take_faults net.old) (N.take_faults net.new)
             (result ≡ Ok PollEnd.NetFault) }
     {
-        for _ in 0..turns {
+        for _k in 0..turns {
             match self.turn(alloc, served, net, store, yard, port, clock)? {
                 PollTurn::Worked => {}
                 PollTurn::Idle => return Ok(PollEnd::Idle),
