@@ -19,12 +19,12 @@ use Rattle.poll_machine.specs.Plans.{Plan, Rests, Makes, Then, Learns, Looks, ch
 use Rattle.poll_machine.specs.Told.{Heard, Hears, PortStep}
 use Rattle.poll_machine.specs.Turn.{unlocks, ends, ends_where, closes, is_work}
 use Rattle.poll_machine.proofs.Lifted.{found}
-use Rattle.poll_owner.specs.Doing.{Does, in_house}
-use Rattle.poll_owner.specs.Locking.{Unlocked, Readies}
-use Rattle.poll_owner.specs.Outside.{with_store, with_port}
-use Rattle.poll_owner.proofs.Doing.{does_rests, does_makes, does_then, does_learns, does_looks}
-use Rattle.poll_owner.proofs.Doing.{does_cut}
-use Rattle.poll_owner.proofs.Happening.{here_done}
+use Rattle.poll_documents.specs.Doing.{Does, in_house}
+use Rattle.poll_documents.specs.Locking.{Unlocked, Readies}
+use Rattle.poll_documents.specs.Outside.{with_store, with_port}
+use Rattle.poll_documents.proofs.Doing.{does_rests, does_makes, does_then, does_learns, does_looks}
+use Rattle.poll_documents.proofs.Doing.{does_cut}
+use Rattle.poll_documents.proofs.Happening.{here_done}
 
 pub other_id : (a b : ℕ) → (a ≡ b → ⊥) → nat_eq a b ≡ false
 other_id a b differ = grind (arith, differ)
@@ -196,13 +196,14 @@ ends_there {D} {J} {P} {L} w carries house front id slot back answer s was now f
 unlocks_there : {D J P L : Type 0} (w : Ways D J P) (carries : L → List LinkEvent)
     (house : House D J P L) (front back : List (ℕ × Slot D J P L)) (id : ℕ)
     (old new : HeldDocument D J P L) (s : Heard D J P L) (before after : Option (List StoreCall))
-    (fine : Type 0)
+    (fine : Type 0) (lacked : Bool)
     → Rises (front ++ (id, Live old) ∷ back) → old.todo ≡ []
-    → Unlocked old before new after
+    → Unlocked lacked old before new after
     → Does w carries (unlocks id old.file old.lock)
     (in_house house front (id, Live old) back house.ended) (with_store s before) fine true
     (in_house house front (id, Live new) back house.ended) (with_store s after)
-unlocks_there {D} {J} {P} {L} w carries house front back id old new s before after fine rises free r =
+unlocks_there {D} {J} {P} {L} w carries house front back id old new s before after fine lacked
+    rises free r =
     let start : House D J P L = in_house house front (id, Live old) back house.ended in
     let end : House D J P L = in_house house front (id, Live new) back house.ended in
     let next : Result (Unit {0}) StoreFault → Plan (House D J P L) (Happens D J P L) =
@@ -328,7 +329,7 @@ ready_closes {D} {J} {P} {L} w carries house front back (id, Live old) q s befor
     new u rises (z, is, done, free, r) ended =
     closes_done w carries house front back id old (with_store s before) true
     (in_house house front (id, Live z) back house.ended) (with_store s after) fine closed new u rises
-    done (unlocks_there w carries house front back id old z s before after (Unit {0}) rises free r)
+    done (unlocks_there w carries house front back id old z s before after (Unit {0}) _ rises free r)
     (subst
     (λ (x : ℕ × Slot D J P L). Does w carries (ends id) (in_house house front x back house.ended)
     (with_store s after) fine closed new u) is ended)
@@ -398,7 +399,7 @@ ready_broke {D} {J} {P} {L} w carries house front back (id, Live old) q s before
     (closes_done w carries house front back id old (with_store s before) true
     (in_house house front (id, Live z) back house.ended) (with_store s after) fine false end
     (with_store s after) rises done
-    (unlocks_there w carries house front back id old z s before after (Unit {0}) rises free r)
+    (unlocks_there w carries house front back id old z s before after (Unit {0}) _ rises free r)
     (does_cut w carries Rests (ends id) (in_house house front (id, Live z) back house.ended)
     (with_store s after) fine fine false false
     (in_house house front (id, Live z) back house.ended) end (with_store s after) never

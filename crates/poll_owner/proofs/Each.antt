@@ -14,9 +14,9 @@ use Rattle.poll_machine.specs.Told.{Heard}
 use Rattle.poll_machine.specs.Turn.{for_each, ids, is_work, is_fault}
 use Rattle.poll_machine.proofs.Carried.{hears_more}
 use Rattle.poll_machine.proofs.Runs.{runs, follows_is_run}
-use Rattle.poll_owner.specs.Doing.{Does, id_at, in_house, ids_left}
-use Rattle.poll_owner.proofs.Doing.{any_more, does_looks, does_cut, does_part}
-use Rattle.poll_owner.proofs.Happening.{replaced, placed}
+use Rattle.poll_documents.specs.Doing.{Does, id_at, in_house, ids_left}
+use Rattle.poll_documents.proofs.Doing.{any_more, does_looks, does_cut, does_part}
+use Rattle.poll_documents.proofs.Happening.{replaced, placed}
 
 -- a plan for some, and then for one more
 each_more : {X E A : Type 0} (Step : X → E → X → Type 0) (plan : A → Plan X E) (xs : List A) (x : A)

@@ -17,14 +17,14 @@ use Rattle.poll_machine.specs.House.{Closes}
 use Rattle.poll_machine.specs.Plans.{Plan, each}
 use Rattle.poll_machine.specs.Told.{Heard, PortStep}
 use Rattle.poll_machine.specs.Turn.{closes, ends, ids}
-use Rattle.poll_owner.specs.Doing.{Does, id_at, in_house, ids_left}
-use Rattle.poll_owner.specs.Locking.{Readies}
-use Rattle.poll_owner.specs.Outside.{with_store, with_port}
+use Rattle.poll_documents.specs.Doing.{Does, id_at, in_house, ids_left}
+use Rattle.poll_documents.specs.Locking.{Readies}
+use Rattle.poll_documents.specs.Outside.{with_store, with_port}
 use Rattle.poll_owner.proofs.Closing.{closed_house, ends_there, is_ok, ready_broke, ready_closes}
 use Rattle.poll_owner.proofs.Closing.{ready_may, ready_stays, rises_without}
 use Rattle.poll_owner.proofs.Each.{does_at, does_failed, does_more, id_is, ids_stay, item_at, left_behind}
 use Rattle.poll_owner.proofs.Each.{next_left, one_there, rises_at, rises_set, stands_here}
-use Rattle.poll_owner.proofs.Happening.{placed, replaced}
+use Rattle.poll_documents.proofs.Happening.{placed, replaced}
 
 -- what was done from the house with this at its place was done from the house
 does_from : {D J P L : Type 0} (w : Ways D J P) (carries : L → List LinkEvent)

@@ -11,9 +11,9 @@ use Rattle.poll_machine.specs.House.{House, Happens, Reads, Refusal}
 use Rattle.poll_machine.specs.Lobby.{failed, unlocks_where}
 use Rattle.poll_machine.specs.Plans.{Plan, Rests, Makes}
 use Rattle.poll_machine.specs.Told.{Heard, StoreStep}
-use Rattle.poll_owner.specs.Doing.{Does}
-use Rattle.poll_owner.specs.Outside.{with_store}
-use Rattle.poll_owner.proofs.Doing.{does_makes, does_learns, does_rests, does_cut}
+use Rattle.poll_documents.specs.Doing.{Does}
+use Rattle.poll_documents.specs.Outside.{with_store}
+use Rattle.poll_documents.proofs.Doing.{does_makes, does_learns, does_rests, does_cut}
 
 -- the lock of a file was released where it was locked
 pub unlocked : {D J P L : Type 0} (w : Ways D J P) (carries : L → List LinkEvent) (can : Bool)

@@ -16,9 +16,9 @@ use Rattle.poll_lobby.specs.Acts.{act_for, plan_of}
 use Rattle.poll_lobby.specs.declared.acts.LobbyAct.{LobbyAct}
 use Rattle.poll_lobby.specs.declared.acts.LobbyAct.TheVariants.{Answer, Load}
 use Rattle.poll_lobby.proofs.Heard.{hears_so}
-use Rattle.poll_owner.specs.Doing.{Does}
-use Rattle.poll_owner.specs.Lodging.{IsPlace}
-use Rattle.poll_owner.proofs.Doing.{does_cut, does_looks, does_rests}
+use Rattle.poll_documents.specs.Doing.{Does}
+use Rattle.poll_documents.specs.Lodging.{IsPlace}
+use Rattle.poll_documents.proofs.Doing.{does_cut, does_looks, does_rests}
 use Rattle.poll_owner.proofs.Each.{item_at}
 
 -- who carries out one plan carries out another, where each run of the first is one of the second

@@ -21,12 +21,12 @@ use Rattle.poll_machine.specs.Plans.{Plan, Rests, Makes, Then, Learns, Looks, Fo
 use Rattle.poll_machine.specs.Told.{Heard, PortStep, link_named}
 use Rattle.poll_machine.specs.Turn.{collects, ids, is_some_mail, last_move, later_move, moves, reads}
 use Rattle.poll_machine.specs.Turn.{welcomes}
-use Rattle.poll_owner.specs.Doing.{Does}
-use Rattle.poll_owner.specs.Loading.{refusal_of}
+use Rattle.poll_documents.specs.Doing.{Does}
+use Rattle.poll_documents.specs.Links.{refusal_of}
 use Rattle.poll_owner.specs.Mailing.{noted}
-use Rattle.poll_owner.specs.Outside.{with_net, with_port}
-use Rattle.poll_owner.proofs.Doing.{does_cut, does_learns, does_live, does_looks, does_makes, does_rests}
-use Rattle.poll_owner.proofs.Doing.{does_then}
+use Rattle.poll_documents.specs.Outside.{with_net, with_port}
+use Rattle.poll_documents.proofs.Doing.{does_cut, does_learns, does_live, does_looks, does_makes, does_rests}
+use Rattle.poll_documents.proofs.Doing.{does_then}
 use Rattle.poll_owner.proofs.Each.{does_failed, does_more}
 use Rattle.poll_owner.proofs.Heeding.{does_as}
 use Rattle.poll_owner.proofs.Loading.{adopt_then, port_then}

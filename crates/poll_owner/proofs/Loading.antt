@@ -15,10 +15,10 @@ use Rattle.poll_machine.specs.House.{Adopted, Refusal}
 use Rattle.poll_machine.specs.Lobby.{admitted, entered, fetched, loads, refuses, refuses_where, post_refusal}
 use Rattle.poll_machine.specs.Plans.{Plan, Makes, Rests, Then}
 use Rattle.poll_machine.specs.Told.{Heard, StoreStep, PortStep, link_named}
-use Rattle.poll_owner.specs.Doing.{Does}
+use Rattle.poll_documents.specs.Doing.{Does}
 use Rattle.poll_owner.specs.Loading.{comes_again, enters, fetches}
-use Rattle.poll_owner.specs.Outside.{with_net, with_port, with_store}
-use Rattle.poll_owner.proofs.Doing.{does_cut, does_makes, does_rests, does_then, does_learns}
+use Rattle.poll_documents.specs.Outside.{with_net, with_port, with_store}
+use Rattle.poll_documents.proofs.Doing.{does_cut, does_makes, does_rests, does_then, does_learns}
 use Rattle.poll_owner.proofs.Each.{does_failed}
 
 -- the store was called, and then the rest was done

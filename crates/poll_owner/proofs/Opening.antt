@@ -22,11 +22,11 @@ use Rattle.poll_machine.specs.Lobby.{refuses, spreads, unlocks_where}
 use Rattle.poll_machine.specs.Plans.{Plan, Makes, Then, Learns, Looks}
 use Rattle.poll_machine.specs.Told.{Heard}
 use Rattle.poll_machine.proofs.Lifted.{found}
-use Rattle.poll_owner.specs.Doing.{Does}
+use Rattle.poll_documents.specs.Doing.{Does}
 use Rattle.poll_owner.specs.Loading.{HeldAt}
-use Rattle.poll_owner.specs.Outside.{with_port}
+use Rattle.poll_documents.specs.Outside.{with_port}
 use Rattle.poll_owner.proofs.Closing.{others_stay}
-use Rattle.poll_owner.proofs.Doing.{does_makes, does_then, does_learns, does_looks}
+use Rattle.poll_documents.proofs.Doing.{does_makes, does_then, does_learns, does_looks}
 use Rattle.poll_owner.proofs.Loading.{port_then}
 
 -- the house with this under its id, between what stands in front and behind

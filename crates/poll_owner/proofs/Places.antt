@@ -7,9 +7,9 @@ use Rattle.cool_base.specs.declared.ids.ViewId.{ViewId}
 use Rattle.std.proofs.lemmas.List.{take_more, get_or_default}
 use Rattle.poll_machine.specs.House.{House, Slot, Live, Refused, found_or, holds, is_among, view_at}
 use Rattle.poll_machine.specs.House.{view_in}
-use Rattle.poll_owner.specs.Lodging.{IsPlace, is_live_slot}
+use Rattle.poll_documents.specs.Lodging.{IsPlace, is_live_slot}
 use Rattle.poll_owner.proofs.Each.{item_at}
-use Rattle.poll_owner.proofs.Happening.{placed}
+use Rattle.poll_documents.proofs.Happening.{placed}
 
 -- what the documents in front have no view for is looked for behind them
 view_behind : {D J P L : Type 0} (front back : List (ℕ × Slot D J P L)) (link : ℕ)

@@ -17,12 +17,12 @@ use Rattle.poll_machine.specs.House.{after_post, is_among, without_link}
 use Rattle.poll_machine.specs.Lobby.{comes_back, posts, there}
 use Rattle.poll_machine.specs.Plans.{Plan, Makes, Rests, Then}
 use Rattle.poll_machine.specs.Told.{Heard, PortStep, link_named, was_given}
-use Rattle.poll_owner.specs.Doing.{Does}
+use Rattle.poll_documents.specs.Doing.{Does}
 use Rattle.poll_owner.specs.Loading.{comes_again}
-use Rattle.poll_owner.specs.Outside.{letter_in, mail_label, with_net, with_port}
-use Rattle.poll_owner.specs.declared.parcels.Letter.{Letter}
-use Rattle.poll_owner.specs.declared.parcels.Letter.TheVariants as letter
-use Rattle.poll_owner.proofs.Doing.{does_cut, does_learns, does_makes, does_rests, does_then}
+use Rattle.poll_documents.specs.Outside.{letter_in, mail_label, with_net, with_port}
+use Rattle.poll_documents.specs.declared.parcels.Letter.{Letter}
+use Rattle.poll_documents.specs.declared.parcels.Letter.TheVariants as letter
+use Rattle.poll_documents.proofs.Doing.{does_cut, does_learns, does_makes, does_rests, does_then}
 use Rattle.poll_owner.proofs.Loading.{port_then}
 
 -- a link is posted, with this answer of the port

@@ -9,9 +9,9 @@ use Rattle.poll_machine.specs.House.{Happens, Shows, Frees, House, after_show, i
 use Rattle.poll_machine.specs.Lobby.{shows, freed_where}
 use Rattle.poll_machine.specs.Plans.{Plan, Rests, Makes, Then, Learns}
 use Rattle.poll_machine.specs.Told.{Heard, link_named, was_given}
-use Rattle.poll_owner.specs.Doing.{Does}
-use Rattle.poll_owner.specs.Outside.{with_net}
-use Rattle.poll_owner.proofs.Doing.{does_rests, does_makes, does_then, does_learns, does_cut}
+use Rattle.poll_documents.specs.Doing.{Does}
+use Rattle.poll_documents.specs.Outside.{with_net}
+use Rattle.poll_documents.proofs.Doing.{does_rests, does_makes, does_then, does_learns, does_cut}
 
 -- the frame is on its way
 pub shown : {D J P L : Type 0} (w : Ways D J P) (carries : L → List LinkEvent) (link : ℕ)

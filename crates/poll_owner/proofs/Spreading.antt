@@ -10,10 +10,10 @@ use Rattle.poll_machine.specs.Lobby.{departs, for_live, spreads}
 use Rattle.poll_machine.specs.Plans.{Plan, Makes, Rests, Then, Learns, choose}
 use Rattle.poll_machine.specs.Told.{Heard, PortStep}
 use Rattle.poll_machine.specs.Turn.{ids}
-use Rattle.poll_owner.specs.Doing.{Does}
+use Rattle.poll_documents.specs.Doing.{Does}
 use Rattle.poll_owner.specs.Loading.{ids_after, without_id}
-use Rattle.poll_owner.specs.Outside.{with_port}
-use Rattle.poll_owner.proofs.Doing.{does_learns, does_looks, does_rests}
+use Rattle.poll_documents.specs.Outside.{with_port}
+use Rattle.poll_documents.proofs.Doing.{does_learns, does_looks, does_rests}
 use Rattle.poll_owner.proofs.Loading.{port_then}
 
 same_number : (a b : ℕ) → a ≡ b → (a == b) ≡ true

@@ -9,7 +9,7 @@ use Rattle.std.proofs.lemmas.List.{take-append-drop}
 use Rattle.poll_machine.specs.House.{House, Slot, Rises, slot_of}
 use Rattle.poll_owner.specs.Loading.{AllBelow, GoesAt, HeldAt, StandsAt}
 use Rattle.poll_owner.proofs.Closing.{gone, other_id}
-use Rattle.poll_owner.proofs.Happening.{placed}
+use Rattle.poll_documents.proofs.Happening.{placed}
 
 same_id : (a b : ℕ) → a ≡ b → nat_eq a b ≡ true
 same_id a b same = grind (arith, same)

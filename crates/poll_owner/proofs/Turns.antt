@@ -29,15 +29,15 @@ use Rattle.poll_machine.proofs.Carried.{hears_more, hears_none, carried_rests, c
 use Rattle.poll_machine.proofs.Carried.{carried_then, carried_cut}
 use Rattle.poll_machine.proofs.Polls.{polls_run}
 use Rattle.poll_machine.proofs.Runs.{runs}
-use Rattle.poll_owner.specs.Doing.{Does}
-use Rattle.poll_owner.specs.Outside.{with_net}
+use Rattle.poll_documents.specs.Doing.{Does}
+use Rattle.poll_documents.specs.Outside.{with_net}
 use Rattle.poll_owner.specs.Polling.{MakesTurn, TriesTurn, RunsTurns, TurnsOnce, ticks, with_clock}
 use Rattle.poll_owner.specs.Polling.{outcome_of, end_of}
 use Rattle.poll_owner.specs.declared.rounds.PollEnd.{PollEnd}
 use Rattle.poll_owner.specs.declared.rounds.PollEnd.TheVariants as ended
 use Rattle.poll_owner.specs.declared.rounds.PollTurn.{PollTurn}
 use Rattle.poll_owner.specs.declared.rounds.PollTurn.TheVariants as made
-use Rattle.poll_owner.proofs.Doing.{any_more, does_makes, does_then, does_learns}
+use Rattle.poll_documents.proofs.Doing.{any_more, does_makes, does_then, does_learns}
 
 -- the clock was read
 pub ticked : {D J P L : Type 0} (w : Ways D J P) (carries : L → List LinkEvent) (moment : ℕ)

@@ -17,12 +17,13 @@ use Rattle.poll_machine.specs.Plans.{Plan, Rests, Looks, Follows, choose}
 use Rattle.poll_machine.specs.Told.{Heard}
 use Rattle.poll_machine.specs.Turn.{welcomes}
 use Rattle.poll_machine.proofs.Lifted.{found}
-use Rattle.poll_owner.specs.Doing.{Does, id_at, in_house}
-use Rattle.poll_owner.specs.Loading.{JoinsIn, StandsAt, refusal_of}
-use Rattle.poll_owner.specs.Lodging.{is_live_slot}
-use Rattle.poll_owner.proofs.Doing.{does_cut, does_looks, does_whole}
+use Rattle.poll_documents.specs.Doing.{Does, id_at, in_house}
+use Rattle.poll_documents.specs.Links.{JoinsIn, refusal_of}
+use Rattle.poll_owner.specs.Loading.{StandsAt}
+use Rattle.poll_documents.specs.Lodging.{is_live_slot}
+use Rattle.poll_documents.proofs.Doing.{does_cut, does_looks, does_whole}
 use Rattle.poll_owner.proofs.Each.{does_at, does_failed, does_fine, id_is, item_at, one_there, rises_at}
-use Rattle.poll_owner.proofs.Happening.{placed, replaced}
+use Rattle.poll_documents.proofs.Happening.{placed, replaced}
 
 -- what stands at a place is found under its id
 pub slot_at : {D J P L : Type 0} (docs : List (ℕ × Slot D J P L)) (i : ℕ) (p : ℕ × Slot D J P L)

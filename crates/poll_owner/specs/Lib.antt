@@ -1,9 +1,3 @@
-pub mod Outside
-pub mod Settling
-pub mod Locking
-pub mod Befalling
-pub mod Doing
-pub mod Lodging
 pub mod Loading
 pub mod Mailing
 pub mod Polling

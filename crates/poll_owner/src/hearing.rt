@@ -7,17 +7,16 @@ ghost use Rattle.poll_machine.specs.House.{after_take, holds, is_among, view_in}
 ghost use Rattle.poll_machine.specs.Lobby.{hears};
 ghost use Rattle.poll_machine.specs.Plans.{Looks};
 ghost use Rattle.poll_machine.specs.Turn.{handles, says};
-ghost use Rattle.poll_owner.specs.Doing.{Does};
-ghost use Rattle.poll_owner.specs.Outside.{outside};
+ghost use Rattle.poll_documents.specs.Doing.{Does};
+ghost use Rattle.poll_documents.specs.Outside.{outside};
 
 use crate::house::{House, place_of};
-use crate::parcels::{Mail, Parcel};
-use crate::works::sum_of;
 use cool_base::{LinkId, Memory};
 use kit_trait::Kit;
 use load_address::Served;
 use net_traits::{Net, Taken};
 use outside::Store;
+use poll_documents::{Mail, Parcel, sum_of};
 use poll_hall::Port;
 use poll_lobby::{LobbyAct, lobby_act};
 use std::alloc::Global;

@@ -1,15 +1,14 @@
 //! Under which id what is held stands where, and where something new is held.
 ghost use Rattle.std.specs.Prelude.{◌≡◌, None, IfSome, IfOk};
 ghost use Rattle.poll_machine.specs.House.{Rises, slot_of};
-ghost use Rattle.poll_owner.specs.Lodging.{slot_in};
+ghost use Rattle.poll_documents.specs.Lodging.{slot_in};
 ghost use Rattle.poll_owner.specs.Loading.{GoesAt, HeldAt, StandsAt};
 
 use crate::house::House;
-use crate::lodged::{Kept, Lodged};
-use crate::owned::OwnedDocument;
 use cool_base::{DocId, Memory};
 use kit_trait::Kit;
 use net_traits::Net;
+use poll_documents::{Kept, Lodged, OwnedDocument};
 use poll_lobby::Refusal;
 
 // Where something new stands under this id; None where something is held under it.

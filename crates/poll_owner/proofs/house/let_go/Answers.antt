@@ -1,4 +1,4 @@
-use Rattle.poll_owner.proofs.Settling.{gave_so}
+use Rattle.poll_documents.proofs.Settling.{gave_so}
 use Rattle.poll_owner.proofs.house.let_go.Goals as goal
 
 pub returns-clause-told : goal.returns-clause-told

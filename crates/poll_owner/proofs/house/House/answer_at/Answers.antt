@@ -2,7 +2,7 @@ use Rattle.std.proofs.Common.{◌<◌, length, refl, rules, subst, sym}
 use Rattle.poll_machine.specs.House.{Answered as MailAnswered}
 use Rattle.poll_instance.specs.Instance.{ways}
 use Rattle.poll_machine.specs.Turn.{reads}
-use Rattle.poll_owner.specs.Outside.{answer_in}
+use Rattle.poll_documents.specs.Outside.{answer_in}
 use Rattle.poll_owner.proofs.Each.{does_failed, ids_stay, plan_at, rises_at, rises_set}
 use Rattle.poll_owner.proofs.house.House.answer_at.Goals as goal
 

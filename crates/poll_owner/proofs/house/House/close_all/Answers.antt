@@ -2,8 +2,8 @@ use Rattle.std.proofs.Common.{◌<◌, ◌≤◌, length, take, refl, rules, sub
 use Rattle.poll_instance.specs.Instance.{ways}
 use Rattle.poll_machine.specs.Plans.{each}
 use Rattle.poll_machine.specs.Turn.{closes, ids}
-use Rattle.poll_owner.specs.Doing.{id_at}
-use Rattle.poll_owner.proofs.Doing.{does_rests, does_whole}
+use Rattle.poll_documents.specs.Doing.{id_at}
+use Rattle.poll_documents.proofs.Doing.{does_rests, does_whole}
 use Rattle.poll_owner.proofs.Each.{does_all, does_broke, does_fine}
 use Rattle.poll_owner.proofs.Ending.{does_left, left_more, not_beyond, stands_left}
 use Rattle.poll_owner.proofs.house.House.close_all.Goals as goal

@@ -3,8 +3,8 @@ use Rattle.load_address.specs.declared.served.Served.{Served}
 use Rattle.poll_instance.specs.Instance.{ways}
 use Rattle.poll_machine.specs.Plans.{each}
 use Rattle.poll_machine.specs.Turn.{closes, ids}
-use Rattle.poll_owner.specs.Doing.{Does}
-use Rattle.poll_owner.specs.Outside.{with_port, with_store}
+use Rattle.poll_documents.specs.Doing.{Does}
+use Rattle.poll_documents.specs.Outside.{with_port, with_store}
 use Rattle.poll_owner.proofs.house.House.close_all.Given as goal
 
 abbrev pub invariant-loop-k : goal.invariant-loop-k

@@ -1,5 +1,5 @@
 use Rattle.poll_owner.proofs.Heeding.{handles_left, handles_said}
-use Rattle.poll_owner.specs.Outside.{outside}
+use Rattle.poll_documents.specs.Outside.{outside}
 use Rattle.poll_owner.proofs.house.House.handle.Goals as goal
 
 pub returns-in-Said-clause-handles : goal.returns-in-Said-clause-handles

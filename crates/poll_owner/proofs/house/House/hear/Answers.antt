@@ -1,5 +1,5 @@
 use Rattle.std.proofs.Common.{◌∙◌, rules, sym}
-use Rattle.poll_owner.specs.Outside.{outside}
+use Rattle.poll_documents.specs.Outside.{outside}
 use Rattle.poll_owner.proofs.Heeding.{done_nothing, hears_load, hears_shown}
 use Rattle.poll_owner.proofs.house.House.hear.Goals as goal
 

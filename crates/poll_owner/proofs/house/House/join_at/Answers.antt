@@ -1,6 +1,6 @@
 use Rattle.std.proofs.Common.{◌≡◌, ◌<◌, ◌∙◌, length, get_or, true, refl, rules, subst, sym}
 use Rattle.poll_machine.specs.House.{Rises, is_among}
-use Rattle.poll_owner.specs.Outside.{outside}
+use Rattle.poll_documents.specs.Outside.{outside}
 use Rattle.poll_owner.proofs.Each.{does_failed, ids_stay, rises_at, rises_set}
 use Rattle.poll_owner.proofs.Welcoming.{keeps_none, welcomes_cut, welcomes_full, welcomes_joined}
 use Rattle.poll_owner.proofs.Welcoming.{welcomes_refused}

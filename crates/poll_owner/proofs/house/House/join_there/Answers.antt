@@ -1,5 +1,5 @@
 use Rattle.std.proofs.Common.{refl}
-use Rattle.poll_owner.specs.Outside.{outside}
+use Rattle.poll_documents.specs.Outside.{outside}
 use Rattle.poll_owner.proofs.Welcoming.{there_else, there_held}
 use Rattle.poll_owner.proofs.house.House.join_there.Goals as goal
 

@@ -1,12 +1,12 @@
 use Rattle.std.proofs.Common.{◌≡◌, ◌∙◌, true, Ok, Err, ap, rules, subst, sym, true≢false}
 use Rattle.poll_instance.specs.Instance.{ways}
 use Rattle.poll_machine.specs.House.{is_among}
-use Rattle.poll_owner.specs.Outside.{with_port}
-use Rattle.poll_owner.proofs.Doing.{does_rests}
+use Rattle.poll_documents.specs.Outside.{with_port}
+use Rattle.poll_documents.proofs.Doing.{does_rests}
 use Rattle.poll_owner.proofs.Each.{does_failed}
 use Rattle.poll_owner.proofs.Posting.{brings_back, handed_back, post_back, post_cut, post_failed, post_none}
 use Rattle.poll_owner.proofs.Posting.{post_taken, post_then}
-use Rattle.poll_owner.proofs.Settling.{gave_so}
+use Rattle.poll_documents.proofs.Settling.{gave_so}
 use Rattle.poll_owner.proofs.house.House.post.Goals as goal
 
 -- the net had the link no longer, and the count goes beyond its type

@@ -1,6 +1,6 @@
 use Rattle.std.proofs.Common.{◌≡◌}
 use Rattle.poll_instance.specs.Instance.{ways}
-use Rattle.poll_owner.specs.Outside.{outside}
+use Rattle.poll_documents.specs.Outside.{outside}
 use Rattle.poll_owner.proofs.Turns.{SoFar}
 use Rattle.poll_owner.proofs.house.House.run.Given as goal
 

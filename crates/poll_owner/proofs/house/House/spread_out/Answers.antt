@@ -1,6 +1,6 @@
 use Rattle.std.proofs.Common.{◌≡◌, ◌≢◌, ◌∙◌, true, false, refl, subst, sym, arith}
 use Rattle.poll_instance.specs.Instance.{ways}
-use Rattle.poll_owner.specs.Outside.{with_net}
+use Rattle.poll_documents.specs.Outside.{with_net}
 use Rattle.poll_owner.proofs.Spreading.{ids_held, poll_there, spreads_away, spreads_here, spreads_not}
 use Rattle.poll_owner.proofs.house.House.spread_out.Goals as goal
 

@@ -1,6 +1,6 @@
 use Rattle.std.proofs.Common.{◌∙◌, rules, sym, true≢false}
 use Rattle.poll_machine.specs.Plans.{Rests}
-use Rattle.poll_owner.proofs.Doing.{does_cut, does_rests}
+use Rattle.poll_documents.proofs.Doing.{does_cut, does_rests}
 use Rattle.poll_owner.proofs.Loading.{again_cut, again_refused}
 use Rattle.poll_owner.proofs.Showing.{show_cut}
 use Rattle.poll_owner.proofs.house.House.take_back.Goals as goal

@@ -2,8 +2,8 @@ use Rattle.std.proofs.Common.{◌≡◌, ◌<◌, ◌≤◌, ◌∙◌, ℕ, len
 use Rattle.std.proofs.lemmas.List.{length-map}
 use Rattle.poll_machine.specs.Plans.{each}
 use Rattle.poll_machine.specs.Turn.{ids, turns}
-use Rattle.poll_owner.specs.Doing.{id_at}
-use Rattle.poll_owner.proofs.Doing.{does_rests, does_whole}
+use Rattle.poll_documents.specs.Doing.{id_at}
+use Rattle.poll_documents.proofs.Doing.{does_rests, does_whole}
 use Rattle.poll_owner.proofs.Each.{does_all, does_broke, does_fine, does_next}
 use Rattle.poll_owner.proofs.house.House.turn_all.Goals as goal
 

@@ -3,8 +3,8 @@ use Rattle.load_address.specs.declared.served.Served.{Served}
 use Rattle.poll_instance.specs.Instance.{ways}
 use Rattle.poll_machine.specs.Plans.{each}
 use Rattle.poll_machine.specs.Turn.{ids, turns}
-use Rattle.poll_owner.specs.Doing.{Does}
-use Rattle.poll_owner.specs.Outside.{outside}
+use Rattle.poll_documents.specs.Doing.{Does}
+use Rattle.poll_documents.specs.Outside.{outside}
 use Rattle.poll_owner.proofs.house.House.turn_all.Given as goal
 
 abbrev pub invariant-loop-i : goal.invariant-loop-i
