@@ -47,5 +47,5 @@ cut_is c text (Some x) h low =
     (get_or-drop j text (k - j) 0 ∙ ap (λ n. get_or text n 0) back ∙ e) in
     let found = last_below c text i (length text) (omega (arith, h.7)) (h.2.1.byte low) later in
     let second = h.4 ∙ ap (λ n. drop n text) next in
-    (λ t. Some (h.3 t, second t)) ∙ sym (ap (option_map (λ k. (take k text, drop
-    (k + 1) text))) found)
+    (λ t. Some (h.3 t, second t))
+    ∙ sym (ap (option_map (λ k. (take k text, drop (k + 1) text))) found)

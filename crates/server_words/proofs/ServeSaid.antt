@@ -70,7 +70,7 @@ pub serve_fails : (a : App) (words : List Text) (result : Result ArgMatches Erro
     → FailsBy (fault_of serve_app words) result
 serve_fails a words result is fails =
     subst (λ (x : App). is_simple_and_free x ≡ true
-        → FailsBy (fault_of x words) result) is fails refl
+    → FailsBy (fault_of x words) result) is fails refl
 
 serve_matched : (a : App) (words : List Text) (m : ArgMatches) → a ≡ serve_app
     → HasMatchesOf a words m → rows_of (found_of m) ≡ matches_of serve_app words

@@ -59,8 +59,12 @@ is_host_name name = nat_lt 0 (length name) && list_all is_token_byte name
 abbrev pub cut_says : Text → Option (Text × Text) → Option Address
 cut_says text None = None
 cut_says text (Some cut) =
-    if is_host_name cut.0 then option_map (λ (p : ℕ). record { text = text; host = cut.0; port =
-        p }) (number 5 65535 cut.1) else None
+    if is_host_name cut.0 then option_map (λ (p : ℕ). record {
+      text = text;
+      host = cut.0;
+      port =
+          p;
+    }) (number 5 65535 cut.1) else None
 
 -- the address of a host: the word is cut at its last colon
 abbrev pub address_of : Text → Option Address
@@ -103,16 +107,16 @@ abbrev pub serve_values_say : Option Text → Option Text → Option Text → Op
     → Option Text → Option ServeWords
 serve_values_say port wopi polls workers sessions kit =
     parts_say (option_and_then port_of port) (option_and_then address_of wopi) (polls_of polls)
-        (workers_of workers) (count_of sessions) (kit_of kit)
+    (workers_of workers) (count_of sessions) (kit_of kit)
 
 -- the same of the matches
 abbrev pub serve_rows_say : List Row → Option ServeWords
-serve_rows_say rows = serve_values_say (first_of (codes "port") rows) (first_of
-    (codes "wopi") rows) (first_of (codes "polls") rows)
-    (first_of (codes "workers") rows) (first_of (codes "sessions") rows) (first_of
-    (codes "kit") rows)
+serve_rows_say rows =
+    serve_values_say (first_of (codes "port") rows) (first_of (codes "wopi") rows)
+    (first_of (codes "polls") rows) (first_of (codes "workers") rows)
+    (first_of (codes "sessions") rows) (first_of (codes "kit") rows)
 
 -- the words say this where the parser finds no fault in them
 unfoldable pub serve_said : List Text → Option ServeWords
-serve_said words = unless_faulty (fault_of serve_app words) (serve_rows_say
-    (matches_of serve_app words))
+serve_said words =
+    unless_faulty (fault_of serve_app words) (serve_rows_say (matches_of serve_app words))

@@ -9,4 +9,4 @@ returns-clause-exact c =
 pub returns-clause-found : goal.returns-clause-found
 returns-clause-found c =
     all_matched _ _ c.try_get_matches_from.result c.in_ok-serve_command.ensures
-        c.try_get_matches_from.ensures.matches
+    c.try_get_matches_from.ensures.matches

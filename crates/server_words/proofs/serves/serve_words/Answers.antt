@@ -13,19 +13,19 @@ returns-in-Err-clause-refused c =
 pub returns-in-Some-clause-said : goal.returns-in-Some-clause-said
 returns-in-Some-clause-said c =
     serve_said_by_values _
-        (found_of c.in-Ok.matches) c.get_str-port.result c.get_str-wopi.result
-        c.get_str-polls.result c.get_str-workers.result c.get_str-sessions.result
-        c.get_str-kit.result c.in-Ok.ensures.exact c.in-Ok.ensures.found
+    (found_of c.in-Ok.matches) c.get_str-port.result c.get_str-wopi.result
+    c.get_str-polls.result c.get_str-workers.result c.get_str-sessions.result
+    c.get_str-kit.result c.in-Ok.ensures.exact c.in-Ok.ensures.found
     c.get_str-port.ensures c.get_str-wopi.ensures c.get_str-polls.ensures c.get_str-workers.ensures
-        c.get_str-sessions.ensures c.get_str-kit.ensures
+    c.get_str-sessions.ensures c.get_str-kit.ensures
     ∙ sym c.read_values.ensures ∙ ap (option_map serve_said_of) c.in-Some.is
 
 pub returns-clause-refused : goal.returns-clause-refused
 returns-clause-refused c = λ _.
     serve_said_by_values _
-        (found_of c.in-Ok.matches) c.get_str-port.result c.get_str-wopi.result
-        c.get_str-polls.result c.get_str-workers.result c.get_str-sessions.result
-        c.get_str-kit.result c.in-Ok.ensures.exact c.in-Ok.ensures.found
+    (found_of c.in-Ok.matches) c.get_str-port.result c.get_str-wopi.result
+    c.get_str-polls.result c.get_str-workers.result c.get_str-sessions.result
+    c.get_str-kit.result c.in-Ok.ensures.exact c.in-Ok.ensures.found
     c.get_str-port.ensures c.get_str-wopi.ensures c.get_str-polls.ensures c.get_str-workers.ensures
-        c.get_str-sessions.ensures c.get_str-kit.ensures
+    c.get_str-sessions.ensures c.get_str-kit.ensures
     ∙ sym c.read_values.ensures ∙ ap (option_map serve_said_of) c.in-None.is
