@@ -55,7 +55,7 @@ abbrev pub rows_say : List Row → Option HostWords
 rows_say rows = values_say (first_of (codes "port") rows) (first_of (codes "folder") rows) (first_of (codes "requests") rows)
 
 -- the words say this where the parser finds no fault in them
-abbrev pub unless_faulty : Kinds → Option HostWords → Option HostWords
+abbrev pub unless_faulty : {A : Type 0} → Kinds → Option A → Option A
 unless_faulty [] said = said
 unless_faulty (kind ∷ kinds) said = None
 

@@ -58,7 +58,7 @@ pub(crate) fn host_matches<'a>(alloc: Global, words: &'a [String]) -> Result<Arg
 }
 
 // The number of decimal digits without a sign or a leading zero, where it is at most `limit`.
-fn read_word_number(text: &str, limit: u64) -> Option<u64>
+pub(crate) fn read_word_number(text: &str, limit: u64) -> Option<u64>
     ensures { result ≡ word_number limit text.now }
 {
     let digits = text.as_bytes();
@@ -68,7 +68,7 @@ fn read_word_number(text: &str, limit: u64) -> Option<u64>
     read_number(digits, 20, limit)
 }
 
-fn read_port(text: &str) -> Option<u16>
+pub(crate) fn read_port(text: &str) -> Option<u16>
     ensures { result ≡ port_of text.now }
 {
     match read_word_number(text, 65_535) {
@@ -77,7 +77,7 @@ fn read_port(text: &str) -> Option<u16>
     }
 }
 
-fn read_count(text: Option<&str>) -> Option<u64>
+pub(crate) fn read_count(text: Option<&str>) -> Option<u64>
     ensures { result ≡ count_of (option_copied text.entry) }
 {
     match text {
@@ -105,7 +105,7 @@ fn read_values<'a>(
 }
 
 // Why the parser gave nothing.
-fn fault_of(error: &Error) -> WordsFault
+pub(crate) fn fault_of(error: &Error) -> WordsFault
     ensures memory { result ≡ WordsFault.Memory → kind_of error.now ≡ ErrorKind.OutOfMemory }
     ensures refused { result ≡ WordsFault.Refused → kind_of error.now ≢ ErrorKind.OutOfMemory }
 {

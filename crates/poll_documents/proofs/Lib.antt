@@ -1,0 +1,12 @@
+pub mod Settling
+pub mod Working
+pub mod Befell
+pub mod Doing
+pub mod Happening
+pub mod Turning
+pub mod Refreshing
+pub mod Leaving
+pub mod Housing
+pub mod Joining
+pub mod Packing
+pub mod Answering
