@@ -1,4 +1,5 @@
 -- A load asks the store and the hall, and goes on with their answers or breaks off.
+use Rattle.std.specs.Option.{option_map_or}
 use Rattle.std.proofs.Common.{◌≡◌, ℕ, Bool, true, false, List, Option, None, Some, Result, Ok, Err}
 use Rattle.std.proofs.Common.{IsOk, IsErr, refl, ap, subst, sym, ◌∙◌, true≢false}
 use Rattle.cool_frame.specs.declared.kind.ErrorKind.TheVariants.{LoadFailed, DocsFull, BookFull}
@@ -239,7 +240,7 @@ entered_refused {D} {J} {P} {L} w carries link file rights why refusal house s f
         → Does w carries (refuses link kept) house s fine worked new t
     as_this kept same =
         subst (λ (r : Refusal). Does w carries (refuses link r) house s fine worked new t)
-        (ap (λ (o : Option Refusal). refusal_or kept o) (sym same)) done
+        (ap (λ (o : Option Refusal). option_map_or (λ (r : Refusal). r) o kept) (sym same)) done
     by_why : (fault : HallFault) → enter_refusal fault ≡ Some refusal
         → Does w carries (entered w link file rights (Err fault)) house s fine worked new t
     by_why hall.HallFull same = as_this (record { kind = DocsFull; code = None }) same
