@@ -112,7 +112,7 @@ impl<K: Kit, N: Net> House<K, N> {
             (result ≡ Ok Failed) }
     {
         let taken = net.take(alloc)?;
-        if matches!(&taken, Taken::Failed) {
+        if has_failed(&taken) {
             return Ok(taken);
         }
         self.meet(&taken)?;
@@ -178,7 +178,7 @@ impl<K: Kit, N: Net> House<K, N> {
         let arrived = self.arrive(alloc, net, port)?;
         let mailed = self.collect_all(alloc, net, store, yard, port)?;
         let taken = self.take(alloc, net)?;
-        if matches!(&taken, Taken::Failed) {
+        if has_failed(&taken) {
             return Ok(PollTurn::NetFault);
         }
         let more = self.go_on(alloc, served, net, store, yard, port, &taken)?;
