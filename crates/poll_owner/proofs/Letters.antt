@@ -196,7 +196,7 @@ live_back {D} {J} {P} {L} w carries id plan held old s fine worked new t is a =
     follows) a
 
 -- where a document is to go
-goes_where : {D J P L : Type 0} (id to : ℕ) (held : HeldDocument D J P L)
+abbrev goes_where : {D J P L : Type 0} (id to : ℕ) (held : HeldDocument D J P L)
     → House D J P L → Plan (House D J P L) (Happens D J P L)
 goes_where id to held h = choose (to == h.me) Rests
     (Learns (λ (polls : ℕ). Then (Makes (Calls (Counts polls)))

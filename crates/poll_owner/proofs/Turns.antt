@@ -5,7 +5,7 @@ use Rattle.std.proofs.Common.{length, refl, ap, subst, sym, ◌∙◌, append_as
 use Rattle.std.specs.Prelude.{MatchResult}
 use Rattle.std.specs.List.{list_any, AllByRecursion}
 use Rattle.std.proofs.lemmas.List.{append-nil, length-append}
-use Rattle.std.proofs.Math.Option.{some-injective}
+use Rattle.std.specs.Option.{option_map_or}
 use Rattle.cool_base.specs.declared.ids.DocId.{DocId}
 use Rattle.cool_base.specs.declared.want.Memory.{Memory}
 use Rattle.net_traits.specs.Clocks.{Ticks as TicksTo}
@@ -234,13 +234,13 @@ one_event : {A : Type 0} (test : A → Bool) (a : A) (events : List A) → event
     → list_any test events ≡ test a
 one_event test a events is = rw is (or_none (test a))
 
-no_fault : {D J P L : Type 0} (answer : Taken) → answer ≢ taken.Failed
+no_fault : (D J P L : Type 0) (answer : Taken) → answer ≢ taken.Failed
     → is_fault {D = D} {J = J} {P = P} {L = L} (Takes answer) ≡ false
-no_fault (taken.Opened link) other = refl
-no_fault (taken.Said link bytes) other = refl
-no_fault (taken.Left link) other = refl
-no_fault taken.Nothing other = refl
-no_fault taken.Failed other = absurd (other refl)
+no_fault D J P L (taken.Opened link) other = refl
+no_fault D J P L (taken.Said link bytes) other = refl
+no_fault D J P L (taken.Left link) other = refl
+no_fault D J P L taken.Nothing other = refl
+no_fault D J P L taken.Failed other = absurd (other refl)
 
 -- a whole turn
 pub turn_made : {D J P L : Type 0} (w : Ways D J P) (carries : L → List LinkEvent)
@@ -270,7 +270,7 @@ turn_made {D} {J} {P} {L} w carries h0 s0 h1 s1 arrived h2 s2 mailed h3 s3 answe
     (any_more is_fault e2 (e3 ++ (e4 ++ e5)) false false (b.faults tt)
     (any_more is_fault e3 (e4 ++ e5) false false (c.faults tt)
     (any_more is_fault e4 e5 false false
-    (one_event is_fault (Takes answer) e4 net ∙ no_fault answer well) (e.faults tt)))) in
+    (one_event is_fault (Takes answer) e4 net ∙ no_fault D J P L answer well) (e.faults tt)))) in
     let works : list_any is_work (e1 ++ (e2 ++ (e3 ++ (e4 ++ e5))))
     ≡ (arrived || (mailed || (is_event answer || more))) =
     any_more is_work e1 (e2 ++ (e3 ++ (e4 ++ e5))) false
@@ -399,7 +399,7 @@ runs_so {D} {J} {P} {L} w carries given end old s done rest last new u polls lef
   headline = λ house is.
       subst
       (λ (h : House D J P L). Headline w carries h s (all_events done ++ rest) last u)
-      (some-injective old house is)
+      (ap (λ (o : Option (House D J P L)). option_map_or (λ (h : House D J P L). h) o old) is)
       (record {
         run = polls_run w given end old done rest last polls;
         each = λ id. alone w id old last (all_events done ++ rest)

@@ -1,6 +1,6 @@
 //! Turns of a poll.
 ghost use Rattle.std.specs.Prelude.{◌≡◌, ◌≢◌, ◌||◌, ℕ, List, Option, Some, Ok, IsOk, MatchResult};
-ghost use Rattle.std.specs.Prelude.{false, ⊤, if◌then◌else◌};
+ghost use Rattle.std.specs.Prelude.{true, false, ⊤, if◌then◌else◌};
 ghost use Rattle.load_address.specs.declared.served.Served.{Served as Host};
 ghost use Rattle.net_traits.specs.declared.nets.Taken.TheVariants.{Failed};
 ghost use Rattle.outside.specs.Causes.{HasCause};
@@ -74,6 +74,14 @@ fn took_some(taken: &Taken) -> bool
     ensures { result ≡ is_event taken.now }
 {
     !matches!(taken, Taken::Nothing | Taken::Failed)
+}
+
+// Whether the net failed to give an event.
+fn has_failed(taken: &Taken) -> bool
+    ensures failed { result ≡ true → taken.now ≡ Failed }
+    ensures well { result ≡ false → taken.now ≢ Failed }
+{
+    matches!(taken, Taken::Failed)
 }
 
 // What a turn answers by whether it did something.
