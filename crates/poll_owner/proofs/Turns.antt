@@ -402,7 +402,7 @@ runs_so {D} {J} {P} {L} w carries given end old s done rest last new u polls lef
       (ap (λ (o : Option (House D J P L)). option_map_or (λ (h : House D J P L). h) o old) is)
       (record {
         run = polls_run w given end old done rest last polls;
-        each = λ id. alone w id old last (all_events done ++ rest)
+        each = λ id. alone w id old (all_events done ++ rest) last
             (polls_run w given end old done rest last polls);
         told = heard;
       });
