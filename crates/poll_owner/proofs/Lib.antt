@@ -21,4 +21,4 @@ pub mod Posting
 pub mod Welcoming
 pub mod Fetching
 pub mod Opening
-pub mod Spreading
+pub mod Asking

@@ -233,6 +233,7 @@ impl<K: Kit, N: Net> House<K, N> {
         match OwnedDocument::open(alloc, file, bytes, lock) {
             Ok(owned) => {
                 let i = self.hold(doc, Kept::Live(owned))?;
+                let _ = &self.me;
                 self.join_at(alloc, net, store, yard, port, i, link, rights)?;
                 self.spread_out(alloc, net, port, doc)
             }
@@ -288,9 +289,13 @@ impl<K: Kit, N: Net> House<K, N> {
             (with_port (with_net s (N.told net.new)) (P.view port.new)) }
         ensures takes { N.take_faults net.new ≡ N.take_faults net.old }
     {
-        if port.close(doc).is_err() {
-            self.hold(doc, Kept::Refused(file.copy(), refusal))?;
+        match port.close(doc) {
+            Ok(()) => self.refuse(alloc, net, link, &refusal),
+            Err(_) => {
+                self.hold(doc, Kept::Refused(file.copy(), refusal))?;
+                let _ = &self.me;
+                self.refuse(alloc, net, link, &refusal)
+            }
         }
-        self.refuse(alloc, net, link, &refusal)
     }
 }
