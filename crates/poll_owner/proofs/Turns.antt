@@ -1,5 +1,5 @@
 -- A turn of a poll, part by part, and turns one after the other.
-use Rattle.std.proofs.Common.{◌≡◌, ◌≢◌, ℕ, ◌+◌, ◌<◌, Bool, true, false, ◌||◌, if◌then◌else◌}
+use Rattle.std.proofs.Common.{◌≡◌, ◌≢◌, ℕ, ◌+◌, ◌<◌, ◌≤◌, Bool, true, false, ◌||◌, if◌then◌else◌}
 use Rattle.std.proofs.Common.{List, [], ◌∷◌, ◌++◌, Option, None, Some, Result, Ok, Err, IsOk, IsErr}
 use Rattle.std.proofs.Common.{length, refl, ap, subst, sym, ◌∙◌, append_assoc, nat_lt, arith, true≢false}
 use Rattle.std.specs.Prelude.{MatchResult}
@@ -50,6 +50,29 @@ ticked {D} {J} {P} {L} w carries moment old s was now new told is =
     false new (with_clock s now)
     (does_makes w carries (Ticks moment) old (with_clock s was) (Unit {0}) new (with_clock s now) is
     (record { net = refl; port = refl; store = refl; clock = (now, told, refl); yard = refl }) refl)
+
+-- the moment that was told is a later one
+pub later_moment : {D J P L : Type 0} (old : House D J P L) (moment : ℕ) → old.moment < moment
+    → record old { moment = moment }
+    ≡ record old { moment = if nat_lt old.moment moment then moment else old.moment }
+later_moment {D} {J} {P} {L} old moment less =
+    sym
+    (ap (λ (test : Bool). record old { moment = if test then moment else old.moment })
+    (is_less old.moment moment less))
+  where
+    is_less : (a b : ℕ) → a < b → nat_lt a b ≡ true
+    is_less a b low = grind (arith, low)
+
+-- it isn't
+pub same_moment : {D J P L : Type 0} (old : House D J P L) (moment : ℕ) → moment ≤ old.moment
+    → old ≡ record old { moment = if nat_lt old.moment moment then moment else old.moment }
+same_moment {D} {J} {P} {L} old moment past =
+    sym
+    (ap (λ (test : Bool). record old { moment = if test then moment else old.moment })
+    (not_less old.moment moment past))
+  where
+    not_less : (a b : ℕ) → b ≤ a → nat_lt a b ≡ false
+    not_less a b low = grind (arith, low)
 
 -- the net was asked, and the house is as it is after its answer
 pub take_made : {D J P L : Type 0} (w : Ways D J P) (carries : L → List LinkEvent) (answer : Taken)

@@ -1,6 +1,6 @@
 //! Turns of a poll.
 ghost use Rattle.std.specs.Prelude.{◌≡◌, ◌≢◌, ◌||◌, ℕ, List, Option, Some, Ok, IsOk, MatchResult};
-ghost use Rattle.std.specs.Prelude.{false, ⊤, if◌then◌else◌};
+ghost use Rattle.std.specs.Prelude.{true, false, ⊤, if◌then◌else◌};
 ghost use Rattle.load_address.specs.declared.served.Served.{Served as Host};
 ghost use Rattle.net_traits.specs.declared.nets.Taken.TheVariants.{Failed};
 ghost use Rattle.outside.specs.Causes.{HasCause};
@@ -76,6 +76,14 @@ fn took_some(taken: &Taken) -> bool
     !matches!(taken, Taken::Nothing | Taken::Failed)
 }
 
+// Whether the net failed to give an event.
+fn has_failed(taken: &Taken) -> bool
+    ensures failed { result ≡ true → taken.now ≡ Failed }
+    ensures well { result ≡ false → taken.now ≢ Failed }
+{
+    matches!(taken, Taken::Failed)
+}
+
 // What a turn answers by whether it did something.
 fn answer_of(worked: bool) -> PollTurn
     ensures { result ≡ if worked then PollTurn.Worked else PollTurn.Idle }
@@ -112,7 +120,7 @@ impl<K: Kit, N: Net> House<K, N> {
             (result ≡ Ok Failed) }
     {
         let taken = net.take(alloc)?;
-        if matches!(&taken, Taken::Failed) {
+        if has_failed(&taken) {
             return Ok(taken);
         }
         self.meet(&taken)?;
@@ -178,7 +186,7 @@ impl<K: Kit, N: Net> House<K, N> {
         let arrived = self.arrive(alloc, net, port)?;
         let mailed = self.collect_all(alloc, net, store, yard, port)?;
         let taken = self.take(alloc, net)?;
-        if matches!(&taken, Taken::Failed) {
+        if has_failed(&taken) {
             return Ok(PollTurn::NetFault);
         }
         let more = self.go_on(alloc, served, net, store, yard, port, &taken)?;
